@@ -1,0 +1,153 @@
+-- A routine's bytes: what reading and writing answer and leave.
+use Prim.Native.Nat.{ℕ, zero, suc, _+_, _-_, _*_, _/_, _%_}
+use mathlib.Core.Bool.{Bool, cond}
+use mathlib.Core.List.{List, [], _∷_, _++_}
+use lib.ListN.{length, getD, drop}
+use lib.Dec.{ltb, eqb}
+use Rattle.rules.specs.declared.Fields.{Fields}
+use Rattle.rules.specs.declared.Answer.{Answer}
+use Rattle.rules.specs.declared.One.{One}
+use Rattle.rules.specs.declared.One.the-variants.{Word, Bad}
+use Rattle.rules.specs.declared.Refusal.the-variants.{Taken, Short, Foreign, Oversize, Trailing, SmallOutput}
+use Rattle.rules.specs.Names.{mostInstructions, numberOf, answer, refusal}
+use Rattle.rules.specs.Words.{bitOf, judgeOf, judgeWord, fieldsOf, packFields}
+
+-- 'a map byte: bit 0 kind, 1 d, 2 a, 3 b, 4 c, 5 v'; 'a field that is 0 is absent'
+abbrev pub mapOf : Fields → ℕ
+mapOf f = bitOf (f .kind) + 2 * bitOf (f .d) + 4 * bitOf (f .a) + 8 * bitOf (f .b) + 16 * bitOf (f .c) + 32 * bitOf (f .v)
+
+-- how many bytes an instruction of the map m takes: the map, one for each field, four for v
+abbrev pub sizeOf : ℕ → ℕ
+sizeOf m = 1 + m % 2 + m / 2 % 2 + m / 2 / 2 % 2 + m / 2 / 2 / 2 % 2 + m / 2 / 2 / 2 / 2 % 2 + 4 * (m / 2 / 2 / 2 / 2 / 2)
+
+abbrev pub weightOf : Fields → ℕ
+weightOf f = 1 + bitOf (f .kind) + bitOf (f .d) + bitOf (f .a) + bitOf (f .b) + bitOf (f .c) + 4 * bitOf (f .v)
+
+-- ---- reading
+
+-- a field of one byte, and v in four, low first; 'An absent field is 0'
+unfoldable pub byteAt : ℕ → List ℕ → ℕ → ℕ
+byteAt bit s at = cond (eqb bit 0) 0 (getD s at 0)
+
+unfoldable pub quadAt : ℕ → List ℕ → ℕ → ℕ
+quadAt bit s at =
+    cond (eqb bit 0) 0
+    (getD s at 0 + 256 * getD s (at + 1) 0 + 65536 * getD s (at + 2) 0 + 16777216 * getD s (at + 3) 0)
+
+-- 'Then only the fields whose bit stands, in that order'
+unfoldable pub fieldsAt : ℕ → List ℕ → Fields
+fieldsAt m s =
+    record {
+      kind = byteAt (m % 2) s 1;
+      d = byteAt (m / 2 % 2) s (1 + m % 2);
+      a = byteAt (m / 2 / 2 % 2) s (1 + m % 2 + m / 2 % 2);
+      b = byteAt (m / 2 / 2 / 2 % 2) s (1 + m % 2 + m / 2 % 2 + m / 2 / 2 % 2);
+      c = byteAt (m / 2 / 2 / 2 / 2 % 2) s (1 + m % 2 + m / 2 % 2 + m / 2 / 2 % 2 + m / 2 / 2 / 2 % 2);
+      v = quadAt (m / 2 / 2 / 2 / 2 / 2) s (1 + m % 2 + m / 2 % 2 + m / 2 / 2 % 2 + m / 2 / 2 / 2 % 2 + m / 2 / 2 / 2 / 2 % 2);
+    }
+
+-- 0 of two equal numbers
+abbrev pub gap : ℕ → ℕ → ℕ
+gap x y = (x - y) + (y - x)
+
+abbrev pub orBad : ℕ → One → One
+orBad x o = cond (eqb x 0) o (Bad x)
+
+-- 3, 2, 4; a present field that is 0 makes the map another than the fields'
+unfoldable pub oneFields : ℕ → Fields → One
+oneFields m f = orBad (judgeOf (gap m (mapOf f)) f) (Word (packFields f) (sizeOf m))
+
+-- map 2, then 1
+unfoldable pub oneMap : ℕ → List ℕ → One
+oneMap m s =
+    cond (ltb 63 m) (Bad (numberOf Foreign))
+    (cond (ltb (length s) (sizeOf m)) (Bad (numberOf Short)) (oneFields m (fieldsAt m s)))
+
+-- the instruction at the front of s; a missing map byte is 1
+unfoldable pub oneOf : List ℕ → One
+oneOf s = cond (eqb (length s) 0) (Bad (numberOf Short)) (oneMap (getD s 0 0) s)
+
+abbrev pub goOn : One → ℕ → (ℕ → Answer) → Answer
+goOn (Word w u) i go = go u
+goOn (Bad x) i go = answer x i
+
+-- n instructions from s on, the first of them at place i, then 6
+unfoldable pub scanOf : ℕ → ℕ → List ℕ → Answer
+scanOf zero i s = cond (eqb (length s) 0) (answer (numberOf Taken) i) (refusal Trailing 0)
+scanOf (suc n) i s = goOn (oneOf s) i (λ u. scanOf n (i + 1) (drop u s))
+
+abbrev pub andOn : One → (ℕ → List ℕ) → List ℕ
+andOn (Word w u) go = w ∷ go u
+andOn (Bad x) go = []
+
+-- the words of n instructions from s on
+unfoldable pub wordsOf : ℕ → List ℕ → List ℕ
+wordsOf zero s = []
+wordsOf (suc n) s = andOn (oneOf s) (λ u. wordsOf n (drop u s))
+
+-- 'n in two bytes, low first'
+abbrev pub countOf : List ℕ → ℕ
+countOf s = getD s 0 0 + 256 * getD s 1 0
+
+-- 'Reading: 1 for the count, 5, 9; per instruction map 2, 1, 3, 2, 4; then 6'; room is the output's length
+unfoldable pub readAnswer : List ℕ → ℕ → Answer
+readAnswer s room =
+    cond (ltb (length s) 2) (refusal Short 0)
+    (cond (ltb mostInstructions (countOf s)) (refusal Oversize 0)
+    (cond (ltb room (countOf s)) (refusal SmallOutput 0) (scanOf (countOf s) 0 (drop 2 s))))
+
+-- what the output holds after reading: the words from its start, or all as it was where it is refused
+unfoldable pub readOutput : List ℕ → List ℕ → List ℕ
+readOutput s out =
+    cond (eqb (readAnswer s (length out) .number) 0)
+    (wordsOf (countOf s) (drop 2 s) ++ drop (countOf s) out)
+    out
+
+-- ---- writing
+
+unfoldable pub byteOut : ℕ → List ℕ
+byteOut x = cond (eqb x 0) [] (x ∷ [])
+
+unfoldable pub quadOut : ℕ → List ℕ
+quadOut v = cond (eqb v 0) [] (v % 256 ∷ v / 256 % 256 ∷ v / 256 / 256 % 256 ∷ v / 256 / 256 / 256 % 256 ∷ [])
+
+unfoldable pub regsOut : Fields → List ℕ
+regsOut f = (byteOut (f .d) ++ byteOut (f .a)) ++ (byteOut (f .b) ++ byteOut (f .c))
+
+unfoldable pub fieldsOut : Fields → List ℕ
+fieldsOut f = mapOf f ∷ (byteOut (f .kind) ++ (regsOut f ++ quadOut (f .v)))
+
+-- the bytes of a word, and of a list of words
+abbrev pub oneOut : ℕ → List ℕ
+oneOut w = fieldsOut (fieldsOf w)
+
+unfoldable pub bytesOf : List ℕ → List ℕ
+bytesOf [] = []
+bytesOf (w ∷ ws) = oneOut w ++ bytesOf ws
+
+-- the first refusal among ws, 3, 2 or 4, the first of them at place i; or z and the size of their bytes
+unfoldable pub weighOf : List ℕ → ℕ → ℕ → Answer
+weighOf [] i z = answer (numberOf Taken) z
+weighOf (w ∷ ws) i z =
+    cond (eqb (judgeWord w) 0) (weighOf ws (i + 1) (z + weightOf (fieldsOf w))) (answer (judgeWord w) i)
+
+abbrev pub headOf : ℕ → List ℕ
+headOf n = n % 256 ∷ n / 256 ∷ []
+
+-- the bytes of a routine
+unfoldable pub routineOf : List ℕ → List ℕ
+routineOf ws = headOf (length ws) ++ bytesOf ws
+
+unfoldable pub roomFor : ℕ → Answer → Answer
+roomFor room a = cond (eqb (a .number) 0) (cond (ltb room (a .place)) (refusal SmallOutput 0) a) a
+
+-- 'Writing: 5; per word 3, 2, 4; then 9'
+unfoldable pub writeAnswer : List ℕ → ℕ → Answer
+writeAnswer ws room = cond (ltb mostInstructions (length ws)) (refusal Oversize 0) (roomFor room (weighOf ws 0 2))
+
+-- what the output holds after writing
+unfoldable pub writeOutput : List ℕ → List ℕ → List ℕ
+writeOutput ws out =
+    cond (eqb (writeAnswer ws (length out) .number) 0)
+    (routineOf ws ++ drop (length (routineOf ws)) out)
+    out

@@ -1,0 +1,14 @@
+pub mod Names
+pub mod Signed
+pub mod Layouts
+pub mod Policies
+pub mod Words
+pub mod Bytes
+pub mod Commands
+pub mod Bundles
+pub mod Machines
+pub mod Guests
+pub mod Runs
+pub mod Claims
+pub mod Loading
+pub mod Tray

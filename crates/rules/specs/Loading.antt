@@ -1,0 +1,87 @@
+-- A routine's bytes made into an installed machine, and the numbers in which a C host holds layouts and records.
+use Prim.Native.Nat.{ℕ, _+_, _*_}
+use mathlib.Core.Bool.{Bool, cond}
+use mathlib.Core.List.{List, [], _∷_, _++_}
+use lib.ListN.{length, getD, take, drop}
+use lib.Dec.{eqb}
+use Rattle.rules.specs.declared.Layout.{Layout}
+use Rattle.rules.specs.declared.Machine.{Machine}
+use Rattle.rules.specs.declared.Answer.{Answer}
+use Rattle.rules.specs.declared.RunAnswer.{RunAnswer}
+use Rattle.rules.specs.declared.Installed.{Installed}
+use Rattle.rules.specs.declared.Status.{Status}
+use Rattle.rules.specs.declared.Status.the-variants.{Running, Ended, Stopped, Faulted}
+use Rattle.rules.specs.Names.{mostInstructions, registers, answer, endingNumber, first}
+use Rattle.rules.specs.Layouts.{layoutOf}
+use Rattle.rules.specs.Policies.{Policy}
+use Rattle.rules.specs.Bytes.{countOf, wordsOf, readAnswer}
+use Rattle.rules.specs.Bundles.{commandsOf, commandCount, rewriteAnswer, checkAnswer}
+use Rattle.rules.specs.Machines.{machineOf, machineRefused, fits, installAnswer, installMemory, installMachine, Ran}
+
+-- ---- from bytes to an installed machine
+
+-- the words of a routine's bytes
+abbrev pub wordsIn : List ℕ → List ℕ
+wordsIn s = wordsOf (countOf s) (drop 2 s)
+
+-- the first answer if it is a refusal, else the second
+abbrev pub orElse : Answer → Answer → Answer
+orElse a b = cond (eqb (a .number) 0) b a
+
+-- 'the first reject of reading, rewriting, checking, installing, or 0'; on success the place is the commands written; room is the length of the list to write them to
+unfoldable pub loadAnswer : Layout → Policy → List ℕ → ℕ → List ℕ → Answer
+loadAnswer lay pol s room mem =
+    orElse (readAnswer s mostInstructions)
+    (orElse (rewriteAnswer lay (wordsIn s) room)
+    (orElse (checkAnswer lay (commandsOf lay (wordsIn s)))
+    (orElse (installAnswer lay pol mem) (answer 0 (commandCount (length (wordsIn s)))))))
+
+-- a refusal leaves commands and memory as they were, and yields the record of a refused installation
+unfoldable pub loadCommands : Layout → Policy → List ℕ → List ℕ → List ℕ → List ℕ
+loadCommands lay pol s out mem =
+    cond (eqb (loadAnswer lay pol s (length out) mem .number) 0)
+    (commandsOf lay (wordsIn s) ++ drop (commandCount (length (wordsIn s))) out)
+    out
+
+unfoldable pub loadMemory : Layout → Policy → List ℕ → ℕ → List ℕ → List ℕ
+loadMemory lay pol s room mem = cond (eqb (loadAnswer lay pol s room mem .number) 0) (installMemory lay pol mem) mem
+
+unfoldable pub loadMachine : Layout → Policy → List ℕ → ℕ → List ℕ → Machine
+loadMachine lay pol s room mem = cond (eqb (loadAnswer lay pol s room mem .number) 0) (installMachine lay pol mem) machineRefused
+
+abbrev pub loadOf : Layout → Policy → List ℕ → ℕ → List ℕ → Installed
+loadOf lay pol s room mem = record { machine = loadMachine lay pol s room mem; answer = loadAnswer lay pol s room mem }
+
+-- ---- the numbers of a C host
+
+-- a layout as U, SL, SH, M, P, S, B
+abbrev pub layoutFrom : List ℕ → Layout
+layoutFrom xs = layoutOf (getD xs 0 0) (getD xs 1 0) (getD xs 2 0) (getD xs 3 0) (getD xs 4 0) (getD xs 5 0) (getD xs 6 0)
+
+-- 0 running, 1 ended, 2 stopped, 3 faulted; any other number counts as faulted
+abbrev pub statusFrom : ℕ → Status
+statusFrom x = first ((eqb x 0, Running) ∷ (eqb x 1, Ended) ∷ (eqb x 2, Stopped) ∷ []) Faulted
+
+abbrev pub statusNumber : Status → ℕ
+statusNumber Running = 0
+statusNumber Ended = 1
+statusNumber Stopped = 2
+statusNumber Faulted = 3
+
+-- a record as its registers, pc and status
+abbrev pub machineFrom : List ℕ → Machine
+machineFrom xs = machineOf (take registers xs) (getD xs registers 0) (statusFrom (getD xs (registers + 1) 0))
+
+abbrev pub machineTo : Machine → List ℕ
+machineTo m = (m .regs) ++ (m .pc ∷ statusNumber (m .status) ∷ [])
+
+-- an answer as number and place; a run's as ending, steps, pairs and readings used
+abbrev pub answerTo : Answer → List ℕ
+answerTo a = a .number ∷ a .place ∷ []
+
+abbrev pub runAnswerTo : RunAnswer → List ℕ
+runAnswerTo a = endingNumber (a .ending) ∷ a .steps ∷ a .pairs ∷ a .used ∷ []
+
+-- the record after a run: a refused run leaves its numbers as they were
+abbrev pub recordAfter : Layout → List ℕ → List ℕ → Ran → List ℕ
+recordAfter lay mem xs r = cond (fits lay mem) (machineTo (r .outcome .machine)) xs

@@ -1,0 +1,48 @@
+-- Policies: a start state and a table of 16 bytes a state.
+use Prim.Native.Nat.{ℕ, _+_, _*_}
+use mathlib.Core.Bool.{Bool, true, false, _&&_, _||_, not, cond}
+use mathlib.Core.List.{List, [], _∷_}
+use lib.ListN.{length, getD}
+use lib.Dec.{eqb, ltb}
+use Rattle.rules.specs.declared.Layout.{Layout}
+use Rattle.rules.specs.Names.{events, noArrow}
+
+-- the state count, the start state and the table
+pub record Policy : Type 0 where
+  pub states : ℕ
+  pub start : ℕ
+  pub table : List ℕ
+
+abbrev pub policyOf : ℕ → ℕ → List ℕ → Policy
+policyOf s q t = record { states = s; start = q; table = t }
+
+-- the state after event n in state s, or 255: 'byte 16 × s + n'; no entry is no arrow
+abbrev pub arrow : Policy → ℕ → ℕ → ℕ
+arrow pol s n = cond (ltb n events) (getD (pol .table) (events * s + n) noArrow) noArrow
+
+-- the state to which a list of events leads from state s
+abbrev pub stateFrom : Policy → ℕ → List ℕ → ℕ
+stateFrom pol s [] = s
+stateFrom pol s (e ∷ es) = stateFrom pol (arrow pol s e) es
+
+abbrev pub stateOver : Policy → List ℕ → ℕ
+stateOver pol es = stateFrom pol (pol .start) es
+
+-- each event has an arrow in the state to which those before it lead
+abbrev pub allowedFrom : Policy → ℕ → List ℕ → Bool
+allowedFrom pol s [] = true
+allowedFrom pol s (e ∷ es) = not (eqb (arrow pol s e) noArrow) && allowedFrom pol (arrow pol s e) es
+
+-- 'A list of events is allowed if each has an arrow in the state to which those before it lead from the start'
+unfoldable pub allowed : Policy → List ℕ → Bool
+allowed pol es = allowedFrom pol (pol .start) es
+
+-- every byte is below S or 255
+abbrev pub entriesRight : ℕ → List ℕ → Bool
+entriesRight s [] = true
+entriesRight s (b ∷ bs) = (ltb b s || eqb b noArrow) && entriesRight s bs
+
+-- what 10 refuses: S not the layout's, length not 16 × S, start not below S, a byte neither below S nor 255
+unfoldable pub rightPolicy : Layout → Policy → Bool
+rightPolicy l pol =
+    eqb (pol .states) (l .states) && eqb (length (pol .table)) (events * pol .states) && ltb (pol .start) (pol .states) && entriesRight (pol .states) (pol .table)

@@ -1,0 +1,267 @@
+// The types that the sandbox's parts share, their named numbers, and the constructors of layout and machine.
+ghost use mathlib.Core.Path.{_≡_};
+ghost use Rattle.rules.specs.Layouts.{layoutOf};
+ghost use Rattle.rules.specs.Machines.{machineAt, machineRefused};
+
+// The layout of one drum's memory: U, SL, SH, M, P, S and B of document 01.
+pub struct Layout {
+    pub size: u32,
+    pub low: u32,
+    pub high: u32,
+    pub cell: u32,
+    pub table: u32,
+    pub states: u32,
+    pub base: u16,
+}
+
+impl Layout {
+    pub const MOST_CELLS: u32 = 4096;
+
+    pub const MOST_STATES: u32 = 16;
+
+    pub fn new(
+        size: u32,
+        low: u32,
+        high: u32,
+        cell: u32,
+        table: u32,
+        states: u32,
+        base: u16,
+    ) -> Layout
+        ensures { λ r. ⌜ r ≡ layoutOf size low high cell table states base ⌝ }
+    {
+        Layout {
+            size,
+            low,
+            high,
+            cell,
+            table,
+            states,
+            base,
+        }
+    }
+}
+
+// A policy's numbers; its table of 16 bytes a state is lent beside it.
+pub struct Policy {
+    pub states: u32,
+    pub start: u32,
+}
+
+impl Policy {
+    // The mark of no arrow in a table.
+    pub const NO_ARROW: u32 = 255;
+    // Events of one row.
+    pub const EVENTS: u32 = 16;
+    // Events below this one are orders, the others readings.
+    pub const ORDERS: u32 = 8;
+}
+
+// The six fields of a word.
+pub struct Fields {
+    pub kind: u64,
+    pub d: u64,
+    pub a: u64,
+    pub b: u64,
+    pub c: u64,
+    pub v: u64,
+}
+
+// The largest value of each field of a kind; 0 for a field that it lacks.
+pub struct Limits {
+    pub d: u64,
+    pub a: u64,
+    pub b: u64,
+    pub c: u64,
+    pub v: u64,
+}
+
+// A guest instruction, which is also the bundle that it becomes. PLAIN holds kinds 1 to 7: kind, d, a, b, v.
+pub enum Instr {
+    HALT,
+    PLAIN(u64, u64, u64, u64, u64),
+    LOAD(u64, u64),
+    STORE(u64, u64),
+    GOIF(u64, u64, u64, u64),
+    GOX(u64, u64, u64, u64),
+    EVENT(u64),
+}
+
+impl Instr {
+    // The most instructions of a routine.
+    pub const MOST: usize = 1023;
+}
+
+// A command. Plain holds the arithmetic kinds 2 to 11: kind, d, a, b, v. Stray is a word that is no command.
+pub enum Command {
+    Nop,
+    Halt,
+    Plain(u64, u64, u64, u64, u64),
+    Load(u64, u64),
+    Store(u64, u64),
+    GoIf(u64, u64, u64, u64),
+    GoReg(u64, u64, u64, u64),
+    Look(u64, u64),
+    StopIf(u64),
+    Keep(u64),
+    Event(u64),
+    Stray,
+}
+
+// The words of one bundle.
+pub struct Bundle {
+    pub words: [u64; 4],
+}
+
+impl Bundle {
+    // Commands of a bundle.
+    pub const LENGTH: usize = 4;
+    // The most bundles of a list.
+    pub const MOST: usize = 1024;
+}
+
+pub enum Status {
+    Running,
+    Ended,
+    Stopped,
+    Faulted,
+}
+
+// The machine's record.
+pub struct Machine {
+    pub regs: [u32; 9],
+    pub pc: u32,
+    pub status: Status,
+}
+
+impl Machine {
+    // Registers in all, and the hidden one, which no guest field names.
+    pub const REGISTERS: usize = 9;
+
+    pub const HIDDEN: usize = 8;
+
+    // The record that installing yields: registers 0, pc at the base, running.
+    pub fn new(base: u16) -> Machine
+        ensures { λ r. ⌜ r ≡ machineAt base ⌝ }
+    {
+        Machine {
+            regs: [0; 9],
+            pc: base as u32,
+            status: Status::Running,
+        }
+    }
+
+    // The record that a refused installation yields.
+    pub fn refused() -> Machine
+        ensures { λ r. ⌜ r ≡ machineRefused ⌝ }
+    {
+        Machine {
+            regs: [0; 9],
+            pc: 0,
+            status: Status::Faulted,
+        }
+    }
+}
+
+// Document 01's rejects, in the order of their numbers.
+pub enum Refusal {
+    Taken,
+    Short,
+    Foreign,
+    UnknownKind,
+    OffRange,
+    Oversize,
+    Trailing,
+    BadLayout,
+    BadLanding,
+    SmallOutput,
+    BadPolicy,
+    BadBundle,
+    BadCount,
+    BadBase,
+}
+
+impl Refusal {
+    pub const TAKEN: u8 = 0;
+
+    pub const SHORT: u8 = 1;
+
+    pub const FOREIGN: u8 = 2;
+
+    pub const UNKNOWN_KIND: u8 = 3;
+
+    pub const OFF_RANGE: u8 = 4;
+
+    pub const OVERSIZE: u8 = 5;
+
+    pub const TRAILING: u8 = 6;
+
+    pub const BAD_LAYOUT: u8 = 7;
+
+    pub const BAD_LANDING: u8 = 8;
+
+    pub const SMALL_OUTPUT: u8 = 9;
+
+    pub const BAD_POLICY: u8 = 10;
+
+    pub const BAD_BUNDLE: u8 = 11;
+
+    pub const BAD_COUNT: u8 = 12;
+
+    pub const BAD_BASE: u8 = 13;
+}
+
+// A refusal's number, or 0, and its place, or what was written.
+pub struct Answer {
+    pub number: u8,
+    pub place: usize,
+}
+
+// One instruction read: its word and the bytes that it took, or the refusal's number.
+pub enum One {
+    Word(u64, usize),
+    Bad(u8),
+}
+
+// How a run ends; Refused where its layout or memory is refused.
+pub enum Ending {
+    Done,
+    NoArrow,
+    Fault,
+    LogFull,
+    Silent,
+    Spent,
+    Refused,
+}
+
+// What a run answers: its ending, the steps taken, the pairs recorded and the readings used.
+pub struct RunAnswer {
+    pub ending: Ending,
+    pub steps: u32,
+    pub pairs: usize,
+    pub used: usize,
+}
+
+// A run's answer and the record that it leaves.
+pub struct Outcome {
+    pub machine: Machine,
+    pub answer: RunAnswer,
+}
+
+// Installing's answer and the record that it yields.
+pub struct Installed {
+    pub machine: Machine,
+    pub answer: Answer,
+}
+
+// What one word would do to a machine: go to an address, set a register, set a cell, record an order,
+// take a reading, end with a status, or wait.
+pub enum Effect {
+    Go(u32),
+    Put(usize, u32),
+    Cell(usize, u32),
+    Order(u32),
+    Probe(u32),
+    End(Status),
+    Wait(Ending),
+}
