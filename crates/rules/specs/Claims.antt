@@ -19,9 +19,9 @@ use Rattle.rules.specs.Words.{routine, bundlesFor}
 use Rattle.rules.specs.Bytes.{readAnswer, readOutput, writeAnswer, writeOutput}
 use Rattle.rules.specs.Commands.{shlOf}
 use Rattle.rules.specs.Bundles.{addressOf, lastAddress, baseRight, commandsOf, commandCount, rewriteAnswer, checkAnswer}
-use Rattle.rules.specs.Machines.{runOf, installMemory}
+use Rattle.rules.specs.Machines.{State, leftIn, runFrom, runOf, installMemory}
 use Rattle.rules.specs.Guests.{Course, going, ended, stopped, Guest, guestAfter, guestStart, boxOf}
-use Rattle.rules.specs.Runs.{Given, Carried, atFirst, after, Run, runsOf, Lends, Served, pairsOf, eventsOf, pendingAt}
+use Rattle.rules.specs.Runs.{begunFrom, Given, Carried, atFirst, after, Run, runsOf, Lends, Served, pairsOf, eventsOf, pendingAt}
 
 -- ---- masks and sizes
 
@@ -94,6 +94,16 @@ statusAfter Refused = Running
 abbrev pub Endings : Type 0
 Endings =
     (lay : Layout) (ws : List ℕ) (m : Machine) (mem : List ℕ) (budget : ℕ) (rd log : List ℕ) → (runOf lay ws m mem budget rd log .outcome .answer .ending ≡ Refused → ⊥) → runOf lay ws m mem budget rd log .outcome .machine .status ≡ statusAfter (runOf lay ws m mem budget rd log .outcome .answer .ending)
+
+-- ---- every moment
+
+-- a run with a budget above j comes to where the run with budget j ends, and goes on from there as a run does; so do the bundles begun
+pub record SplitLaws (lay : Layout) (ws rd : List ℕ) (j l k b : ℕ) (s : State) : Type 0 where
+  pub run : runFrom lay ws rd (j + suc l) k s ≡ runFrom lay ws rd (suc l) (runFrom lay ws rd j k s .outcome .answer .steps) (leftIn (runFrom lay ws rd j k s))
+  pub begun : begunFrom lay ws rd (j + suc l) b s ≡ begunFrom lay ws rd (suc l) (begunFrom lay ws rd j b s) (leftIn (runFrom lay ws rd j k s))
+
+abbrev pub Splits : Type 0
+Splits = (lay : Layout) (ws rd : List ℕ) (j l k b : ℕ) (s : State) → SplitLaws lay ws rd j l k b s
 
 -- ---- the guest rule
 

@@ -1,0 +1,25 @@
+-- Tests of `&&`, `||` and `cond`, taken apart.
+use mathlib.Core.Path.{_≡_, refl}
+use mathlib.Core.Bool.{Bool, true, false, _&&_, _||_, cond, false≢true}
+use mathlib.Core.Logic.{_⊎_, inl, inr}
+
+-- true and false are apart, so that anything follows
+pub no {ℓ} : {A : Type ℓ} → false ≡ true → A
+no e = absurd (false≢true e)
+
+pub cases : (b : Bool) → (b ≡ true) ⊎ (b ≡ false)
+cases true = inl refl
+cases false = inr refl
+
+pub both : (a b : Bool) → (a && b) ≡ true → (a ≡ true) × (b ≡ true)
+both true b e = (refl, e)
+both false b e = no e
+
+pub either : (a b : Bool) → (a || b) ≡ true → (a ≡ true) ⊎ (b ≡ true)
+either true b e = inl refl
+either false b e = inr e
+
+-- what holds of either branch under its test
+pub cond-ind {ℓ κ} : {X : Type ℓ} (P : X → Type κ) (b : Bool) {x y : X} → (b ≡ true → P x) → (b ≡ false → P y) → P (cond b x y)
+cond-ind P true f g = f refl
+cond-ind P false f g = g refl

@@ -1,0 +1,406 @@
+-- From what checking, installing and rewriting answer to the facts of Facts.antt.
+use mathlib.Core.Path.{_≡_, refl, _∙_, ap}
+use mathlib.Core.Bool.{Bool, true, _||_, cond}
+use mathlib.Core.Logic.{_⊎_, inl, inr, ⊎-elim}
+use mathlib.Core.List.{List, [], _∷_}
+use Prim.Native.Nat.{ℕ, zero, suc, _+_, _-_, _*_, _/_, _%_, _<_, _≤_}
+use native.Mathlib.Omega.{arith}
+use borrow.Author.Tests.{ltb-true, ltb-false, leb-true, eqb-true, eqb-false, lt-ltb, le-leb, eq-eqb}
+use lib.Dec.{eqb, ltb}
+use lib.Count.{ones}
+use lib.ListN.{length, getD, set, length-set, List·getD-eq-default}
+use lib.Seq.{sets, length-sets, getD-set-same, getD-set-other}
+use Rattle.rules.specs.declared.Layout.{Layout}
+use Rattle.rules.specs.declared.Answer.{Answer}
+use Rattle.rules.specs.declared.Instr.{Instr}
+use Rattle.rules.specs.declared.Instr.the-variants.{HALT, PLAIN, LOAD, STORE, GOIF, GOX, EVENT}
+use Rattle.rules.specs.Names.{mostInstructions, mostBundles, bundleLength, events, noArrow}
+use Rattle.rules.specs.Layouts.{rightLayout, tableEnd}
+use Rattle.rules.specs.Policies.{Policy, entriesRight, rightPolicy}
+use Rattle.rules.specs.Words.{judgeAt, instrOf, routine, bundlesFor}
+use Rattle.rules.specs.Commands.{commandOf, fetchOf}
+use Rattle.rules.specs.Bundles.{bundleWord, bundlesFrom, rewritten, commandsOf, commandCount, baseRight, judgeFrom, placeAnswer, rewriteAnswer, valid, bundleAt, isBundle, shapedAt, isHalt, passesAt, checkFrom, countRight, checkAnswer}
+use Rattle.rules.specs.Claims.{SizeLaws}
+use Rattle.rules.specs.Machines.{machineAt, fits, installAnswer, installMemory, installMachine}
+use Rattle.rules.proofs.Facts.{Right, Valid, Bundled, Laid}
+use Rattle.rules.proofs.Bools.{no, cases, both, either, cond-ind}
+use Rattle.rules.proofs.Layouts.{LayoutFacts, layout-facts, outside}
+use Rattle.rules.proofs.Masks.{masks, sizes}
+use Rattle.rules.proofs.Packing.{Held, bundle-reads}
+use Rattle.rules.proofs.GuestWords.{taken-valid}
+
+-- an answer whose number is 0, under a test that refuses otherwise
+taken-if : (P : Type 0) (b : Bool) (x y : Answer) → (y .number ≡ 0 → ⊥) → (b ≡ true → x .number ≡ 0 → P) → cond b x y .number ≡ 0 → P
+taken-if P b x y f go = cond-ind (λ (a : Answer). a .number ≡ 0 → P) b go (λ t e. absurd (f e))
+
+-- ---- checking
+
+-- what checking's 0 says of a list of n bundles
+pub record Passed (lay : Layout) (ws : List ℕ) (n : ℕ) : Type 0 where
+  pub right : rightLayout lay ≡ true
+  pub count : length ws ≡ bundleLength * n
+  pub most : n ≤ mostBundles
+  pub single : ones n ≡ 1
+  pub base : baseRight lay n ≡ true
+  pub each : (h : ℕ) → h < n → passesAt lay n ws h ≡ true
+
+check-each : (lay : Layout) (n : ℕ) (ws : List ℕ) (h m : ℕ) → checkFrom lay n ws h m .number ≡ 0 → (j : ℕ) → h ≤ j → j < h + m → passesAt lay n ws j ≡ true
+unfolding checkFrom
+check-each lay n ws h zero e j l u = absurd (omega arith)
+check-each lay n ws h (suc m) e j l u =
+    taken-if (passesAt lay n ws j ≡ true) (passesAt lay n ws h) _ _ (λ z. omega arith)
+    (λ t r. ⊎-elim (λ q. rw (eqb-true j h q) t) (λ q. check-each lay n ws (h + 1) m r j (omega (arith, eqb-false j h q)) (omega arith)) (cases (eqb j h))) e
+
+pub passed-of : (lay : Layout) (ws : List ℕ) → checkAnswer lay ws .number ≡ 0 → Passed lay ws (length ws / bundleLength)
+unfolding checkAnswer
+passed-of lay ws =
+    let n = length ws / bundleLength in
+    let P = Passed lay ws n in
+    taken-if P (rightLayout lay) _ _ (λ z. omega arith)
+    (λ r. taken-if P (countRight (length ws)) _ _ (λ z. omega arith)
+    (λ c. taken-if P (baseRight lay n) _ _ (λ z. omega arith)
+    (λ b e.
+    let c₁ = both _ _ c in
+    let c₀ = both _ _ (c₁ .0) in
+    let most : length ws ≤ bundleLength * mostBundles = leb-true _ _ (c₀ .0) in
+    let fours : length ws % bundleLength ≡ 0 = eqb-true _ _ (c₀ .1) in
+    record {
+      right = r;
+      count = omega arith;
+      most = omega arith;
+      single = eqb-true _ _ (c₁ .1);
+      base = b;
+      each = λ h l. check-each lay n ws 0 n e h (omega arith) (omega arith);
+    })))
+
+pub layout-of : (lay : Layout) (ws : List ℕ) → checkAnswer lay ws .number ≡ 0 → rightLayout lay ≡ true
+layout-of lay ws e = passed-of lay ws e .right
+
+-- ---- numbers that words hold
+
+pub some-ones : (n : ℕ) → ones n ≡ 1 → 0 < n
+unfolding ones
+some-ones zero h = omega arith
+some-ones (suc n) h = omega arith
+
+held-of : (lay : Layout) (n : ℕ) → LayoutFacts lay → n ≤ mostBundles → 0 < n → Held lay n
+held-of lay n f most some =
+    record {
+      low = omega (arith, f .ordered, f .box, f .size);
+      high = omega (arith, f .box, f .size);
+      room = omega (arith, f .base);
+      some = some;
+    }
+
+-- ---- the bundles of a passed list
+
+pub valid-is : (n : ℕ) (i : Instr) → valid n i ≡ true → Valid n i
+unfolding valid
+valid-is n HALT t = tt
+valid-is n (PLAIN k d a b v) t =
+    let t₇ = both _ _ t in
+    let t₆ = both _ _ (t₇ .0) in
+    let t₅ = both _ _ (t₆ .0) in
+    let t₄ = both _ _ (t₅ .0) in
+    let t₃ = both _ _ (t₄ .0) in
+    let t₂ = both _ _ (t₃ .0) in
+    let t₁ = both _ _ (t₂ .0) in
+    let t₀ = both _ _ (t₁ .0) in
+    (leb-true _ _ (t₀ .0), leb-true _ _ (t₀ .1), ltb-true _ _ (t₁ .1), ltb-true _ _ (t₂ .1), ltb-true _ _ (t₃ .1), leb-true _ _ (t₄ .1), leb-true _ _ (t₅ .1), leb-true _ _ (t₆ .1), leb-true _ _ (t₇ .1))
+valid-is n (LOAD d a) t = let t₀ = both _ _ t in (ltb-true _ _ (t₀ .0), ltb-true _ _ (t₀ .1))
+valid-is n (STORE a b) t = let t₀ = both _ _ t in (ltb-true _ _ (t₀ .0), ltb-true _ _ (t₀ .1))
+valid-is n (GOIF a b c v) t =
+    let t₂ = both _ _ t in
+    let t₁ = both _ _ (t₂ .0) in
+    let t₀ = both _ _ (t₁ .0) in
+    (ltb-true _ _ (t₀ .0), ltb-true _ _ (t₀ .1), leb-true _ _ (t₁ .1), ltb-true _ _ (t₂ .1))
+valid-is n (GOX d a b c) t =
+    let t₂ = both _ _ t in
+    let t₁ = both _ _ (t₂ .0) in
+    let t₀ = both _ _ (t₁ .0) in
+    (ltb-true _ _ (t₀ .0), ltb-true _ _ (t₀ .1), ltb-true _ _ (t₁ .1), leb-true _ _ (t₂ .1))
+valid-is n (EVENT e) t = ltb-true e events t
+
+halt-is : (i : Instr) → isHalt i ≡ true → i ≡ HALT
+halt-is HALT t = refl
+halt-is (PLAIN k d a b v) t = no t
+halt-is (LOAD d a) t = no t
+halt-is (STORE a b) t = no t
+halt-is (GOIF a b c v) t = no t
+halt-is (GOX d a b c) t = no t
+halt-is (EVENT e) t = no t
+
+-- a bundle that no other follows
+last-halts : (h n : ℕ) (i : Instr) → (ltb h n || isHalt i) ≡ true → n ≤ h → i ≡ HALT
+last-halts h n i t l = ⊎-elim (λ e. absurd (let u = ltb-true h n e in omega arith)) (λ e. halt-is i e) (either _ _ t)
+
+-- the word at a position of a list of bundles
+fetched : (ws : List ℕ) (base h p : ℕ) → bundleLength * h + p < length ws → fetchOf ws base (base + bundleLength * h + p) ≡ commandOf (getD ws (bundleLength * h + p) 0)
+unfolding fetchOf
+fetched ws base h p l =
+    let at : base + 4 * h + p - base ≡ 4 * h + p = omega arith in
+    rw (le-leb base (base + 4 * h + p) (omega arith), at, lt-ltb (4 * h + p) (length ws) l)
+
+bundle-parts : (lay : Layout) (n : ℕ) (i : Instr) (w x y z : ℕ) → isBundle lay n i w x y z ≡ true → Valid n i × (w ≡ bundleWord lay n i 0) × (x ≡ bundleWord lay n i 1) × (y ≡ bundleWord lay n i 2) × (z ≡ bundleWord lay n i 3)
+unfolding isBundle
+bundle-parts lay n i w x y z t =
+    let t₃ = both _ _ t in
+    let t₂ = both _ _ (t₃ .0) in
+    let t₁ = both _ _ (t₂ .0) in
+    let t₀ = both _ _ (t₁ .0) in
+    (valid-is n i (t₀ .0), eqb-true _ _ (t₀ .1), eqb-true _ _ (t₁ .1), eqb-true _ _ (t₂ .1), eqb-true _ _ (t₃ .1))
+
+-- four words, by position
+four-words : (ws : List ℕ) (at : ℕ) (word : ℕ → ℕ) → getD ws at 0 ≡ word 0 → getD ws (at + 1) 0 ≡ word 1 → getD ws (at + 2) 0 ≡ word 2 → getD ws (at + 3) 0 ≡ word 3 → (p : ℕ) → p < bundleLength → getD ws (at + p) 0 ≡ word p
+four-words ws at word a b c d zero l = let z : at + 0 ≡ at = omega arith in rw z a
+four-words ws at word a b c d (suc zero) l = b
+four-words ws at word a b c d (suc (suc zero)) l = c
+four-words ws at word a b c d (suc (suc (suc zero))) l = d
+four-words ws at word a b c d (suc (suc (suc (suc p)))) l = absurd (omega arith)
+
+module _ (lay : Layout) (ws : List ℕ) (n : ℕ) (passed : Passed lay ws n) where
+  module _ (h : ℕ) (lh : h < n) where
+    shaped : shapedAt lay n ws h ≡ true
+    unfolding passesAt
+    shaped = both _ _ (passed .each h lh) .0
+
+    pub passed-valid : Valid n (bundleAt lay ws h)
+    unfolding shapedAt
+    passed-valid = bundle-parts lay n _ _ _ _ _ shaped .0
+
+    pub passed-word : (p : ℕ) → p < bundleLength → getD ws (bundleLength * h + p) 0 ≡ bundleWord lay n (bundleAt lay ws h) p
+    unfolding shapedAt
+    passed-word =
+        let t = bundle-parts lay n _ _ _ _ _ shaped in
+        four-words ws (bundleLength * h) (bundleWord lay n (bundleAt lay ws h)) (t .1) (t .2) (t .3) (t .4)
+
+  pub passed-last : bundleAt lay ws (n - 1) ≡ HALT
+  unfolding passesAt
+  passed-last =
+      let some = some-ones n (passed .single) in
+      last-halts (n - 1 + 1) n _ (both (shapedAt lay n ws (n - 1)) _ (passed .each (n - 1) (omega arith)) .1) (omega arith)
+
+  pub passed-bundled : Bundled lay ws n (bundleAt lay ws)
+  passed-bundled =
+      let some = some-ones n (passed .single) in
+      record {
+        some = some;
+        valid = passed-valid;
+        each =
+            λ h p lh lp.
+            fetched ws (lay .base) h p (omega (arith, passed .count)) ∙ ap commandOf (passed-word h lh p lp)
+            ∙ bundle-reads lay n (held-of lay n (layout-facts lay (passed .right)) (passed .most) some) (bundleAt lay ws h) (passed-valid h lh) p;
+        last = passed-last;
+      }
+
+pub bundled-of : (lay : Layout) (ws : List ℕ) → checkAnswer lay ws .number ≡ 0 → Bundled lay ws (length ws / bundleLength) (bundleAt lay ws)
+bundled-of lay ws e = passed-bundled lay ws _ (passed-of lay ws e)
+
+-- ---- installing
+
+pub fits-of : (lay : Layout) (pol : Policy) (mem : List ℕ) → installAnswer lay pol mem .number ≡ 0 → (fits lay mem ≡ true) × (rightPolicy lay pol ≡ true)
+unfolding installAnswer
+fits-of lay pol mem =
+    let P = (fits lay mem ≡ true) × (rightPolicy lay pol ≡ true) in
+    taken-if P (fits lay mem) _ _ (λ z. omega arith) (λ f. taken-if P (rightPolicy lay pol) _ _ (λ z. omega arith) (λ p e. (f, p)))
+
+pub machine-of : (lay : Layout) (pol : Policy) (mem : List ℕ) → installAnswer lay pol mem .number ≡ 0 → installMachine lay pol mem ≡ machineAt (lay .base)
+unfolding installMachine
+machine-of lay pol mem e = rw (eq-eqb _ _ e)
+
+-- what a policy that is right for a layout has
+pub record PolicyFacts (lay : Layout) (pol : Policy) : Type 0 where
+  pub states : pol .states ≡ lay .states
+  pub size : length (pol .table) ≡ events * pol .states
+  pub start : pol .start < pol .states
+  pub entries : entriesRight (pol .states) (pol .table) ≡ true
+
+pub policy-facts : (lay : Layout) (pol : Policy) → rightPolicy lay pol ≡ true → PolicyFacts lay pol
+unfolding rightPolicy
+policy-facts lay pol e =
+    let t₂ = both _ _ e in
+    let t₁ = both _ _ (t₂ .0) in
+    let t₀ = both _ _ (t₁ .0) in
+    record { states = eqb-true _ _ (t₀ .0); size = eqb-true _ _ (t₀ .1); start = ltb-true _ _ (t₁ .1); entries = t₂ .1 }
+
+-- an entry that is no 255 is a state
+entry : (s : ℕ) (bs : List ℕ) → entriesRight s bs ≡ true → (i : ℕ) → (getD bs i noArrow ≡ noArrow → ⊥) → getD bs i noArrow < s
+entry s [] t i f = absurd (f refl)
+entry s (b ∷ bs) t zero f = ⊎-elim (λ l. ltb-true b s l) (λ e. absurd (f (eqb-true b noArrow e))) (either _ _ (both _ _ t .0))
+entry s (b ∷ bs) t (suc i) f = entry s bs (both (ltb b s || eqb b noArrow) (entriesRight s bs) t .1) i f
+
+-- a run of stores: the stored elements, and those beside them
+sets-beside : (vs l : List ℕ) (i j : ℕ) → (j < i) ⊎ (i + length vs ≤ j) → getD (sets l i vs) j 0 ≡ getD l j 0
+sets-beside [] l i j o = refl
+sets-beside (a ∷ vs) l i j o =
+    sets-beside vs (set l i a) (suc i) j (⊎-elim (λ (h : j < i). inl (omega arith)) (λ (h : i + suc (length vs) ≤ j). inr (omega arith)) o)
+    ∙ getD-set-other l i j a 0 (⊎-elim (λ (h : j < i) (e : j ≡ i). omega arith) (λ (h : i + suc (length vs) ≤ j) (e : j ≡ i). omega arith) o)
+
+sets-at : (vs l : List ℕ) (i j d : ℕ) → i + length vs ≤ length l → j < length vs → getD (sets l i vs) (i + j) 0 ≡ getD vs j d
+sets-at [] l i j d r h = absurd (omega arith)
+sets-at (a ∷ vs) l i zero d r h =
+    let z : i + 0 ≡ i = omega arith in
+    rw z (sets-beside vs (set l i a) (suc i) i (inl (omega arith)) ∙ getD-set-same l i a 0 (omega arith))
+sets-at (a ∷ vs) l i (suc j) d r h =
+    let z : i + suc j ≡ suc i + j = omega arith in
+    rw z (sets-at vs (set l i a) (suc i) j d (omega (arith, length-set l i a)) (omega arith))
+
+pub laid-of : (lay : Layout) (pol : Policy) (mem : List ℕ) → installAnswer lay pol mem .number ≡ 0 → Laid lay pol (installMemory lay pol mem)
+unfolding installMemory
+laid-of lay pol mem e =
+    let o = fits-of lay pol mem e in
+    let m = both (rightLayout lay) (eqb (length mem) (lay .size)) (o .0) in
+    let f = layout-facts lay (m .0) in
+    let size : length mem ≡ lay .size = eqb-true _ _ (m .1) in
+    let p = policy-facts lay pol (o .1) in
+    let start = set mem (lay .cell) (pol .start) in
+    let long = length-set mem (lay .cell) (pol .start) in
+    rw (eq-eqb _ _ e)
+    (record {
+      size = length-sets start (lay .table) (pol .table) ∙ long ∙ size;
+      cell =
+          sets-beside (pol .table) start (lay .table) (lay .cell) (⊎-elim (λ h. inl h) (λ h. inr (omega (arith, p .size, p .states))) (f .cell-table))
+          ∙ getD-set-same mem (lay .cell) (pol .start) 0 (omega (arith, f .cell));
+      table = λ i h. sets-at (pol .table) start (lay .table) i noArrow (omega (arith, p .size, p .states, f .table)) (omega (arith, p .size, p .states));
+    })
+
+-- ---- a right layout with a right policy
+
+right-facts : (lay : Layout) (pol : Policy) (n : ℕ) → rightLayout lay ≡ true → rightPolicy lay pol ≡ true → ones n ≡ 1 → n ≤ mostBundles → baseRight lay n ≡ true → Right lay pol n
+right-facts lay pol n r q single most base =
+    let f = layout-facts lay r in
+    let p = policy-facts lay pol q in
+    record {
+      ordered = f .ordered;
+      box = f .box;
+      cell = f .cell;
+      table = f .table;
+      cell-out = outside lay (lay .cell) (f .cell-box);
+      table-out = λ i h. outside lay (lay .table + i) (⊎-elim (λ x. inr (omega arith)) (λ x. inl (omega arith)) (f .table-box));
+      table-cell = λ i h e. ⊎-elim (λ (x : lay .cell < lay .table). omega arith) (λ (x : tableEnd lay ≤ lay .cell). omega arith) (f .cell-table);
+      entries =
+          λ q e hq he.
+          rw (lt-ltb e events he) (λ g. rw (← p .states) (entry (pol .states) (pol .table) (p .entries) (events * q + e) g));
+      start = rw (← p .states) (p .start);
+      room = omega (arith, f .base);
+      mask = masks lay r .inside;
+      lands = λ x. masks lay r .lands n x single most base;
+    }
+
+pub right-of : (lay : Layout) (pol : Policy) (ws mem : List ℕ) → checkAnswer lay ws .number ≡ 0 → installAnswer lay pol mem .number ≡ 0 → Right lay pol (length ws / bundleLength)
+right-of lay pol ws mem c e =
+    let p = passed-of lay ws c in
+    right-facts lay pol _ (p .right) (fits-of lay pol mem e .1) (p .single) (p .most) (p .base)
+
+-- ---- rewriting
+
+-- what rewriting's 0 says of a routine's words
+pub record Taken (lay : Layout) (code : List ℕ) : Type 0 where
+  pub right : rightLayout lay ≡ true
+  pub most : length code ≤ mostInstructions
+  pub each : (j : ℕ) → j < length code → judgeAt (length code) (getD code j 0) ≡ 0
+  pub base : baseRight lay (bundlesFor (length code)) ≡ true
+
+judge-each : (n : ℕ) (ws : List ℕ) (i : ℕ) (z : Answer) → judgeFrom n ws i z .number ≡ 0 → ((j : ℕ) → j < length ws → judgeAt n (getD ws j 0) ≡ 0) × (z .number ≡ 0)
+unfolding judgeFrom
+judge-each n [] i z e = (λ j h. absurd (omega arith), e)
+judge-each n (w ∷ ws) i z e =
+    cond-ind (λ (a : Answer). a .number ≡ 0 → ((j : ℕ) → j < suc (length ws) → judgeAt n (getD (w ∷ ws) j 0) ≡ 0) × (z .number ≡ 0)) (eqb (judgeAt n w) 0)
+    (λ t r.
+    let rest = judge-each n ws (i + 1) z r in
+    let at : (j : ℕ) → j < suc (length ws) → judgeAt n (getD (w ∷ ws) j 0) ≡ 0 = elim [ zero ↦ λ h. eqb-true _ _ t | suc j ↦ λ h. rest .0 j (omega arith) ] in
+    (at, rest .1))
+    (λ t r. absurd (eqb-false _ _ t r)) e
+
+pub taken-of : (lay : Layout) (code : List ℕ) (room : ℕ) → rewriteAnswer lay code room .number ≡ 0 → Taken lay code
+unfolding rewriteAnswer placeAnswer
+taken-of lay code room =
+    let n = length code in
+    let P = Taken lay code in
+    taken-if P (rightLayout lay) _ _ (λ z. omega arith) (λ r.
+    cond-ind (λ (a : Answer). a .number ≡ 0 → P) (ltb mostInstructions n) (λ _ z. absurd (omega arith)) (λ m e.
+    let j = judge-each n code 0 (placeAnswer lay n room) e in
+    taken-if P (baseRight lay (bundlesFor n)) _ _ (λ z. omega arith) (λ b.
+    cond-ind (λ (a : Answer). a .number ≡ 0 → P) (ltb room (commandCount n)) (λ _ z. absurd (omega arith)) (λ _ _.
+    record { right = r; most = ltb-false _ _ m; each = j .0; base = b }))
+    (j .1)))
+
+-- a jump below m is one below n
+grown : (m n : ℕ) (i : Instr) → m ≤ n → Valid m i → Valid n i
+grown m n HALT h v = tt
+grown m n (PLAIN k d a b x) h v = v
+grown m n (LOAD d a) h v = v
+grown m n (STORE a b) h v = v
+grown m n (GOIF a b c x) h v = (v .0, v .1, v .2, omega arith)
+grown m n (GOX d a b c) h v = v
+grown m n (EVENT e) h v = v
+
+pub past-end : (code : List ℕ) (i : ℕ) → length code ≤ i → routine code i ≡ HALT
+unfolding routine instrOf
+past-end code i h = rw (List·getD-eq-default code 0 h)
+
+-- bundles h to h + m − 1 of n, and their words
+length-bundles : (lay : Layout) (n : ℕ) (is : ℕ → Instr) (h m : ℕ) → length (bundlesFrom lay n is h m) ≡ bundleLength * m
+length-bundles lay n is h zero = refl
+length-bundles lay n is h (suc m) = omega (arith, length-bundles lay n is (suc h) m)
+
+bundles-word : (lay : Layout) (n : ℕ) (is : ℕ → Instr) (h m j p : ℕ) → j < m → p < bundleLength → getD (bundlesFrom lay n is h m) (bundleLength * j + p) 0 ≡ bundleWord lay n (is (h + j)) p
+bundles-word lay n is h zero j p lj lp = absurd (omega arith)
+bundles-word lay n is h (suc m) zero p lj lp =
+    let z : h + 0 ≡ h = omega arith in
+    rw z (four-words (bundlesFrom lay n is h (suc m)) 0 (bundleWord lay n (is h)) refl refl refl refl p lp)
+bundles-word lay n is h (suc m) (suc j) p lj lp =
+    let z : 4 * suc j + p ≡ suc (suc (suc (suc (4 * j + p)))) = omega arith in
+    let y : h + suc j ≡ suc h + j = omega arith in
+    rw (z, y) (bundles-word lay n is (suc h) m j p (omega arith) lp)
+
+module _ (lay : Layout) (code : List ℕ) (taken : Taken lay code) where
+  abbrev count : ℕ
+  count = bundlesFor (length code)
+
+  pub size-laws : SizeLaws (length code)
+  size-laws = sizes (length code) (omega (arith, taken .most))
+
+  pub count-most : count ≤ mostBundles
+  count-most = size-laws .least 10 (omega (arith, taken .most))
+
+  pub routine-valid : (h : ℕ) → Valid count (routine code h)
+  unfolding routine
+  routine-valid h =
+      ⊎-elim
+      (λ e. grown (length code + 1) count (routine code h) (omega (arith, size-laws .above)) (taken-valid (length code) (getD code h 0) (taken .each h (ltb-true _ _ e))))
+      (λ e. rw (past-end code h (ltb-false _ _ e)) tt)
+      (cases (ltb h (length code)))
+
+  pub routine-last : routine code (count - 1) ≡ HALT
+  routine-last = past-end code (count - 1) (omega (arith, size-laws .above))
+
+  pub routine-length : length (commandsOf lay code) ≡ bundleLength * count
+  unfolding rewritten
+  routine-length = length-bundles lay count (routine code) 0 count
+
+  pub routine-word : (h p : ℕ) → h < count → p < bundleLength → getD (commandsOf lay code) (bundleLength * h + p) 0 ≡ bundleWord lay count (routine code h) p
+  unfolding rewritten
+  routine-word h p lh lp =
+      bundles-word lay count (routine code) 0 count h p lh lp ∙ (let z : 0 + h ≡ h = omega arith in rw z)
+
+  pub routine-bundled : Bundled lay (commandsOf lay code) count (routine code)
+  routine-bundled =
+      let some : 0 < count = omega (arith, size-laws .above) in
+      record {
+        some = some;
+        valid = λ h lh. routine-valid h;
+        each =
+            λ h p lh lp.
+            fetched (commandsOf lay code) (lay .base) h p (omega (arith, routine-length)) ∙ ap commandOf (routine-word h p lh lp)
+            ∙ bundle-reads lay count (held-of lay count (layout-facts lay (taken .right)) count-most some) (routine code h) (routine-valid h) p;
+        last = routine-last;
+      }
+
+pub bundled-routine : (lay : Layout) (code : List ℕ) (room : ℕ) → rewriteAnswer lay code room .number ≡ 0 → Bundled lay (commandsOf lay code) (bundlesFor (length code)) (routine code)
+bundled-routine lay code room e = routine-bundled lay code (taken-of lay code room e)
+
+pub right-routine : (lay : Layout) (pol : Policy) (code mem : List ℕ) (room : ℕ) → rewriteAnswer lay code room .number ≡ 0 → installAnswer lay pol mem .number ≡ 0 → Right lay pol (bundlesFor (length code))
+right-routine lay pol code mem room r e =
+    let t = taken-of lay code room r in
+    right-facts lay pol _ (t .right) (fits-of lay pol mem e .1) (size-laws lay code t .power) (count-most lay code t) (t .base)

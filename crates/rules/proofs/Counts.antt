@@ -1,0 +1,323 @@
+-- Bounds of what the parts answer: numbers fit a byte, places and counts their outputs.
+use Prim.Native.Nat.{ℕ, zero, suc, _+_, _-_, _*_, _/_, _^_, _≤_, _<_}
+use mathlib.Core.Path.{_≡_, refl, sym, ap}
+use mathlib.Core.Bool.{_&&_}
+use mathlib.Core.List.{List, [], _∷_}
+use native.Mathlib.Omega.{arith}
+use lib.ListN.{length, getD, drop, length-set}
+use lib.Dec.{eqb, ltb, lit<}
+use borrow.Author.Tests.{ltb-false, leb-true, eqb-false, eqb-true}
+use Rattle.rules.specs.declared.Layout.{Layout}
+use Rattle.rules.specs.declared.Machine.{Machine}
+use Rattle.rules.specs.declared.Fields.{Fields}
+use Rattle.rules.specs.declared.Instr.{Instr}
+use Rattle.rules.specs.declared.Answer.{Answer}
+use Rattle.rules.specs.declared.One.{One}
+use Rattle.rules.specs.declared.One.the-variants.{Word, Bad}
+use Rattle.rules.specs.declared.Status.{Status}
+use Rattle.rules.specs.declared.Status.the-variants.{Running, Ended, Stopped, Faulted}
+use Rattle.rules.specs.declared.Effect.{Effect}
+use Rattle.rules.specs.declared.Effect.the-variants.{Go, Put, Cell, Order, Probe, End, Wait}
+use Rattle.rules.specs.declared.Command.{Command}
+use Rattle.rules.specs.declared.Command.the-variants.{Nop, Halt, Plain, Load, Store, GoIf, GoReg, Look, StopIf, Keep, Event, Stray}
+use Rattle.rules.specs.Names.{mostInstructions, mostBundles, bundleLength, topKind, orders, noArrow, answer}
+use Rattle.rules.specs.Words.{strayFields, highFields, fieldSets, numberTops, judgeOf, judgeWord, judgeAt, kindOf, vOf, fieldsOf, routine, bundlesFor}
+use Rattle.rules.specs.Bytes.{sizeOf, weightOf, gap, mapOf, fieldsAt, oneFields, oneMap, oneOf, goOn, scanOf, countOf, readAnswer, weighOf, roomFor, writeAnswer}
+use Rattle.rules.specs.Layouts.{rightLayout}
+use Rattle.rules.specs.Policies.{Policy, rightPolicy}
+use Rattle.rules.specs.Commands.{fetchOf}
+use Rattle.rules.specs.Bundles.{baseRight, bundlesFrom, rewritten, commandsOf, commandCount, judgeFrom, placeAnswer, rewriteAnswer, countRight, passesAt, checkFrom, checkAnswer}
+use Rattle.rules.specs.Machines.{View, State, Ran, fits, installAnswer, regAt, entryOf, effectOf, applyOf, seen, nextOf, stepOf, endingOf, endedIn, unlessOver, unlessWait, runFrom, startOf, runOf}
+use Rattle.rules.specs.Loading.{wordsIn, orElse, loadAnswer}
+use Rattle.rules.proofs.Bools.{cond-ind, both}
+use Rattle.rules.proofs.Masks.{sizes}
+
+-- a routine is at most 2 bytes and 10 for each instruction
+abbrev pub mostBytes : ℕ
+mostBytes = 2 + 10 * mostInstructions
+
+abbrev pub mostCommands : ℕ
+mostCommands = bundleLength * mostBundles
+
+-- ---- answers
+
+-- the number fits a byte, the place is at most `most`, and at most `room` where nothing is refused
+pub record Bounded (most room : ℕ) (a : Answer) : Type 0 where
+  pub number : a .number < 2 ^ 8
+  pub place : a .place ≤ most
+  pub taken : a .number ≡ 0 → a .place ≤ room
+
+widen : {m r m′ r′ : ℕ} {a : Answer} → m ≤ m′ → r ≤ r′ → Bounded m r a → Bounded m′ r′ a
+widen h k b = record { number = b .number; place = omega (arith, b .place); taken = λ z. omega (arith, b .taken z) }
+
+-- at place 0
+at-start : (m r x : ℕ) → x < 2 ^ 8 → Bounded m r (answer x 0)
+at-start m r x h = record { number = h; place = omega arith; taken = λ _. omega arith }
+
+-- the first answer or the second
+or-else : (m r : ℕ) (a b : Answer) → a .number < 2 ^ 8 → a .place ≤ m → (a .number ≡ 0 → Bounded m r b) → Bounded m r (orElse a b)
+or-else m r a b h p q =
+    cond-ind (Bounded m r) (eqb (a .number) 0) (λ e. q (eqb-true _ _ e))
+    (λ e. record { number = h; place = p; taken = λ z. absurd (eqb-false _ _ e z) })
+
+-- ---- reading and writing
+
+judge-small : (x : ℕ) (f : Fields) → judgeOf x f < 2 ^ 8
+unfolding judgeOf
+judge-small x f =
+    cond-ind (λ (n : ℕ). n < 2 ^ 8) (ltb topKind (f .kind)) (λ _. lit< tt)
+    (λ _. cond-ind (λ (n : ℕ). n < 2 ^ 8) (eqb (x + strayFields (getD fieldSets (f .kind) 0) f) 0)
+    (λ _. cond-ind (λ (n : ℕ). n < 2 ^ 8) (eqb (highFields (getD numberTops (f .kind) 0) f) 0) (λ _. lit< tt) (λ _. lit< tt))
+    (λ _. lit< tt))
+
+abbrev SmallOne : One → Type 0
+SmallOne (Word w u) = Unit {0}
+SmallOne (Bad x) = x < 2 ^ 8
+
+one-small : (s : List ℕ) → SmallOne (oneOf s)
+unfolding oneOf oneMap oneFields
+one-small s =
+    cond-ind SmallOne (eqb (length s) 0) (λ _. lit< tt)
+    (λ _. cond-ind SmallOne (ltb 63 (getD s 0 0)) (λ _. lit< tt)
+    (λ _. cond-ind SmallOne (ltb (length s) (sizeOf (getD s 0 0))) (λ _. lit< tt)
+    (λ _. cond-ind SmallOne (eqb (judgeOf (gap (getD s 0 0) (mapOf (fieldsAt (getD s 0 0) s))) (fieldsAt (getD s 0 0) s)) 0) (λ _. tt)
+    (λ _. judge-small _ _))))
+
+-- place i of a refusal, and i + n of n instructions taken
+scan-bound : (n i m : ℕ) (s : List ℕ) → i + n ≤ m → Bounded m m (scanOf n i s)
+unfolding scanOf
+scan-bound zero i m s h =
+    cond-ind (Bounded m m) (eqb (length s) 0) (λ _. record { number = lit< tt; place = omega arith; taken = λ _. omega arith })
+    (λ _. at-start _ _ _ (lit< tt))
+scan-bound (suc n) i m s h = by (oneOf s) (one-small s) (λ u. scan-bound n (i + 1) m (drop u s) (omega arith))
+  where
+    by : (o : One) → SmallOne o → ((u : ℕ) → Bounded m m (scanOf n (i + 1) (drop u s))) → Bounded m m (goOn o i (λ u. scanOf n (i + 1) (drop u s)))
+    by (Word w u) q go = go u
+    by (Bad x) q go = record { number = q; place = omega arith; taken = λ _. omega arith }
+
+pub read-bound : (s : List ℕ) (room : ℕ) → Bounded mostInstructions room (readAnswer s room)
+unfolding readAnswer
+read-bound s room =
+    cond-ind (Bounded mostInstructions room) (ltb (length s) 2) (λ _. at-start _ _ _ (lit< tt))
+    (λ _. cond-ind (Bounded mostInstructions room) (ltb mostInstructions (countOf s)) (λ _. at-start _ _ _ (lit< tt))
+    (λ e. cond-ind (Bounded mostInstructions room) (ltb room (countOf s)) (λ _. at-start _ _ _ (lit< tt))
+    (λ f. widen (ltb-false _ _ e) (ltb-false _ _ f) (scan-bound (countOf s) 0 (countOf s) (drop 2 s) (omega arith)))))
+
+weight-bound : (f : Fields) → weightOf f ≤ 10
+weight-bound f = omega arith
+
+weigh-bound : (ws : List ℕ) (i z m : ℕ) → z + 10 * length ws ≤ m → i + length ws ≤ m → Bounded m m (weighOf ws i z)
+unfolding weighOf
+weigh-bound [] i z m h k = record { number = lit< tt; place = omega arith; taken = λ _. omega arith }
+weigh-bound (w ∷ ws) i z m h k =
+    cond-ind (Bounded m m) (eqb (judgeWord w) 0)
+    (λ _. weigh-bound ws (i + 1) (z + weightOf (fieldsOf w)) m (omega (arith, weight-bound (fieldsOf w))) (omega arith))
+    (λ _. record { number = judge-small _ _; place = omega arith; taken = λ _. omega arith })
+
+pub write-bound : (ws : List ℕ) (room : ℕ) → Bounded mostBytes room (writeAnswer ws room)
+unfolding writeAnswer roomFor
+write-bound ws room =
+    cond-ind (Bounded mostBytes room) (ltb mostInstructions (length ws)) (λ _. at-start _ _ _ (lit< tt))
+    (λ e. let n : length ws ≤ mostInstructions = ltb-false _ _ e in
+    let b = weigh-bound ws 0 2 mostBytes (omega arith) (omega arith) in
+    cond-ind (Bounded mostBytes room) (eqb (weighOf ws 0 2 .number) 0)
+    (λ _. cond-ind (Bounded mostBytes room) (ltb room (weighOf ws 0 2 .place)) (λ _. at-start _ _ _ (lit< tt))
+    (λ f. record { number = b .number; place = b .place; taken = λ _. ltb-false _ _ f }))
+    (λ f. record { number = b .number; place = b .place; taken = λ z. absurd (eqb-false _ _ f z) }))
+
+-- ---- rewriting and checking
+
+judge-at-small : (n w : ℕ) → judgeAt n w < 2 ^ 8
+unfolding judgeAt
+judge-at-small n w =
+    cond-ind (λ (x : ℕ). x < 2 ^ 8) (eqb (judgeWord w) 0)
+    (λ _. cond-ind (λ (x : ℕ). x < 2 ^ 8) (eqb (kindOf w) 10 && ltb n (vOf w)) (λ _. lit< tt) (λ _. lit< tt))
+    (λ _. judge-small _ _)
+
+judge-bound : (n : ℕ) (ws : List ℕ) (i m r : ℕ) (z : Answer) → i + length ws ≤ m → Bounded m r z → Bounded m r (judgeFrom n ws i z)
+unfolding judgeFrom
+judge-bound n [] i m r z h b = b
+judge-bound n (w ∷ ws) i m r z h b =
+    cond-ind (Bounded m r) (eqb (judgeAt n w) 0) (λ _. judge-bound n ws (i + 1) m r z (omega arith) b)
+    (λ e. record { number = judge-at-small n w; place = omega arith; taken = λ y. absurd (eqb-false _ _ e y) })
+
+-- at most 1,024 bundles
+pub count-bound : (n : ℕ) → n ≤ mostInstructions → commandCount n ≤ mostCommands
+count-bound n h = omega (arith, sizes n (omega arith) .least 10 (omega arith))
+
+length-bundles : (lay : Layout) (n : ℕ) (is : ℕ → Instr) (h m : ℕ) → length (bundlesFrom lay n is h m) ≡ bundleLength * m
+length-bundles lay n is h zero = refl
+length-bundles lay n is h (suc m) = omega (arith, length-bundles lay n is (suc h) m)
+
+pub length-commands : (lay : Layout) (ws : List ℕ) → length (commandsOf lay ws) ≡ commandCount (length ws)
+unfolding rewritten
+length-commands lay ws = length-bundles lay (bundlesFor (length ws)) (routine ws) 0 (bundlesFor (length ws))
+
+pub rewrite-bound : (lay : Layout) (ws : List ℕ) (room : ℕ) → Bounded mostCommands room (rewriteAnswer lay ws room)
+unfolding rewriteAnswer placeAnswer
+rewrite-bound lay ws room =
+    cond-ind (Bounded mostCommands room) (rightLayout lay)
+    (λ _. cond-ind (Bounded mostCommands room) (ltb mostInstructions (length ws)) (λ _. at-start _ _ _ (lit< tt))
+    (λ e. let n : length ws ≤ mostInstructions = ltb-false _ _ e in
+    judge-bound (length ws) ws 0 mostCommands room _ (omega arith)
+    (cond-ind (Bounded mostCommands room) (baseRight lay (bundlesFor (length ws)))
+    (λ _. cond-ind (Bounded mostCommands room) (ltb room (commandCount (length ws))) (λ _. at-start _ _ _ (lit< tt))
+    (λ f. record { number = lit< tt; place = count-bound (length ws) n; taken = λ _. ltb-false _ _ f }))
+    (λ _. at-start _ _ _ (lit< tt)))))
+    (λ _. at-start _ _ _ (lit< tt))
+
+-- words that rewriting takes: 4N commands are written
+module _ (n : ℕ) (a : Answer) where
+  abbrev Takes : Answer → Type 0
+  Takes b = b .number ≡ 0 → b ≡ a
+
+  judge-taken : (ws : List ℕ) (i : ℕ) (z : Answer) → Takes z → Takes (judgeFrom n ws i z)
+  unfolding judgeFrom
+  judge-taken [] i z h = h
+  judge-taken (w ∷ ws) i z h =
+      cond-ind Takes (eqb (judgeAt n w) 0) (λ _. judge-taken ws (i + 1) z h) (λ e y. absurd (eqb-false _ _ e y))
+
+pub rewrite-taken : (lay : Layout) (ws : List ℕ) (room : ℕ) → rewriteAnswer lay ws room .number ≡ 0 → rewriteAnswer lay ws room ≡ answer 0 (commandCount (length ws))
+unfolding rewriteAnswer placeAnswer
+rewrite-taken lay ws room =
+    let a = answer 0 (commandCount (length ws)) in
+    let T = Takes 0 a in
+    cond-ind T (rightLayout lay)
+    (λ _. cond-ind T (ltb mostInstructions (length ws)) (λ _ z. absurd (omega arith))
+    (λ _. judge-taken (length ws) a ws 0 _
+    (cond-ind T (baseRight lay (bundlesFor (length ws)))
+    (λ _. cond-ind T (ltb room (commandCount (length ws))) (λ _ z. absurd (omega arith)) (λ _ _. refl))
+    (λ _ z. absurd (omega arith)))))
+    (λ _ z. absurd (omega arith))
+
+check-from-bound : (lay : Layout) (n : ℕ) (ws : List ℕ) (h m top : ℕ) → h + m ≤ top + 1 → Bounded top 0 (checkFrom lay n ws h m)
+unfolding checkFrom
+check-from-bound lay n ws h zero top k = at-start _ _ _ (lit< tt)
+check-from-bound lay n ws h (suc m) top k =
+    cond-ind (Bounded top 0) (passesAt lay n ws h) (λ _. check-from-bound lay n ws (h + 1) m top (omega arith))
+    (λ _. record { number = lit< tt; place = omega arith; taken = λ z. omega arith })
+
+pub check-bound : (lay : Layout) (ws : List ℕ) → Bounded mostInstructions 0 (checkAnswer lay ws)
+unfolding checkAnswer
+check-bound lay ws =
+    cond-ind (Bounded mostInstructions 0) (rightLayout lay)
+    (λ _. cond-ind (Bounded mostInstructions 0) (countRight (length ws))
+    (λ e. let l : length ws ≤ mostCommands = leb-true _ _ (both _ _ (both _ _ e .0) .0) in
+    cond-ind (Bounded mostInstructions 0) (baseRight lay (length ws / bundleLength))
+    (λ _. check-from-bound lay (length ws / bundleLength) ws 0 (length ws / bundleLength) mostInstructions (omega arith))
+    (λ _. at-start _ _ _ (lit< tt)))
+    (λ _. at-start _ _ _ (lit< tt)))
+    (λ _. at-start _ _ _ (lit< tt))
+
+-- ---- installing and loading
+
+pub install-bound : (lay : Layout) (pol : Policy) (mem : List ℕ) → Bounded 0 0 (installAnswer lay pol mem)
+unfolding installAnswer
+install-bound lay pol mem =
+    cond-ind (Bounded 0 0) (fits lay mem)
+    (λ _. cond-ind (Bounded 0 0) (rightPolicy lay pol) (λ _. at-start _ _ _ (lit< tt)) (λ _. at-start _ _ _ (lit< tt)))
+    (λ _. at-start _ _ _ (lit< tt))
+
+pub load-bound : (lay : Layout) (pol : Policy) (s : List ℕ) (room : ℕ) (mem : List ℕ) → Bounded mostCommands room (loadAnswer lay pol s room mem)
+unfolding loadAnswer
+load-bound lay pol s room mem =
+    let ws = wordsIn s in
+    let b = rewrite-bound lay ws room in
+    or-else _ _ (readAnswer s mostInstructions) _ (read-bound s _ .number) (omega (arith, read-bound s mostInstructions .place))
+    (λ _. or-else _ _ (rewriteAnswer lay ws room) _ (b .number) (b .place)
+    (λ z. let e : commandCount (length ws) ≡ rewriteAnswer lay ws room .place = ap (λ (x : Answer). x .place) (sym (rewrite-taken lay ws room z)) in
+    or-else _ _ (checkAnswer lay (commandsOf lay ws)) _ (check-bound lay _ .number) (omega (arith, check-bound lay (commandsOf lay ws) .place))
+    (λ _. or-else _ _ (installAnswer lay pol mem) _ (install-bound lay pol mem .number) (omega (arith, install-bound lay pol mem .place))
+    (λ _. record { number = lit< tt; place = omega (arith, b .place); taken = λ _. omega (arith, b .taken z) }))))
+
+-- ---- a run
+
+-- an event is let through only with two free cells
+abbrev Room : ℕ → Effect → Type 0
+Room free (Go to) = Unit {0}
+Room free (Put d x) = Unit {0}
+Room free (Cell i x) = Unit {0}
+Room free (Order v) = 2 ≤ free
+Room free (Probe v) = 2 ≤ free
+Room free (End t) = Unit {0}
+Room free (Wait e) = Unit {0}
+
+room : (c : Command) (s : View) → Room (s .free) (effectOf c s)
+unfolding effectOf
+room Nop s = tt
+room Halt s = tt
+room (Plain k d a b v) s = tt
+room (Load d a) s = cond-ind (Room (s .free)) (ltb (regAt s a) (length (s .mem))) (λ _. tt) (λ _. tt)
+room (Store a b) s = cond-ind (Room (s .free)) (ltb (regAt s a) (length (s .mem))) (λ _. tt) (λ _. tt)
+room (GoIf a b c v) s = tt
+room (GoReg d a b c) s = tt
+room (Look d v) s =
+    cond-ind (Room (s .free)) (ltb (s .cell) (length (s .mem)))
+    (λ _. cond-ind (Room (s .free)) (ltb (entryOf s v) (length (s .mem))) (λ _. tt) (λ _. tt)) (λ _. tt)
+room (StopIf d) s = cond-ind (Room (s .free)) (eqb (regAt s d) noArrow) (λ _. tt) (λ _. tt)
+room (Keep d) s = cond-ind (Room (s .free)) (ltb (s .cell) (length (s .mem))) (λ _. tt) (λ _. tt)
+room (Event v) s =
+    cond-ind (Room (s .free)) (ltb (s .free) 2) (λ _. tt)
+    (λ f. cond-ind (Room (s .free)) (ltb v orders) (λ _. ltb-false _ _ f)
+    (λ _. cond-ind (Room (s .free)) (eqb (s .left) 0) (λ _. tt) (λ _. ltb-false _ _ f)))
+room Stray s = tt
+
+-- pairs and readings of a state: pairs lie in the log of g cells, and at most n more than p and u come
+pub record Counted (g p u : ℕ) (s : State) : Type 0 where
+  pub log : length (s .log) ≡ g
+  pub pairs : s .pairs ≤ p
+  pub used : s .used ≤ u
+  pub room : 2 * s .pairs ≤ g
+
+-- one step adds at most one
+step-counts : (g p u : ℕ) (rd : List ℕ) (e : Effect) (s : State) → Counted g p u s → Room (length (s .log) - 2 * s .pairs) e → Counted g (p + 1) (u + 1) (applyOf rd e s)
+unfolding applyOf
+step-counts g p u rd (Go to) s b r = record { log = b .log; pairs = omega arith; used = omega arith; room = b .room }
+step-counts g p u rd (Put d x) s b r = record { log = b .log; pairs = omega arith; used = omega arith; room = b .room }
+step-counts g p u rd (Cell i x) s b r = record { log = b .log; pairs = omega arith; used = omega arith; room = b .room }
+step-counts g p u rd (Order v) s b r =
+    record { log = simp length-set (b .log); pairs = omega arith; used = omega arith; room = omega arith }
+step-counts g p u rd (Probe v) s b r =
+    record { log = simp length-set (b .log); pairs = omega arith; used = omega arith; room = omega arith }
+step-counts g p u rd (End t) s b r = record { log = b .log; pairs = omega arith; used = omega arith; room = b .room }
+step-counts g p u rd (Wait e) s b r = record { log = b .log; pairs = omega arith; used = omega arith; room = b .room }
+
+-- a run's counts: at most n steps, pairs and readings, the pairs within the log of g cells
+pub record RunCounts (g n : ℕ) (r : Ran) : Type 0 where
+  pub steps : r .outcome .answer .steps ≤ n
+  pub pairs : r .outcome .answer .pairs ≤ n
+  pub used : r .outcome .answer .used ≤ n
+  pub room : 2 * r .outcome .answer .pairs ≤ g
+  pub log : length (r .log) ≡ g
+
+over-counts : (g n k : ℕ) (t : Status) (s : State) (r : Ran) → k ≤ n → Counted g k k s → RunCounts g n r → RunCounts g n (unlessOver t (endedIn (endingOf (s .status)) k s) r)
+over-counts g n k Running s r h b q = q
+over-counts g n k Ended s r h b q = record { steps = h; pairs = omega arith; used = omega arith; room = b .room; log = b .log }
+over-counts g n k Stopped s r h b q = record { steps = h; pairs = omega arith; used = omega arith; room = b .room; log = b .log }
+over-counts g n k Faulted s r h b q = record { steps = h; pairs = omega arith; used = omega arith; room = b .room; log = b .log }
+
+wait-counts : (g n k : ℕ) (e : Effect) (s : State) (r : Ran) → k ≤ n → Counted g k k s → RunCounts g n r → RunCounts g n (unlessWait e (λ d. endedIn d k s) r)
+wait-counts g n k (Wait e) s r h b q = record { steps = h; pairs = omega arith; used = omega arith; room = b .room; log = b .log }
+wait-counts g n k (Go to) s r h b q = q
+wait-counts g n k (Put d x) s r h b q = q
+wait-counts g n k (Cell i x) s r h b q = q
+wait-counts g n k (Order v) s r h b q = q
+wait-counts g n k (Probe v) s r h b q = q
+wait-counts g n k (End t) s r h b q = q
+
+from-counts : (lay : Layout) (ws rd : List ℕ) (g n m k : ℕ) (s : State) → k + m ≤ n → Counted g k k s → RunCounts g n (runFrom lay ws rd m k s)
+unfolding runFrom
+from-counts lay ws rd g n zero k s h b = record { steps = omega arith; pairs = omega arith; used = omega arith; room = b .room; log = b .log }
+from-counts lay ws rd g n (suc m) k s h b =
+    over-counts g n k (s .status) s _ (omega arith) b
+    (wait-counts g n k (nextOf lay ws rd s) s _ (omega arith) b
+    (from-counts lay ws rd g n m (k + 1) (stepOf lay ws rd s) (omega arith)
+    (step-counts g k k rd (nextOf lay ws rd s) s b (room (fetchOf ws (lay .base) (s .pc)) (seen lay rd s)))))
+
+pub run-counts : (lay : Layout) (ws : List ℕ) (m : Machine) (mem : List ℕ) (budget : ℕ) (rd log : List ℕ) → RunCounts (length log) budget (runOf lay ws m mem budget rd log)
+unfolding runOf
+run-counts lay ws m mem budget rd log =
+    cond-ind (RunCounts (length log) budget) (fits lay mem)
+    (λ _. from-counts lay ws rd (length log) budget budget 0 (startOf m mem log) (omega arith)
+    (record { log = refl; pairs = omega arith; used = omega arith; room = omega arith }))
+    (λ _. record { steps = omega arith; pairs = omega arith; used = omega arith; room = omega arith; log = refl })

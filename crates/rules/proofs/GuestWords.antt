@@ -1,0 +1,174 @@
+-- The guest words that rewriting takes: their instructions are valid, and every valid instruction has one.
+use mathlib.Core.Path.{_≡_, refl, _∙_}
+use mathlib.Core.Bool.{_&&_, cond}
+use Prim.Native.Nat.{ℕ, zero, suc, _+_, _-_, _/_, _%_, _<_, _≤_}
+use native.Mathlib.Nat.{zero-add}
+use native.Mathlib.Omega.{arith}
+use borrow.Author.Tests.{ltb-true, ltb-false, eqb-true, eqb-false, lt-ltb, le-ltb, eq-eqb, ne-eqb}
+use lib.Dec.{eqb, ltb}
+use lib.ListN.{getD}
+use Rattle.rules.specs.declared.Fields.{Fields}
+use Rattle.rules.specs.declared.Instr.{Instr}
+use Rattle.rules.specs.declared.Instr.the-variants.{HALT, PLAIN, LOAD, STORE, GOIF, GOX, EVENT}
+use Rattle.rules.specs.declared.Refusal.the-variants.{Taken, BadLanding}
+use Rattle.rules.specs.Names.{topGuest, topCondition, topKind, guestRegisters, mostInstructions, numberOf}
+use Rattle.rules.specs.Words.{kindOf, vOf, zeroOf, fieldsOf, packOf, fieldSets, numberTops, bitOf, strayFields, highFields, judgeOf, judgeWord, judgeAt, instrOf}
+use Rattle.rules.specs.Commands.{limitsOf}
+use Rattle.rules.proofs.Facts.{Valid}
+use Rattle.rules.proofs.Bools.{both, cond-ind}
+use Rattle.rules.proofs.WordLaws.{bounds, lacks-a, lacks-b, lacks-v}
+use Rattle.rules.proofs.Packing.{InBits, pack-kind, pack-d, pack-a, pack-b, pack-c, pack-zero, pack-v}
+
+-- ---- the instruction of a taken word is valid
+
+-- a landing that 8 does not refuse
+landing : (n k v : ℕ) → cond (eqb k 10 && ltb n v) (numberOf BadLanding) (numberOf Taken) ≡ 0 → k ≡ 10 → v ≤ n
+landing n k v e ten =
+    cond-ind (λ (x : ℕ). x ≡ 0 → v ≤ n) (eqb k 10 && ltb n v) (λ _ z. absurd (omega arith)) (λ l _. ltb-false n v (rw (eq-eqb k 10 ten) at l)) e
+
+taken-word : (n w : ℕ) → judgeAt n w ≡ 0 → (judgeWord w ≡ 0) × (kindOf w ≡ 10 → vOf w ≤ n)
+unfolding judgeAt
+taken-word n w =
+    cond-ind (λ (x : ℕ). x ≡ 0 → (judgeWord w ≡ 0) × (kindOf w ≡ 10 → vOf w ≤ n)) (eqb (judgeWord w) 0)
+    (λ h e. (eqb-true _ _ h, landing n (kindOf w) (vOf w) e)) (λ h e. absurd (eqb-false _ _ h e))
+
+abbrev fields : ℕ → ℕ → ℕ → ℕ → ℕ → ℕ → Fields
+fields k d a b c v = record { kind = k; d = d; a = a; b = b; c = c; v = v }
+
+-- the tables of a guest's plain kinds and of the commands that they become agree
+plain-limits : (x k d a b c v : ℕ) → judgeOf x (fields k d a b c v) ≡ 0 → 1 ≤ k → k < 8 → (d ≤ limitsOf (k + 1) .d) × (a ≤ limitsOf (k + 1) .a) × (b ≤ limitsOf (k + 1) .b) × (v ≤ limitsOf (k + 1) .v)
+plain-limits x zero d a b c v e l h = absurd (omega arith)
+plain-limits x (suc zero) d a b c v e l h = omega (arith, bounds x _ e, lacks-a x _ e refl, lacks-b x _ e refl)
+plain-limits x (suc (suc zero)) d a b c v e l h = omega (arith, bounds x _ e, lacks-b x _ e refl, lacks-v x _ e refl)
+plain-limits x (suc (suc (suc zero))) d a b c v e l h = omega (arith, bounds x _ e, lacks-v x _ e refl)
+plain-limits x (suc (suc (suc (suc zero)))) d a b c v e l h = omega (arith, bounds x _ e, lacks-v x _ e refl)
+plain-limits x (suc (suc (suc (suc (suc zero))))) d a b c v e l h = omega (arith, bounds x _ e, lacks-v x _ e refl)
+plain-limits x (suc (suc (suc (suc (suc (suc zero)))))) d a b c v e l h = omega (arith, bounds x _ e, lacks-v x _ e refl)
+plain-limits x (suc (suc (suc (suc (suc (suc (suc zero))))))) d a b c v e l h = omega (arith, bounds x _ e, lacks-b x _ e refl)
+plain-limits x (suc (suc (suc (suc (suc (suc (suc (suc k)))))))) d a b c v e l h = absurd (omega arith)
+
+-- EVENT's number
+event-top : (k v : ℕ) → k ≡ 12 → v ≤ getD numberTops k 0 → v < 16
+event-top k v e h = let t : v ≤ getD numberTops 12 0 = rw e at h in omega arith
+
+pub taken-valid : (n w : ℕ) → judgeAt n w ≡ 0 → Valid (n + 1) (instrOf w)
+unfolding instrOf
+taken-valid n w e =
+    let t = taken-word n w e in
+    let g = bounds (zeroOf w) (fieldsOf w) (t .0) in
+    let hd = g .d in
+    let ha = g .a in
+    let hb = g .b in
+    let hc = g .c in
+    let k = kindOf w in
+    cond-ind (Valid (n + 1)) (eqb k 0) (λ _. tt) (λ h0.
+    cond-ind (Valid (n + 1)) (ltb k 8) (λ h1.
+    let l : 1 ≤ k = omega (arith, eqb-false k 0 h0) in
+    let u : k < 8 = ltb-true k 8 h1 in
+    let p = plain-limits (zeroOf w) k _ _ _ _ _ (t .0) l u in
+    (l, omega arith, omega arith, omega arith, omega arith, p .0, p .1, p .2, p .3)) (λ h1.
+    cond-ind (Valid (n + 1)) (eqb k 8) (λ _. (omega arith, omega arith)) (λ h2.
+    cond-ind (Valid (n + 1)) (eqb k 9) (λ _. (omega arith, omega arith)) (λ h3.
+    cond-ind (Valid (n + 1)) (eqb k 10) (λ h4. (omega arith, omega arith, hc, omega (arith, t .1 (eqb-true k 10 h4)))) (λ h4.
+    cond-ind (Valid (n + 1)) (eqb k 11) (λ _. (omega arith, omega arith, omega arith, hc)) (λ h5.
+    event-top k (vOf w)
+    (omega (arith, g .kind, ltb-false k 8 h1, eqb-false k 8 h2, eqb-false k 9 h3, eqb-false k 10 h4, eqb-false k 11 h5))
+    (g .v)))))))
+
+-- ---- the guest word of an instruction
+
+abbrev pub guestWord : Instr → ℕ
+guestWord HALT = packOf 0 0 0 0 0 0
+guestWord (PLAIN k d a b v) = packOf k d a b 0 v
+guestWord (LOAD d a) = packOf 8 d a 0 0 0
+guestWord (STORE a b) = packOf 9 0 a b 0 0
+guestWord (GOIF a b c v) = packOf 10 0 a b c v
+guestWord (GOX d a b c) = packOf 11 d a b c 0
+guestWord (EVENT e) = packOf 12 0 0 0 0 e
+
+-- a field where its kind has one, and one that it lacks
+has : (x : ℕ) → bitOf x - 1 ≡ 0
+has x = omega arith
+
+lacks : (x : ℕ) → x ≤ 0 → bitOf x - 0 ≡ 0
+lacks x h = omega arith
+
+low : (x top : ℕ) → x ≤ top → bitOf (x - top) ≡ 0
+low x top h = omega arith
+
+sum-zero : (a b c d e : ℕ) → (a ≡ 0) × (b ≡ 0) × (c ≡ 0) × (d ≡ 0) × (e ≡ 0) → a + b + c + d + e ≡ 0
+sum-zero a b c d e h = omega arith
+
+-- no stray field, none above its bound, and a landing up to n
+abbrev Fine : ℕ → ℕ → ℕ → ℕ → ℕ → ℕ → ℕ → Type 0
+Fine n k d a b c v =
+    let set = getD fieldSets k 0 in
+    (k ≤ topKind)
+    × ((bitOf d - set / 2 % 2 ≡ 0) × (bitOf a - set / 4 % 2 ≡ 0) × (bitOf b - set / 8 % 2 ≡ 0) × (bitOf c - set / 16 % 2 ≡ 0) × (bitOf v - set / 32 % 2 ≡ 0))
+    × ((d ≤ topGuest) × (a ≤ topGuest) × (b ≤ topGuest) × (c ≤ topCondition) × (v ≤ getD numberTops k 0))
+    × (k ≡ 10 → v ≤ n)
+
+lands : (n k v : ℕ) → (k ≡ 10 → v ≤ n) → cond (eqb k 10 && ltb n v) (numberOf BadLanding) (numberOf Taken) ≡ 0
+lands n k v f =
+    cond-ind (λ (y : ℕ). y ≡ 0) (eqb k 10 && ltb n v)
+    (λ e. let t = both _ _ e in absurd (let l = f (eqb-true k 10 (t .0)) in let m = ltb-true n v (t .1) in omega arith))
+    (λ e. refl)
+
+pack-judged : (n k d a b c v : ℕ) → InBits k d a b c → Fine n k d a b c v → judgeAt n (packOf k d a b c v) ≡ 0
+unfolding judgeAt judgeOf
+pack-judged n k d a b c v h g =
+    let f = fields k d a b c v in
+    let t = g .2 in
+    let stray : 0 + strayFields (getD fieldSets k 0) f ≡ 0 = zero-add _ ∙ sum-zero _ _ _ _ _ (g .1) in
+    let high : highFields (getD numberTops k 0) f ≡ 0 = sum-zero _ _ _ _ _ (low _ _ (t .0), low _ _ (t .1), low _ _ (t .2), low _ _ (t .3), low _ _ (t .4)) in
+    rw (pack-kind k d a b c v h, pack-d k d a b c v h, pack-a k d a b c v h, pack-b k d a b c v h, pack-c k d a b c v h, pack-zero k d a b c v h, pack-v k d a b c v h)
+    (rw (le-ltb topKind k (g .0), eq-eqb _ 0 stray, eq-eqb _ 0 high) (lands n k v (g .3)))
+
+-- the plain kinds
+plain-fine : (n k d a b v : ℕ) → 1 ≤ k → k ≤ 7 → d < guestRegisters → a < guestRegisters → b < guestRegisters → a ≤ limitsOf (k + 1) .a → b ≤ limitsOf (k + 1) .b → v ≤ limitsOf (k + 1) .v → Fine n k d a b 0 v
+plain-fine n zero d a b v l h hd ha hb la lb lv = absurd (omega arith)
+plain-fine n (suc zero) d a b v l h hd ha hb la lb lv = (omega arith, (has d, lacks a la, lacks b lb, refl, has v), omega arith, λ e. omega arith)
+plain-fine n (suc (suc zero)) d a b v l h hd ha hb la lb lv = (omega arith, (has d, has a, lacks b lb, refl, lacks v lv), omega arith, λ e. omega arith)
+plain-fine n (suc (suc (suc zero))) d a b v l h hd ha hb la lb lv = (omega arith, (has d, has a, has b, refl, lacks v lv), omega arith, λ e. omega arith)
+plain-fine n (suc (suc (suc (suc zero)))) d a b v l h hd ha hb la lb lv = (omega arith, (has d, has a, has b, refl, lacks v lv), omega arith, λ e. omega arith)
+plain-fine n (suc (suc (suc (suc (suc zero))))) d a b v l h hd ha hb la lb lv = (omega arith, (has d, has a, has b, refl, lacks v lv), omega arith, λ e. omega arith)
+plain-fine n (suc (suc (suc (suc (suc (suc zero)))))) d a b v l h hd ha hb la lb lv = (omega arith, (has d, has a, has b, refl, lacks v lv), omega arith, λ e. omega arith)
+plain-fine n (suc (suc (suc (suc (suc (suc (suc zero))))))) d a b v l h hd ha hb la lb lv = (omega arith, (has d, has a, lacks b lb, refl, has v), omega arith, λ e. omega arith)
+plain-fine n (suc (suc (suc (suc (suc (suc (suc (suc k)))))))) d a b v l h hd ha hb la lb lv = absurd (omega arith)
+
+-- of n + 1 bundles at most, a valid instruction's word is taken among n
+pub guest-taken : (n : ℕ) → n ≤ mostInstructions → (i : Instr) → Valid (n + 1) i → judgeAt n (guestWord i) ≡ 0
+guest-taken n m HALT g = pack-judged n 0 0 0 0 0 0 (omega arith) (omega arith, (refl, refl, refl, refl, refl), omega arith, λ e. omega arith)
+guest-taken n m (PLAIN k d a b v) g =
+    pack-judged n k d a b 0 v (omega arith) (plain-fine n k d a b v (g .0) (g .1) (g .2) (g .3) (g .4) (g .6) (g .7) (g .8))
+guest-taken n m (LOAD d a) g =
+    pack-judged n 8 d a 0 0 0 (omega arith) (omega arith, (has d, has a, refl, refl, refl), omega arith, λ e. omega arith)
+guest-taken n m (STORE a b) g =
+    pack-judged n 9 0 a b 0 0 (omega arith) (omega arith, (refl, has a, has b, refl, refl), omega arith, λ e. omega arith)
+guest-taken n m (GOIF a b c v) g =
+    pack-judged n 10 0 a b c v (omega arith) (omega arith, (refl, has a, has b, has c, has v), omega arith, λ e. omega arith)
+guest-taken n m (GOX d a b c) g =
+    pack-judged n 11 d a b c 0 (omega arith) (omega arith, (has d, has a, has b, has c, refl), omega arith, λ e. omega arith)
+guest-taken n m (EVENT v) g =
+    pack-judged n 12 0 0 0 0 v (omega arith) (omega arith, (refl, refl, refl, refl, has v), omega arith, λ e. omega arith)
+
+-- and stands for it
+abbrev instrAt : ℕ → ℕ → ℕ → ℕ → ℕ → ℕ → Instr
+instrAt k d a b c v =
+    cond (eqb k 0) HALT
+    (cond (ltb k 8) (PLAIN k d a b v)
+    (cond (eqb k 8) (LOAD d a) (cond (eqb k 9) (STORE a b) (cond (eqb k 10) (GOIF a b c v) (cond (eqb k 11) (GOX d a b c) (EVENT v))))))
+
+pack-instr : (k d a b c v : ℕ) → InBits k d a b c → instrOf (packOf k d a b c v) ≡ instrAt k d a b c v
+unfolding instrOf
+pack-instr k d a b c v h =
+    rw (pack-kind k d a b c v h, pack-d k d a b c v h, pack-a k d a b c v h, pack-b k d a b c v h, pack-c k d a b c v h, pack-v k d a b c v h)
+
+pub guest-instr : (n : ℕ) (i : Instr) → Valid n i → instrOf (guestWord i) ≡ i
+guest-instr n HALT g = pack-instr 0 0 0 0 0 0 (omega arith)
+guest-instr n (PLAIN k d a b v) g = pack-instr k d a b 0 v (omega arith) ∙ rw (ne-eqb k 0 (omega arith), lt-ltb k 8 (omega arith))
+guest-instr n (LOAD d a) g = pack-instr 8 d a 0 0 0 (omega arith)
+guest-instr n (STORE a b) g = pack-instr 9 0 a b 0 0 (omega arith)
+guest-instr n (GOIF a b c v) g = pack-instr 10 0 a b c v (omega arith)
+guest-instr n (GOX d a b c) g = pack-instr 11 d a b c 0 (omega arith)
+guest-instr n (EVENT v) g = pack-instr 12 0 0 0 0 v (omega arith)

@@ -1,0 +1,63 @@
+-- The claims over lists of runs, from what the parts answered: guest rule, state cell, isolation.
+use mathlib.Core.Path.{_≡_, sym, subst}
+use mathlib.Core.List.{List, []}
+use Prim.Native.Nat.{ℕ, _/_}
+use lib.ListN.{length}
+use Rattle.rules.specs.declared.Layout.{Layout}
+use Rattle.rules.specs.declared.Instr.{Instr}
+use Rattle.rules.specs.declared.Machine.{Machine}
+use Rattle.rules.specs.Names.{bundleLength}
+use Rattle.rules.specs.Policies.{Policy}
+use Rattle.rules.specs.Words.{routine, bundlesFor}
+use Rattle.rules.specs.Bundles.{commandsOf, bundleAt}
+use Rattle.rules.specs.Machines.{installAnswer, installMemory}
+use Rattle.rules.specs.Guests.{guestStart}
+use Rattle.rules.specs.Runs.{Given, carriedOf, atFirst, after, Lends, Served}
+use Rattle.rules.specs.Claims.{GuestRule, StateCell, Isolation}
+use Rattle.rules.proofs.Facts.{Right, Bundled, Laid}
+use Rattle.rules.proofs.Conditions.{bundled-of, right-of, laid-of, machine-of, bundled-routine, right-routine}
+use Rattle.rules.proofs.Sim.{Stays}
+use Rattle.rules.proofs.Track.{stays-runs, install, agrees-after, cell-laws, allowed-runs, sound-runs, kept-runs}
+use Rattle.rules.proofs.Twins.{alone}
+
+-- the guest tracks an installation that answered 0
+at-first : (lay : Layout) (pol : Policy) (ws mem : List ℕ) (n : ℕ) (is : ℕ → Instr) → Right lay pol n → Bundled lay ws n is → installAnswer lay pol mem .number ≡ 0 → Stays lay pol n is (guestStart lay pol (installMemory lay pol mem)) (atFirst lay pol mem)
+at-first lay pol ws mem n is ok bs z =
+    subst (λ (m : Machine). Stays lay pol n is (guestStart lay pol (installMemory lay pol mem)) (carriedOf m (installMemory lay pol mem) [] [] 0)) (sym (machine-of lay pol mem z))
+    (install lay pol ws n is ok bs (installMemory lay pol mem) (laid-of lay pol mem z))
+
+-- and a list of runs from it
+stays : (lay : Layout) (pol : Policy) (ws mem : List ℕ) (gs : List Given) (n : ℕ) (is : ℕ → Instr) → Right lay pol n → Bundled lay ws n is → Served lay pol ws mem gs → Stays lay pol n is (guestStart lay pol (installMemory lay pol mem)) (after lay pol ws mem gs)
+stays lay pol ws mem gs n is ok bs v =
+    stays-runs lay pol ws n is ok bs (guestStart lay pol (installMemory lay pol mem)) (atFirst lay pol mem) gs (v .lends) (at-first lay pol ws mem n is ok bs (v .installed))
+
+pub guest-rule : GuestRule
+guest-rule lay pol code mem room gs z v x =
+    let n = bundlesFor (length code) in
+    let ok = right-routine lay pol code mem room z (v .installed) in
+    let bs = bundled-routine lay code room z in
+    agrees-after lay pol (commandsOf lay code) n (routine code) ok bs _ (after lay pol (commandsOf lay code) mem gs) x
+    (stays lay pol (commandsOf lay code) mem gs n (routine code) ok bs v)
+
+pub state-cell : StateCell
+state-cell lay pol ws mem gs v =
+    let n = length ws / bundleLength in
+    let is = bundleAt lay ws in
+    let ok = right-of lay pol ws mem (v .passed) (v .installed) in
+    let bs = bundled-of lay ws (v .passed) in
+    cell-laws lay pol ws n is ok bs (guestStart lay pol (installMemory lay pol mem)) (after lay pol ws mem gs) (stays lay pol ws mem gs n is ok bs v)
+
+pub isolation : Isolation
+isolation lay pol ws mem gs v =
+    let n = length ws / bundleLength in
+    let is = bundleAt lay ws in
+    let ok = right-of lay pol ws mem (v .passed) (v .installed) in
+    let bs = bundled-of lay ws (v .passed) in
+    let g0 = guestStart lay pol (installMemory lay pol mem) in
+    let w = at-first lay pol ws mem n is ok bs (v .installed) in
+    record {
+      sound = sound-runs lay pol ws n is ok bs g0 (atFirst lay pol mem) gs (v .lends) w;
+      kept = kept-runs lay pol ws n is ok bs g0 (atFirst lay pol mem) gs (v .lends) w;
+      allowed = allowed-runs lay pol ws n is ok bs g0 (after lay pol ws mem gs) (stays lay pol ws mem gs n is ok bs v);
+      alone = alone lay pol ws mem gs n is ok bs (laid-of lay pol mem (v .installed)) v;
+    }

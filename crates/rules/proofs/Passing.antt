@@ -1,0 +1,211 @@
+-- The checker passes exactly what the rewriter writes.
+use mathlib.Core.Path.{_≡_, refl, sym, _∙_, ap, ap₂}
+use mathlib.Core.Bool.{true, false, _||_}
+use mathlib.Core.Logic.{⊎-elim}
+use mathlib.Core.List.{List, [], _∷_}
+use Prim.Native.Nat.{ℕ, zero, suc, _+_, _-_, _*_, _/_, _%_, _^_, _<_, _≤_}
+use native.Mathlib.Omega.{arith}
+use borrow.Author.Tests.{ltb-true, ltb-false, lt-ltb, le-ltb, le-leb, eq-eqb, ne-eqb}
+use lib.Dec.{ltb}
+use lib.Count.{trailingZeros}
+use lib.ListN.{length, getD}
+use lib.Seq.{ext-getD}
+use Rattle.rules.specs.declared.Layout.{Layout}
+use Rattle.rules.specs.declared.Answer.{Answer}
+use Rattle.rules.specs.declared.Instr.{Instr}
+use Rattle.rules.specs.declared.Instr.the-variants.{HALT, PLAIN, LOAD, STORE, GOIF, GOX, EVENT}
+use Rattle.rules.specs.Names.{mostInstructions, mostBundles, bundleLength, hidden, guestRegisters, topCondition, events, answer}
+use Rattle.rules.specs.Words.{judgeAt, instrOf, routine, bundlesFor}
+use Rattle.rules.specs.Commands.{limitsOf, wordOf}
+use Rattle.rules.specs.Bundles.{addressOf, shapeOf, bundleWord, commandsOf, commandCount, judgeFrom, placeAnswer, rewriteAnswer, valid, readOff, bundleAt, isBundle, shapedAt, isHalt, passesAt, checkFrom, checkAnswer}
+use Rattle.rules.specs.Claims.{RewrittenPasses, Rewrites, PassedRewrites}
+use Rattle.rules.proofs.Facts.{Valid}
+use Rattle.rules.proofs.Bools.{cases}
+use Rattle.rules.proofs.Masks.{one-bit, sizes}
+use Rattle.rules.proofs.Packing.{pack-kind, pack-d, pack-a, pack-b, pack-c, pack-v}
+use Rattle.rules.proofs.GuestWords.{guestWord, guest-taken, guest-instr}
+use Rattle.rules.proofs.Conditions.{Passed, passed-of, passed-valid, passed-word, passed-last, Taken, taken-of, past-end, some-ones, size-laws, count-most, routine-valid, routine-last, routine-length, routine-word}
+
+-- ---- an instruction is read off its bundle
+
+module _ (lay : Layout) (n : ℕ) where
+  bundle-back : (i : Instr) → Valid n i → readOff lay (bundleWord lay n i 0) (bundleWord lay n i 2) (bundleWord lay n i 3) ≡ i
+  unfolding readOff bundleWord shapeOf wordOf
+  bundle-back HALT g = refl
+  bundle-back (PLAIN k d a b v) g =
+      let one : k + 1 - 1 ≡ k = omega arith in
+      rw (pack-kind (k + 1) d a b 0 v (omega arith), pack-d (k + 1) d a b 0 v (omega arith), pack-a (k + 1) d a b 0 v (omega arith), pack-b (k + 1) d a b 0 v (omega arith), pack-v (k + 1) d a b 0 v (omega arith))
+      (rw (ne-eqb (k + 1) 1 (omega arith), ne-eqb (k + 1) 9 (omega arith), ne-eqb (k + 1) 14 (omega arith), ne-eqb (k + 1) 11 (omega arith), ne-eqb (k + 1) 16 (omega arith), one))
+  bundle-back (LOAD d a) g =
+      rw (pack-kind 9 hidden a 0 0 (lay .high) (omega arith), pack-kind 12 d hidden 0 0 0 (omega arith), pack-d 12 d hidden 0 0 0 (omega arith), pack-a 9 hidden a 0 0 (lay .high) (omega arith))
+  bundle-back (STORE a b) g =
+      rw (pack-kind 9 hidden a 0 0 (lay .high) (omega arith), pack-kind 13 0 hidden b 0 0 (omega arith), pack-a 9 hidden a 0 0 (lay .high) (omega arith), pack-b 13 0 hidden b 0 0 (omega arith))
+  bundle-back (GOIF a b c v) g =
+      let w : (addressOf lay v - lay .base) / bundleLength ≡ v = omega arith in
+      rw (pack-kind 14 0 a b c (addressOf lay v) (omega arith), pack-a 14 0 a b c (addressOf lay v) (omega arith), pack-b 14 0 a b c (addressOf lay v) (omega arith), pack-c 14 0 a b c (addressOf lay v) (omega arith), pack-v 14 0 a b c (addressOf lay v) (omega arith), w)
+  bundle-back (GOX d a b c) g =
+      rw (pack-kind 11 hidden d 0 0 2 (omega arith), pack-a 11 hidden d 0 0 2 (omega arith), pack-a 15 hidden a b c 0 (omega arith), pack-b 15 hidden a b c 0 (omega arith), pack-c 15 hidden a b c 0 (omega arith))
+  bundle-back (EVENT e) g = rw (pack-kind 16 hidden 0 0 0 e (omega arith), pack-v 16 hidden 0 0 0 e (omega arith))
+
+  is-valid : (i : Instr) → Valid n i → valid n i ≡ true
+  unfolding valid
+  is-valid HALT g = refl
+  is-valid (PLAIN k d a b v) g =
+      rw (le-leb 1 k (g .0), le-leb k 7 (g .1), lt-ltb d guestRegisters (g .2), lt-ltb a guestRegisters (g .3), lt-ltb b guestRegisters (g .4))
+      (rw (le-leb d (limitsOf (k + 1) .d) (g .5), le-leb a (limitsOf (k + 1) .a) (g .6), le-leb b (limitsOf (k + 1) .b) (g .7), le-leb v (limitsOf (k + 1) .v) (g .8)))
+  is-valid (LOAD d a) g = rw (lt-ltb d guestRegisters (g .0), lt-ltb a guestRegisters (g .1))
+  is-valid (STORE a b) g = rw (lt-ltb a guestRegisters (g .0), lt-ltb b guestRegisters (g .1))
+  is-valid (GOIF a b c v) g = rw (lt-ltb a guestRegisters (g .0), lt-ltb b guestRegisters (g .1), le-leb c topCondition (g .2), lt-ltb v n (g .3))
+  is-valid (GOX d a b c) g = rw (lt-ltb d guestRegisters (g .0), lt-ltb a guestRegisters (g .1), lt-ltb b guestRegisters (g .2), le-leb c topCondition (g .3))
+  is-valid (EVENT e) g = lt-ltb e events g
+
+  -- ---- a list of the bundles of valid instructions, the last one HALT, passes
+  module _ (ws : List ℕ) (is : ℕ → Instr) (each : (h p : ℕ) → h < n → p < bundleLength → getD ws (bundleLength * h + p) 0 ≡ bundleWord lay n (is h) p)
+      (fine : (h : ℕ) → Valid n (is h)) (last : is (n - 1) ≡ HALT) (h : ℕ) (lh : h < n) where
+    first-word : getD ws (bundleLength * h) 0 ≡ bundleWord lay n (is h) 0
+    first-word = let z : bundleLength * h ≡ bundleLength * h + 0 = omega arith in rw z (each h 0 lh (omega arith))
+
+    back : bundleAt lay ws h ≡ is h
+    unfolding bundleAt
+    back = rw (first-word, each h 2 lh (omega arith), each h 3 lh (omega arith)) (bundle-back (is h) (fine h))
+
+    bundle-shaped : shapedAt lay n ws h ≡ true
+    unfolding shapedAt isBundle
+    bundle-shaped =
+        rw (back, is-valid (is h) (fine h), eq-eqb _ _ first-word, eq-eqb _ _ (each h 1 lh (omega arith)), eq-eqb _ _ (each h 2 lh (omega arith)), eq-eqb _ _ (each h 3 lh (omega arith)))
+
+    halts : (ltb (h + 1) n || isHalt (is h)) ≡ true
+    halts =
+        ⊎-elim (λ (e : ltb (h + 1) n ≡ true). rw e) (λ (e : ltb (h + 1) n ≡ false). let q : h ≡ n - 1 = omega (arith, ltb-false (h + 1) n e) in rw (e, ap is q ∙ last)) (cases (ltb (h + 1) n))
+
+    pub bundle-passes : passesAt lay n ws h ≡ true
+    unfolding passesAt
+    bundle-passes = rw (bundle-shaped, back) halts
+
+check-all : (lay : Layout) (n : ℕ) (ws : List ℕ) (h m : ℕ) → ((j : ℕ) → j < h + m → passesAt lay n ws j ≡ true) → checkFrom lay n ws h m ≡ answer 0 0
+unfolding checkFrom
+check-all lay n ws h zero all = refl
+check-all lay n ws h (suc m) all = rw (all h (omega arith)) (check-all lay n ws (h + 1) m (λ j l. all j (omega arith)))
+
+check-taken : (lay : Layout) (ws : List ℕ) (n : ℕ) → Passed lay ws n → checkAnswer lay ws ≡ answer 0 0
+unfolding checkAnswer
+check-taken lay ws n p =
+    let q : length ws / bundleLength ≡ n = omega (arith, p .count) in
+    let fours : length ws % bundleLength ≡ 0 = omega (arith, p .count) in
+    let most : length ws ≤ bundleLength * mostBundles = omega (arith, p .count, p .most) in
+    rw (p .right, q, fours, le-leb _ _ most, eq-eqb _ _ (p .single), p .base) (check-all lay n ws 0 n (λ j l. p .each j (omega arith)))
+
+pub rewritten-passes : RewrittenPasses
+rewritten-passes lay code room e =
+    let t = taken-of lay code room e in
+    let n = bundlesFor (length code) in
+    check-taken lay (commandsOf lay code) n
+    (record {
+      right = t .right;
+      count = routine-length lay code t;
+      most = count-most lay code t;
+      single = size-laws lay code t .power;
+      base = t .base;
+      each = bundle-passes lay n (commandsOf lay code) (routine code) (routine-word lay code t) (routine-valid lay code t) (routine-last lay code t);
+    })
+
+-- ---- a passed list is that of a routine
+
+-- the guest words of instructions h to h + m − 1
+codeFrom : (ℕ → Instr) → ℕ → ℕ → List ℕ
+codeFrom is h zero = []
+codeFrom is h (suc m) = guestWord (is h) ∷ codeFrom is (suc h) m
+
+code-length : (is : ℕ → Instr) (h m : ℕ) → length (codeFrom is h m) ≡ m
+unfolding codeFrom
+code-length is h zero = refl
+code-length is h (suc m) = ap suc (code-length is (suc h) m)
+
+code-word : (is : ℕ → Instr) (h m j : ℕ) → j < m → getD (codeFrom is h m) j 0 ≡ guestWord (is (h + j))
+unfolding codeFrom
+code-word is h zero j l = absurd (omega arith)
+code-word is h (suc m) zero l = let z : h + 0 ≡ h = omega arith in rw z
+code-word is h (suc m) (suc j) l = let z : h + suc j ≡ suc h + j = omega arith in rw z (code-word is (suc h) m j (omega arith))
+
+judge-all : (n : ℕ) (ws : List ℕ) (i : ℕ) (z : Answer) → ((j : ℕ) → j < length ws → judgeAt n (getD ws j 0) ≡ 0) → judgeFrom n ws i z ≡ z
+unfolding judgeFrom
+judge-all n [] i z all = refl
+judge-all n (w ∷ ws) i z all = rw (eq-eqb _ _ (all 0 (omega arith))) (judge-all n ws (i + 1) z (λ j l. all (suc j) (omega arith)))
+
+rewrite-taken : (lay : Layout) (code : List ℕ) (room : ℕ) → Taken lay code → commandCount (length code) ≤ room → rewriteAnswer lay code room ≡ answer 0 (commandCount (length code))
+unfolding rewriteAnswer placeAnswer
+rewrite-taken lay code room t l =
+    rw (t .right, le-ltb mostInstructions (length code) (t .most)) (judge-all (length code) code 0 _ (t .each) ∙ rw (t .base, le-ltb room (commandCount (length code)) l))
+
+module _ (lay : Layout) (ws : List ℕ) (n : ℕ) (p : Passed lay ws n) where
+  abbrev code : List ℕ
+  code = codeFrom (bundleAt lay ws) 0 (n - 1)
+
+  some : 0 < n
+  some = some-ones n (p .single)
+
+  long : length code ≡ n - 1
+  long = code-length (bundleAt lay ws) 0 (n - 1)
+
+  word : (h : ℕ) → h < n - 1 → getD code h 0 ≡ guestWord (bundleAt lay ws h)
+  word h l = code-word (bundleAt lay ws) 0 (n - 1) h l ∙ (let z : 0 + h ≡ h = omega arith in rw z)
+
+  -- N is the bundle count of N − 1 instructions
+  bundles : bundlesFor (length code) ≡ n
+  bundles =
+      let power : n ≡ 2 ^ trailingZeros 32 n = one-bit 32 n (omega (arith, p .most)) (p .single) in
+      let s = sizes (n - 1) (omega (arith, p .most)) in
+      ap bundlesFor long ∙ omega (arith, some, power, s .above, s .least (trailingZeros 32 n) (omega (arith, some, power)))
+
+  taken : Taken lay code
+  taken =
+      let most = p .most in
+      record {
+        right = p .right;
+        most = omega (arith, long);
+        each =
+            λ j l.
+            let l′ : j < n - 1 = omega (arith, long) in
+            let e : n - 1 + 1 ≡ n = omega (arith, some) in
+            rw (long, word j l′) (guest-taken (n - 1) (omega arith) (bundleAt lay ws j) (rw e (passed-valid lay ws n p j (omega arith))));
+        base = rw bundles (p .base);
+      }
+
+  instr : (h : ℕ) → h < n → routine code h ≡ bundleAt lay ws h
+  unfolding routine
+  instr h l =
+      ⊎-elim
+      (λ (e : ltb h (n - 1) ≡ true).
+      let l′ = ltb-true h (n - 1) e in
+      ap instrOf (word h l′) ∙ guest-instr n (bundleAt lay ws h) (passed-valid lay ws n p h l))
+      (λ (e : ltb h (n - 1) ≡ false).
+      let u = ltb-false h (n - 1) e in
+      let q : n - 1 ≡ h = omega arith in
+      past-end code h (omega (arith, long)) ∙ sym (passed-last lay ws n p) ∙ ap (bundleAt lay ws) q)
+      (cases (ltb h (n - 1)))
+
+  same : commandsOf lay code ≡ ws
+  same =
+      let size : length (commandsOf lay code) ≡ bundleLength * n = routine-length lay code taken ∙ ap (λ (x : ℕ). bundleLength * x) bundles in
+      ext-getD 0 (commandsOf lay code) ws (size ∙ sym (p .count))
+      (λ i l.
+      let h = i / bundleLength in
+      let at : bundleLength * h + i % bundleLength ≡ i = omega arith in
+      let lh : h < n = omega (arith, size) in
+      let lp : i % bundleLength < bundleLength = omega arith in
+      ap (λ (x : ℕ). getD (commandsOf lay code) x 0) (sym at) ∙ routine-word lay code taken h (i % bundleLength) (rw bundles lh) lp
+      ∙ ap₂ (λ (x : ℕ) (y : Instr). bundleWord lay x y (i % bundleLength)) bundles (instr h lh)
+      ∙ sym (passed-word lay ws n p h lh (i % bundleLength) lp)
+      ∙ ap (λ (x : ℕ). getD ws x 0) at)
+
+  pub rewrites : Rewrites lay ws
+  rewrites =
+      let size : commandCount (length code) ≡ length ws = ap (λ (x : ℕ). bundleLength * x) bundles ∙ sym (p .count) in
+      record {
+        code = code;
+        takes = rewrite-taken lay code (length ws) taken (omega (arith, size)) ∙ ap (answer 0) size;
+        same = same;
+      }
+
+pub passed-rewrites : PassedRewrites
+passed-rewrites lay ws e = rewrites lay ws _ (passed-of lay ws e)

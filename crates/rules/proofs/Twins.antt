@@ -1,0 +1,319 @@
+-- Isolation (d): two lists of runs that are alike in all but free cells and what the logs held do the same, run by run.
+use mathlib.Core.Path.{_≡_, refl, sym, _∙_, ap, subst}
+use mathlib.Core.Bool.{Bool, true, false}
+use mathlib.Core.Logic.{⊎-elim}
+use mathlib.Core.List.{List, [], _∷_}
+use Prim.Native.Nat.{ℕ, zero, suc, _+_, _*_, _<_}
+use native.Mathlib.Omega.{arith}
+use borrow.Author.Tests.{ltb-true, ltb-false, eqb-false, eqb-true, eq-eqb}
+use lib.Dec.{eqb, ltb}
+use lib.ListN.{length, getD, set, length-set, List·getD-eq-default}
+use lib.Seq.{getD-set-same, getD-set-other, set-out}
+use Rattle.rules.specs.declared.Command.{Command}
+use Rattle.rules.specs.declared.Command.the-variants.{Nop, Halt, Plain, Load, Store, GoIf, GoReg, Look, StopIf, Keep, Event, Stray}
+use Rattle.rules.specs.declared.Status.{Status}
+use Rattle.rules.specs.declared.Status.the-variants.{Running, Ended, Stopped, Faulted}
+use Rattle.rules.specs.declared.Ending.{Ending}
+use Rattle.rules.specs.declared.Effect.{Effect}
+use Rattle.rules.specs.declared.Effect.the-variants.{Go, Put, Cell, Order, Probe, End, Wait}
+use Rattle.rules.specs.declared.Machine.{Machine}
+use Rattle.rules.specs.declared.Outcome.{Outcome}
+use Rattle.rules.specs.declared.Layout.{Layout}
+use Rattle.rules.specs.declared.Instr.{Instr}
+use Rattle.rules.specs.declared.Instr.the-variants.{HALT, PLAIN, LOAD, STORE, GOIF, GOX, EVENT}
+use Rattle.rules.specs.Names.{events, hidden}
+use Rattle.rules.specs.Layouts.{inBox, rightLayout}
+use Rattle.rules.specs.Policies.{Policy}
+use Rattle.rules.specs.Commands.{fetchOf}
+use Rattle.rules.specs.Machines.{viewOf, effectOf, State, stateOf, withPair, applyOf, seen, nextOf, stepOf, endingOf, Ran, endedIn, unlessOver, unlessWait, fits, startOf, runFrom, runOf, installAnswer, installMemory, installMachine, machineAt}
+use Rattle.rules.specs.Bundles.{shapeOf}
+use Rattle.rules.specs.Guests.{Pair, Guest, rOf, guestStart}
+use Rattle.rules.specs.Runs.{Given, pairsOf, Carried, carriedOf, atFirst, runOn, afterTaken, firstOf, afterRun, runsOf, Lent, Lends, Served}
+use Rattle.rules.specs.Claims.{Each, Alike, Same, Matches}
+use Rattle.rules.proofs.Bools.{no, cases, both}
+use Rattle.rules.proofs.Facts.{Right, Valid, Bundled, Laid}
+use Rattle.rules.proofs.Sim.{Mid, start, rest, load1, load2, store1, store2, gox1, gox2, gox3, event1, event2, event3, Sim, over, live, Known, Stays}
+use Rattle.rules.proofs.Track.{course-going, lent-box, lent-cell, lent-table, tracks, step-known, enter, stays-run, install}
+
+-- ---- two states with the same machine and counts, alike in what is seen of memory and in the pairs logged
+abbrev besides : State → List ℕ → List ℕ → State
+besides s mem log = stateOf (s .regs) (s .pc) (s .status) mem log (s .pairs) (s .used)
+
+record Twin (lay : Layout) (s t : State) : Type 0 where
+  same : t ≡ besides s (t .mem) (t .log)
+  seen : Matches lay (s .mem) (t .mem)
+  size : length (s .mem) ≡ length (t .mem)
+  long : length (s .log) ≡ length (t .log)
+  logged : (i : ℕ) → i < 2 * s .pairs → getD (s .log) i 0 ≡ getD (t .log) i 0
+
+-- the same store into two lists of one length
+set-alike : (l l′ : List ℕ) (a i v : ℕ) → length l ≡ length l′ → ((i ≡ a → ⊥) → getD l i 0 ≡ getD l′ i 0) → getD (set l a v) i 0 ≡ getD (set l′ a v) i 0
+set-alike l l′ a i v n k =
+    ⊎-elim
+    (λ e.
+    let q = eqb-true i a e in
+    ⊎-elim
+    (λ m.
+    let h = ltb-true a (length l) m in
+    rw q (getD-set-same l a v 0 h ∙ sym (getD-set-same l′ a v 0 (omega arith))))
+    (λ m.
+    let h = ltb-false a (length l) m in
+    rw (q, set-out l a v h, set-out l′ a v (omega arith)) (List·getD-eq-default l 0 h ∙ sym (List·getD-eq-default l′ 0 (omega arith))))
+    (cases (ltb a (length l))))
+    (λ e.
+    let q = eqb-false i a e in
+    getD-set-other l a i v 0 q ∙ k q ∙ sym (getD-set-other l′ a i v 0 q))
+    (cases (eqb i a))
+
+pair-alike : (log log′ : List ℕ) (n e x i : ℕ) → length log ≡ length log′ → ((j : ℕ) → j < 2 * n → getD log j 0 ≡ getD log′ j 0) → i < 2 * (n + 1) → getD (withPair log n e x) i 0 ≡ getD (withPair log′ n e x) i 0
+pair-alike log log′ n e x i l h m =
+    set-alike (set log (2 * n) e) (set log′ (2 * n) e) (2 * n + 1) i x (simp length-set l)
+    (λ p. set-alike log log′ (2 * n) i e l (λ q. h i (omega arith)))
+
+-- the same effect keeps two states twins
+apply-alike : (lay : Layout) (rd : List ℕ) (e : Effect) (s : State) (mem log : List ℕ) → Twin lay s (besides s mem log) → Twin lay (applyOf rd e s) (applyOf rd e (besides s mem log))
+unfolding applyOf
+apply-alike lay rd (Go to) s mem log t = record { same = refl; seen = t .seen; size = t .size; long = t .long; logged = t .logged }
+apply-alike lay rd (Put d x) s mem log t = record { same = refl; seen = t .seen; size = t .size; long = t .long; logged = t .logged }
+apply-alike lay rd (Cell i x) s mem log t =
+    record {
+      same = refl;
+      seen = λ j h. set-alike (s .mem) mem i j x (t .size) (λ q. t .seen j h);
+      size = simp length-set (t .size);
+      long = t .long;
+      logged = t .logged;
+    }
+apply-alike lay rd (Order v) s mem log t =
+    record {
+      same = refl;
+      seen = t .seen;
+      size = t .size;
+      long = simp length-set (t .long);
+      logged = λ i h. pair-alike (s .log) log (s .pairs) v _ i (t .long) (t .logged) h;
+    }
+apply-alike lay rd (Probe v) s mem log t =
+    record {
+      same = refl;
+      seen = t .seen;
+      size = t .size;
+      long = simp length-set (t .long);
+      logged = λ i h. pair-alike (s .log) log (s .pairs) v _ i (t .long) (t .logged) h;
+    }
+apply-alike lay rd (End u) s mem log t = record { same = refl; seen = t .seen; size = t .size; long = t .long; logged = t .logged }
+apply-alike lay rd (Wait e) s mem log t = t
+
+-- ---- what a command reads of memory is seen
+abbrev Safe : Layout → Command → List ℕ → List ℕ → Type 0
+Safe lay Nop regs mem = Unit {0}
+Safe lay Halt regs mem = Unit {0}
+Safe lay (Plain k d a b v) regs mem = Unit {0}
+Safe lay (Load d a) regs mem = inBox lay (getD regs a 0) ≡ true
+Safe lay (Store a b) regs mem = Unit {0}
+Safe lay (GoIf a b c v) regs mem = Unit {0}
+Safe lay (GoReg d a b c) regs mem = Unit {0}
+Safe lay (Look d v) regs mem = events * getD mem (lay .cell) 0 + v < events * lay .states
+Safe lay (StopIf d) regs mem = Unit {0}
+Safe lay (Keep d) regs mem = Unit {0}
+Safe lay (Event v) regs mem = Unit {0}
+Safe lay Stray regs mem = Unit {0}
+
+effect-alike : (lay : Layout) (c : Command) (regs mem mem′ : List ℕ) (pc free left : ℕ) → length mem ≡ length mem′ → Matches lay mem mem′ → Safe lay c regs mem → effectOf c (viewOf regs pc mem′ (lay .cell) (lay .table) free left) ≡ effectOf c (viewOf regs pc mem (lay .cell) (lay .table) free left)
+unfolding effectOf
+effect-alike lay Nop regs mem mem′ pc free left n m f = refl
+effect-alike lay Halt regs mem mem′ pc free left n m f = refl
+effect-alike lay (Plain k d a b v) regs mem mem′ pc free left n m f = refl
+effect-alike lay (Load d a) regs mem mem′ pc free left n m f = rw (← n, ← m (getD regs a 0) (lent-box lay _ f))
+effect-alike lay (Store a b) regs mem mem′ pc free left n m f = rw (← n)
+effect-alike lay (GoIf a b c v) regs mem mem′ pc free left n m f = refl
+effect-alike lay (GoReg d a b c) regs mem mem′ pc free left n m f = refl
+effect-alike lay (Look d v) regs mem mem′ pc free left n m f =
+    let q = getD mem (lay .cell) 0 in
+    let z : lay .table + (events * q + v) ≡ lay .table + events * q + v = omega arith in
+    let e : getD mem (lay .table + events * q + v) 0 ≡ getD mem′ (lay .table + events * q + v) 0 = rw z at (m _ (lent-table lay (events * q + v) f)) in
+    rw (← n, ← m (lay .cell) (lent-cell lay), ← e)
+effect-alike lay (StopIf d) regs mem mem′ pc free left n m f = refl
+effect-alike lay (Keep d) regs mem mem′ pc free left n m f = rw (← n)
+effect-alike lay (Event v) regs mem mem′ pc free left n m f = refl
+effect-alike lay Stray regs mem mem′ pc free left n m f = refl
+
+next-alike : (lay : Layout) (ws rd : List ℕ) (s : State) (mem log : List ℕ) → Twin lay s (besides s mem log) → Safe lay (fetchOf ws (lay .base) (s .pc)) (s .regs) (s .mem) → nextOf lay ws rd (besides s mem log) ≡ nextOf lay ws rd s
+next-alike lay ws rd s mem log t f =
+    rw (← t .long) (effect-alike lay (fetchOf ws (lay .base) (s .pc)) (s .regs) (s .mem) mem (s .pc) _ _ (t .size) (t .seen) f)
+
+-- ---- runs
+pairs-alike : (log log′ : List ℕ) (k : ℕ) → ((i : ℕ) → i < 2 * k → getD log i 0 ≡ getD log′ i 0) → pairsOf log k ≡ pairsOf log′ k
+pairs-alike log log′ zero h = refl
+pairs-alike log log′ (suc k) h =
+    let a = h (2 * k) (omega arith) in
+    let b = h (2 * k + 1) (omega arith) in
+    let r = pairs-alike log log′ k (λ i m. h i (omega arith)) in
+    cc
+
+record RanAlike (lay : Layout) (r r′ : Ran) : Type 0 where
+  outcome : r .outcome ≡ r′ .outcome
+  logged : pairsOf (r .log) (r .outcome .answer .pairs) ≡ pairsOf (r′ .log) (r′ .outcome .answer .pairs)
+  seen : Matches lay (r .mem) (r′ .mem)
+
+ended-alike : (lay : Layout) (k : ℕ) (s : State) (mem log : List ℕ) (e : Ending) → Twin lay s (besides s mem log) → RanAlike lay (endedIn e k s) (endedIn e k (besides s mem log))
+ended-alike lay k s mem log e t = record { outcome = refl; logged = pairs-alike (s .log) log (s .pairs) (t .logged); seen = t .seen }
+
+over-alike : (lay : Layout) (t : Status) (x x′ y y′ : Ran) → RanAlike lay x x′ → (t ≡ Running → RanAlike lay y y′) → RanAlike lay (unlessOver t x y) (unlessOver t x′ y′)
+over-alike lay Running x x′ y y′ p q = q refl
+over-alike lay Ended x x′ y y′ p q = p
+over-alike lay Stopped x x′ y y′ p q = p
+over-alike lay Faulted x x′ y y′ p q = p
+
+wait-alike : (lay : Layout) (e : Effect) (x x′ : Ending → Ran) (y y′ : Ran) → ((d : Ending) → RanAlike lay (x d) (x′ d)) → (((d : Ending) → e ≡ Wait d → ⊥) → RanAlike lay y y′) → RanAlike lay (unlessWait e x y) (unlessWait e x′ y′)
+wait-alike lay (Wait d) x x′ y y′ p q = p d
+wait-alike lay (Go to) x x′ y y′ p q = q (λ w z. no (cc))
+wait-alike lay (Put d v) x x′ y y′ p q = q (λ w z. no (cc))
+wait-alike lay (Cell i v) x x′ y y′ p q = q (λ w z. no (cc))
+wait-alike lay (Order v) x x′ y y′ p q = q (λ w z. no (cc))
+wait-alike lay (Probe v) x x′ y y′ p q = q (λ w z. no (cc))
+wait-alike lay (End t) x x′ y y′ p q = q (λ w z. no (cc))
+
+-- what the simulation knows of a list of runs: `In` within a run with readings rd, `Out` between two
+record Watched (lay : Layout) (ws : List ℕ) (In : List ℕ → State → Type 0) (Out : Carried → Type 0) : Type 0 where
+  safe : (rd : List ℕ) (s : State) → In rd s → s .status ≡ Running → Safe lay (fetchOf ws (lay .base) (s .pc)) (s .regs) (s .mem)
+  step : (rd : List ℕ) (s : State) → In rd s → s .status ≡ Running → ((d : Ending) → nextOf lay ws rd s ≡ Wait d → ⊥) → In rd (stepOf lay ws rd s)
+  enter : (c : Carried) (g : Given) → length (g .memory) ≡ lay .size → Lent lay c g → Out c → In (g .readings) (startOf (c .machine) (g .memory) (g .log))
+  leave : (c : Carried) (g : Given) → Lent lay c g → Out c → Out (afterRun lay ws c g)
+
+record Like (lay : Layout) (c c′ : Carried) : Type 0 where
+  machine : c .machine ≡ c′ .machine
+  seen : Matches lay (c .memory) (c′ .memory)
+
+-- two runs, and what is carried on after them
+record Onward (lay : Layout) (ws : List ℕ) (c c′ : Carried) (g g′ : Given) : Type 0 where
+  outcome : runOn lay ws c g .outcome ≡ runOn lay ws c′ g′ .outcome
+  logged : pairsOf (runOn lay ws c g .log) (runOn lay ws c g .outcome .answer .pairs) ≡ pairsOf (runOn lay ws c′ g′ .log) (runOn lay ws c′ g′ .outcome .answer .pairs)
+  machine : afterRun lay ws c g .machine ≡ afterRun lay ws c′ g′ .machine
+  seen : Matches lay (afterRun lay ws c g .memory) (afterRun lay ws c′ g′ .memory)
+
+module _ (lay : Layout) (ws : List ℕ) (In : List ℕ → State → Type 0) (Out : Carried → Type 0) (known : Watched lay ws In Out) where
+  run-alike : (rd : List ℕ) (n k : ℕ) (s : State) (mem log : List ℕ) → In rd s → Twin lay s (besides s mem log) → RanAlike lay (runFrom lay ws rd n k s) (runFrom lay ws rd n k (besides s mem log))
+  unfolding runFrom
+  run-alike rd zero k s mem log w t = ended-alike lay k s mem log (endingOf (s .status)) t
+  run-alike rd (suc n) k s mem log w t =
+      over-alike lay (s .status) _ _ _ _ (ended-alike lay k s mem log (endingOf (s .status)) t)
+      (λ h.
+      let e = nextOf lay ws rd s in
+      let u = apply-alike lay rd e s mem log t in
+      let s₂ = applyOf rd e s in
+      let t₂ = applyOf rd e (besides s mem log) in
+      subst (λ (x : Effect). RanAlike lay (unlessWait e (λ d. endedIn d k s) (runFrom lay ws rd n (k + 1) s₂)) (unlessWait x (λ d. endedIn d k (besides s mem log)) (runFrom lay ws rd n (k + 1) (applyOf rd x (besides s mem log)))))
+      (sym (next-alike lay ws rd s mem log t (known .safe rd s w h)))
+      (wait-alike lay e _ _ _ _ (λ d. ended-alike lay k s mem log d t)
+      (λ q.
+      subst (λ (x : State). RanAlike lay (runFrom lay ws rd n (k + 1) s₂) (runFrom lay ws rd n (k + 1) x)) (sym (u .same))
+      (run-alike rd n (k + 1) s₂ (t₂ .mem) (t₂ .log) (known .step rd s w h q) (subst (Twin lay s₂) (u .same) u)))))
+
+  -- ---- lists of runs
+  onward : (c c′ : Carried) (g g′ : Given) (b : Bool) → fits lay (g .memory) ≡ b → Alike g g′ → Lent lay c g → Lent lay c′ g′ → Out c → Like lay c c′ → Onward lay ws c c′ g g′
+  unfolding runOn runOf afterRun afterTaken
+  onward c c′ g g′ true f a lent lent′ w k =
+      let f′ : fits lay (g′ .memory) ≡ true = rw (← a .memory) f in
+      let l = eqb-true _ _ (both (rightLayout lay) (eqb (length (g .memory)) (lay .size)) f .1) in
+      let l′ = sym (a .memory) ∙ l in
+      let t : Twin lay (startOf (c .machine) (g .memory) (g .log)) (startOf (c .machine) (g′ .memory) (g′ .log)) =
+      record {
+        same = refl;
+        seen = λ i h. lent l i h ∙ k .seen i h ∙ sym (lent′ l′ i h);
+        size = a .memory;
+        long = a .log;
+        logged = λ i m. absurd (omega arith);
+      } in
+      let r = run-alike (g .readings) (g .budget) 0 (startOf (c .machine) (g .memory) (g .log)) (g′ .memory) (g′ .log) (known .enter c g l lent w) t in
+      record {
+        outcome = rw (f, f′, ← a .readings, ← a .budget, ← k .machine) (r .outcome);
+        logged = rw (f, f′, ← a .readings, ← a .budget, ← k .machine) (r .logged);
+        machine = rw (f, f′, ← a .readings, ← a .budget, ← k .machine) (ap (λ (o : Outcome). o .machine) (r .outcome));
+        seen = rw (f, f′, ← a .readings, ← a .budget, ← k .machine) (r .seen);
+      }
+  onward c c′ g g′ false f a lent lent′ w k =
+      let f′ : fits lay (g′ .memory) ≡ false = rw (← a .memory) f in
+      record { outcome = rw (f, f′, ← k .machine); logged = rw (f, f′); machine = rw (f, f′) (k .machine); seen = rw (f, f′) (k .seen) }
+
+  runs-alike : (c c′ : Carried) (gs gs′ : List Given) → Each Alike gs gs′ → Lends lay ws c gs → Lends lay ws c′ gs′ → Out c → Like lay c c′ → Each (Same lay) (runsOf lay ws c gs) (runsOf lay ws c′ gs′)
+  unfolding runsOf
+  runs-alike c c′ [] [] a l l′ w k = tt
+  runs-alike c c′ [] (g′ ∷ gs′) a l l′ w k = absurd a
+  runs-alike c c′ (g ∷ gs) [] a l l′ w k = absurd a
+  runs-alike c c′ (g ∷ gs) (g′ ∷ gs′) a l l′ w k =
+      let o = onward c c′ g g′ _ refl (a .0) (l .0) (l′ .0) w k in (
+        record {
+          outcome = o .outcome;
+          logged = o .logged;
+          cell = o .seen _ (lent-cell lay);
+          box = λ i h. o .seen i (lent-box lay i h);
+        },
+        runs-alike (afterRun lay ws c g) (afterRun lay ws c′ g′) gs gs′ (a .1) (l .1) (l′ .1) (known .leave c g (l .0) w)
+            (record { machine = o .machine; seen = o .seen }),
+      )
+
+-- ---- the simulation keeps the first list's reads within what is seen
+start-safe : (lay : Layout) (n : ℕ) (regs mem : List ℕ) (i : Instr) → Valid n i → getD mem (lay .cell) 0 < lay .states → Safe lay (shapeOf lay n i 0) regs mem
+unfolding shapeOf
+start-safe lay n regs mem HALT v l = tt
+start-safe lay n regs mem (PLAIN k d a b x) v l = tt
+start-safe lay n regs mem (LOAD d a) v l = tt
+start-safe lay n regs mem (STORE a b) v l = tt
+start-safe lay n regs mem (GOIF a b c x) v l = tt
+start-safe lay n regs mem (GOX d a b c) v l = tt
+start-safe lay n regs mem (EVENT e) v l = omega arith
+
+mid-safe : (lay : Layout) (pol : Policy) (n : ℕ) (regs mem : List ℕ) (g : Guest) (h k b : ℕ) (i : Instr) (p : ℕ) → Right lay pol n → Valid n i → g .state < lay .states → Mid lay pol n g h k b (getD regs hidden 0) (getD mem (lay .cell) 0) i p → Safe lay (shapeOf lay n i p) regs mem
+unfolding shapeOf
+mid-safe lay pol n regs mem g h k b i p ok v l (start at bk q) = start-safe lay n regs mem i v (rw q l)
+mid-safe lay pol n regs mem g h k b i p ok v l (rest low nop lt at bk q) = rw (nop p (omega arith)) tt
+mid-safe lay pol n regs mem g h k b i p ok v l (load1 at bk q e) = tt
+mid-safe lay pol n regs mem g h k b i p ok v l (load2 {a = x} at bk q e) = rw e (ok .mask (rOf g x))
+mid-safe lay pol n regs mem g h k b i p ok v l (store1 at bk q e) = tt
+mid-safe lay pol n regs mem g h k b i p ok v l (store2 at bk q e) = tt
+mid-safe lay pol n regs mem g h k b i p ok v l (gox1 at bk q e) = tt
+mid-safe lay pol n regs mem g h k b i p ok v l (gox2 at bk q e) = tt
+mid-safe lay pol n regs mem g h k b i p ok v l (gox3 at bk q e) = tt
+mid-safe lay pol n regs mem g h k b i p ok v l (event1 at bk q e) = tt
+mid-safe lay pol n regs mem g h k b i p ok v l (event2 at bk q e some) = tt
+mid-safe lay pol n regs mem g h k b i p ok v l (event3 at bk q some) = tt
+
+sim-safe : (lay : Layout) (pol : Policy) (ws : List ℕ) (n : ℕ) (is : ℕ → Instr) (s : State) (g : Guest) (k b : ℕ) → Right lay pol n → Bundled lay ws n is → g .state < lay .states → s .status ≡ Running → Sim lay pol n is g k b s → Safe lay (fetchOf ws (lay .base) (s .pc)) (s .regs) (s .mem)
+sim-safe lay pol ws n is s g k b ok bs l run (over f st h p lh lp pc q bk) = absurd (f (course-going (g .course) (sym st ∙ run)))
+sim-safe lay pol ws n is s g k b ok bs l run (live gg st h p lh lp pc m) =
+    let e : fetchOf ws (lay .base) (s .pc) ≡ shapeOf lay n (is h) p = ap (fetchOf ws (lay .base)) pc ∙ bs .each h p lh lp in
+    rw e (mid-safe lay pol n (s .regs) (s .mem) g h k b (is h) p ok (bs .valid h lh) l m)
+
+-- within a run: the guest tracks it, after some earlier runs
+record Within (lay : Layout) (pol : Policy) (n : ℕ) (is : ℕ → Instr) (g0 : Guest) (rd : List ℕ) (s : State) : Type 0 where
+  past : List Pair
+  before : List ℕ
+  begun : ℕ
+  known : Known lay pol n is past before rd g0 begun s
+
+watched : (lay : Layout) (pol : Policy) (ws : List ℕ) (n : ℕ) (is : ℕ → Instr) (g0 : Guest) → Right lay pol n → Bundled lay ws n is → Watched lay ws (Within lay pol n is g0) (Stays lay pol n is g0)
+watched lay pol ws n is g0 ok bs =
+    record {
+      safe =
+          λ rd s w run.
+          let t = tracks lay pol ws n is ok bs (w .past) (w .before) rd g0 (w .begun) s (w .known) in
+          sim-safe lay pol ws n is s _ (t .0) (w .begun) ok bs (t .1 .agree .below) run (t .1 .sim);
+      step =
+          λ rd s w run go.
+          record { past = w .past; before = w .before; begun = w .begun + firstOf lay (s .pc); known = step-known lay pol ws n is ok bs (w .past) (w .before) rd g0 (w .begun) s (w .known) run go };
+      enter = λ c g l lent w. record { past = c .records; before = c .used; begun = c .begun; known = enter lay pol ws n is ok bs g0 c g l lent w };
+      leave = λ c g lent w. stays-run lay pol ws n is ok bs g0 c g _ refl lent w;
+    }
+
+-- an installation that answered 0 yields the record with pc at the base
+installed-at : (lay : Layout) (pol : Policy) (mem : List ℕ) → installAnswer lay pol mem .number ≡ 0 → installMachine lay pol mem ≡ machineAt (lay .base)
+unfolding installMachine
+installed-at lay pol mem z = rw (eq-eqb _ _ z)
+
+pub alone : (lay : Layout) (pol : Policy) (ws mem : List ℕ) (gs : List Given) (n : ℕ) (is : ℕ → Instr) → Right lay pol n → Bundled lay ws n is → Laid lay pol (installMemory lay pol mem) → Served lay pol ws mem gs → (pol′ : Policy) (mem′ : List ℕ) (gs′ : List Given) → Served lay pol′ ws mem′ gs′ → Matches lay (installMemory lay pol mem) (installMemory lay pol′ mem′) → Each Alike gs gs′ → Each (Same lay) (runsOf lay ws (atFirst lay pol mem) gs) (runsOf lay ws (atFirst lay pol′ mem′) gs′)
+alone lay pol ws mem gs n is ok bs laid v pol′ mem′ gs′ v′ m a =
+    let g0 = guestStart lay pol (installMemory lay pol mem) in
+    let e = installed-at lay pol mem (v .installed) in
+    let e′ = installed-at lay pol′ mem′ (v′ .installed) in
+    runs-alike lay ws (Within lay pol n is g0) (Stays lay pol n is g0) (watched lay pol ws n is g0 ok bs) (atFirst lay pol mem) (atFirst lay pol′ mem′) gs gs′ a (v .lends) (v′ .lends)
+    (subst (λ (x : Machine). Stays lay pol n is g0 (carriedOf x (installMemory lay pol mem) [] [] 0)) (sym e) (install lay pol ws n is ok bs (installMemory lay pol mem) laid))
+    (record { machine = e ∙ sym e′; seen = m })
