@@ -1,0 +1,39 @@
+-- Laws of the layout test and of the sandbox's width.
+use mathlib.Core.Path.{_≡_, refl, sym, ap, _∙_}
+use mathlib.Core.Bool.{Bool, true, false, _&&_, and-true, and-false}
+use Prim.Native.Nat.{ℕ, zero, suc, _+_, _-_, _*_, _/_, _%_, _≤_, _<_, _^_}
+use native.Mathlib.Omega.{arith}
+use lib.Count.{ones, trailingZeros}
+use lib.Dec.{ltb, leb, eqb}
+use borrow.Author.Tests.{le-ltb, lt-ltb, le-leb, lt-leb, ltb-true, eqb-true}
+use Rattle.rules.specs.declared.Layout.{Layout}
+use Rattle.rules.specs.Names.{mostCells, mostStates, baseBound}
+use Rattle.rules.specs.Layouts.{rightLayout, inRange, span, inMemory, apart}
+use Rattle.rules.proofs.Layouts.{layout-facts}
+use Rattle.rules.proofs.Masks.{one-bit}
+
+module _ (l : Layout) where
+  pub box-turned : l .high < l .low → false ≡ rightLayout l
+  unfolding rightLayout
+  box-turned h = rw (lt-leb (l .low) (l .high) h, and-false (inRange l))
+
+  pub box-out : l .low ≤ l .high → l .size ≤ l .high → false ≡ rightLayout l
+  unfolding rightLayout
+  box-out h k = rw (le-leb (l .low) (l .high) h, le-ltb (l .high) (l .size) k, and-false (inRange l))
+
+  -- the tests that are left once those of SL ≤ SH < U passed; the base has 16 bits by its type
+  abbrev pub rest : Bool
+  rest =
+      (leb 1 (l .size) && leb (l .size) mostCells && leb 1 (l .states) && leb (l .states) mostStates)
+      && ((eqb (ones (span l)) 1 && eqb (l .low % span l) 0) && (inMemory l && apart l))
+
+  pub right-rest : l .low ≤ l .high → l .high < l .size → l .base < baseBound → rest ≡ rightLayout l
+  unfolding rightLayout
+  right-rest h k b =
+      rw (le-leb (l .low) (l .high) h, lt-ltb (l .high) (l .size) k, lt-ltb (l .base) baseBound b, and-true (leb 1 (l .size) && leb (l .size) mostCells && leb 1 (l .states) && leb (l .states) mostStates))
+
+  -- the sandbox of a right layout has one digit that is 1
+  pub width-right : rightLayout l ≡ true → 2 ^ trailingZeros 64 (span l) ≡ span l
+  width-right e =
+      let f = layout-facts l e in
+      sym (one-bit 64 (span l) (omega (arith, f .ordered, f .box, f .size)) (f .single))

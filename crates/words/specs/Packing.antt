@@ -1,0 +1,23 @@
+-- Fields cut to their widths, which packing takes, and what a bundle is made of.
+use Prim.Native.Nat.{ℕ, _%_, _^_, _<_, _≤_}
+use mathlib.Core.Path.{_≡_}
+use mathlib.Core.Bool.{true}
+use Rattle.rules.specs.declared.Fields.{Fields}
+use Rattle.rules.specs.declared.Instr.{Instr}
+use Rattle.rules.specs.Names.{mostBundles}
+use Rattle.rules.specs.Words.{packOf}
+use Rattle.rules.specs.Bundles.{valid as isValid}
+
+abbrev pub cutOf : Fields → Fields
+cutOf f =
+    record { kind = f .kind % 2 ^ 8; d = f .d % 2 ^ 4; a = f .a % 2 ^ 4; b = f .b % 2 ^ 4; c = f .c % 2 ^ 4; v = f .v % 2 ^ 32 }
+
+-- the word of six fields, cut
+abbrev pub cutWord : ℕ → ℕ → ℕ → ℕ → ℕ → ℕ → ℕ
+cutWord k d a b c v = packOf (k % 2 ^ 8) (d % 2 ^ 4) (a % 2 ^ 4) (b % 2 ^ 4) (c % 2 ^ 4) (v % 2 ^ 32)
+
+-- an instruction that is valid among n bundles, of which a list can be made
+pub record Fits (n : ℕ) (i : Instr) : Type 0 where
+  pub some : 0 < n
+  pub most : n ≤ mostBundles
+  pub valid : isValid n i ≡ true

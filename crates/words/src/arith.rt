@@ -1,0 +1,71 @@
+// Arithmetic of 32-bit numbers: wrapping, two's complement, the conditions, and what the plain commands compute.
+ghost use mathlib.Core.Path.{_≡_};
+ghost use Prim.Native.Nat.{_≤_};
+ghost use Rattle.rules.specs.Names.{topShift};
+ghost use Rattle.rules.specs.Signed.{twos, bitsOf, sarOf, lessOf};
+ghost use Rattle.rules.specs.Commands.{addOf, subOf, shlOf, holdsOf};
+
+pub fn add(x: u32, y: u32) -> u32
+    ensures { λ r. ⌜ r ≡ addOf x y ⌝ }
+{
+    std::num::wrapping_add_u32(x, y)
+}
+
+pub fn sub(x: u32, y: u32) -> u32
+    ensures { λ r. ⌜ r ≡ subOf x y ⌝ }
+{
+    std::num::wrapping_sub_u32(x, y)
+}
+
+pub fn shl(x: u32, v: u32) -> u32
+    requires { ⌜ v ≤ topShift ⌝ }
+    ensures { λ r. ⌜ r ≡ shlOf x v ⌝ }
+{
+    x << v
+}
+
+// The number that x stands for as two's complement.
+pub fn to_signed(x: u32) -> i32
+    ensures { λ r. ⌜ r ≡ twos x ⌝ }
+{
+    if x < 0x8000_0000 {
+        x as i32
+    } else {
+        !((!x) as i32)
+    }
+}
+
+// The bits of z as two's complement.
+pub fn to_bits(z: i32) -> u32
+    ensures { λ r. ⌜ r ≡ bitsOf z ⌝ }
+{
+    if z >= 0 { z as u32 } else { !((!z) as u32) }
+}
+
+pub fn sar(x: u32, v: u32) -> u32
+    requires { ⌜ v ≤ topShift ⌝ }
+    ensures { λ r. ⌜ r ≡ sarOf x v ⌝ }
+{
+    let z = to_signed(x);
+    to_bits(z >> v)
+}
+
+pub fn less(x: u32, y: u32) -> bool
+    ensures { λ r. ⌜ r ≡ lessOf x y ⌝ }
+{
+    let a = to_signed(x);
+    let b = to_signed(y);
+    a < b
+}
+
+// Condition c.
+pub fn holds(c: u64, x: u32, y: u32) -> bool
+    ensures { λ r. ⌜ r ≡ holdsOf c x y ⌝ }
+{
+    match c {
+        0 => true,
+        1 => x == y,
+        2 => x < y,
+        _ => less(x, y),
+    }
+}

@@ -1,0 +1,248 @@
+// Bundles: their count and base, the words of one, and the instruction that a bundle can be.
+use crate::guest::pack;
+use rules::Bundle;
+use rules::Fields;
+use rules::Instr;
+use rules::Layout;
+use rules::Limits;
+use rules::Machine;
+use rules::Policy;
+ghost use mathlib.Core.Path.{_≡_};
+ghost use mathlib.Core.Bool.{_&&_};
+ghost use Prim.Native.Nat.{_+_, _-_, _≤_, min};
+ghost use lib.Dec.{leb};
+ghost use Rattle.rules.specs.Names.{mostInstructions, mostBundles};
+ghost use Rattle.rules.specs.Words.{bundlesFor, packOf};
+ghost use Rattle.rules.specs.Commands.{limitsOf};
+ghost use Rattle.rules.specs.Bundles.{countRight, baseRight, bundleOf, valid as isValid, readOff};
+ghost use Rattle.words.specs.Packing.{cutWord, Fits};
+
+// The hidden register, which is also the count of the guest's, and the greatest condition.
+const HIDDEN: u64 = Machine::HIDDEN as u64;
+
+const TOP_CONDITION: u64 = 3;
+
+// The greatest values of the fields of SET, MOVE, SAR, and of the kinds with three registers.
+const SET: Limits = Limits {
+    d: HIDDEN,
+    a: 0,
+    b: 0,
+    c: 0,
+    v: 0xFFFF_FFFF,
+};
+
+const MOVE: Limits = Limits {
+    d: HIDDEN,
+    a: HIDDEN,
+    b: 0,
+    c: 0,
+    v: 0,
+};
+
+const SAR: Limits = Limits {
+    d: HIDDEN,
+    a: HIDDEN,
+    b: 0,
+    c: 0,
+    v: 31,
+};
+
+const THREE: Limits = Limits {
+    d: HIDDEN,
+    a: HIDDEN,
+    b: HIDDEN,
+    c: 0,
+    v: 0,
+};
+
+// N, the smallest power of two greater than n.
+pub fn bundles(n: usize) -> usize
+    ensures { λ r. ⌜ r ≡ bundlesFor (min n mostInstructions) ⌝ }
+{
+    if n > Instr::MOST {
+        return Bundle::MOST;
+    }
+    1usize << (32 - u32::leading_zeros(n as u32))
+}
+
+// Whether a list of k commands is N bundles, N a power of two from 1 to 1,024.
+pub fn count_right(k: usize) -> bool
+    ensures { λ r. ⌜ r ≡ countRight k ⌝ }
+{
+    (k <= Bundle::LENGTH * Bundle::MOST)
+        & (k % Bundle::LENGTH == 0)
+        & (usize::count_ones(k / Bundle::LENGTH) == 1)
+}
+
+// Whether the base is a multiple of the length of n bundles, n from 1 to 1,024.
+pub fn base_right(l: Layout, n: usize) -> bool
+    ensures { λ r. ⌜ r ≡ (leb 1 n && (leb n mostBundles && baseRight l n)) ⌝ }
+{
+    if n < 1 {
+        return false;
+    }
+    if n > Bundle::MOST {
+        return false;
+    }
+    l.base as usize % (Bundle::LENGTH * n) == 0
+}
+
+// x − y, or 0.
+fn minus(x: u64, y: u64) -> u64
+    ensures { λ r. ⌜ r ≡ x - y ⌝ }
+{
+    if x < y { 0 } else { x - y }
+}
+
+// The instruction whose bundle four words can be, by the kind of the first; y and z are the last two.
+pub fn read_off(l: Layout, w: u64, y: u64, z: u64) -> Instr
+    ensures { λ r. ⌜ r ≡ readOff l w y z ⌝ }
+{
+    let kind = w % 256;
+    let a = (w >> 12) % 16;
+    match kind {
+        1 => Instr::HALT,
+        9 => {
+            if y % 256 == 12 {
+                return Instr::LOAD((y >> 8) % 16, a);
+            }
+            Instr::STORE(a, (y >> 16) % 16)
+        }
+        14 => {
+            Instr::GOIF(
+                a,
+                (w >> 16) % 16,
+                (w >> 20) % 16,
+                minus(w >> 32, l.base as u64) / Bundle::LENGTH as u64,
+            )
+        }
+        11 => Instr::GOX(a, (z >> 12) % 16, (z >> 16) % 16, (z >> 20) % 16),
+        16 => Instr::EVENT(w >> 32),
+        _ => Instr::PLAIN(minus(kind, 1), (w >> 8) % 16, a, (w >> 16) % 16, w >> 32),
+    }
+}
+
+// The limits of the commands that kinds 1 to 7 become.
+fn plain_limits(k: u64) -> Limits
+    requires { ⌜ (1 ≤ k) × (k ≤ 7) ⌝ }
+    ensures { λ r. ⌜ r ≡ limitsOf (k + 1) ⌝ }
+{
+    match k {
+        1 => SET,
+        2 => MOVE,
+        7 => SAR,
+        _ => THREE,
+    }
+}
+
+// Whether an instruction's fields are in range, its registers the guest's, and its jump below n.
+pub fn valid(n: usize, i: Instr) -> bool
+    ensures { λ r. ⌜ r ≡ isValid n i ⌝ }
+{
+    match i {
+        Instr::HALT => true,
+        Instr::PLAIN(k, d, a, b, v) => {
+            if k < 1 {
+                return false;
+            }
+            if k > 7 {
+                return false;
+            }
+            let most = plain_limits(k);
+            (d < HIDDEN)
+                & (a < HIDDEN)
+                & (b < HIDDEN)
+                & (d <= most.d)
+                & (a <= most.a)
+                & (b <= most.b)
+                & (v <= most.v)
+        }
+        Instr::LOAD(d, a) => (d < HIDDEN) & (a < HIDDEN),
+        Instr::STORE(a, b) => (a < HIDDEN) & (b < HIDDEN),
+        Instr::GOIF(a, b, c, v) => {
+            (a < HIDDEN) & (b < HIDDEN) & (c <= TOP_CONDITION) & (v < n as u64)
+        }
+        Instr::GOX(d, a, b, c) => {
+            (d < HIDDEN) & (a < HIDDEN) & (b < HIDDEN) & (c <= TOP_CONDITION)
+        }
+        Instr::EVENT(e) => e < Policy::EVENTS as u64,
+    }
+}
+
+fn word(kind: u64, d: u64, a: u64, b: u64, c: u64, v: u64) -> u64
+    ensures { λ r. ⌜ r ≡ cutWord kind d a b c v ⌝ }
+{
+    pack(Fields {
+        kind,
+        d,
+        a,
+        b,
+        c,
+        v,
+    })
+}
+
+// The four words of an instruction's bundle, among n.
+pub fn bundle(l: Layout, n: usize, i: Instr) -> Bundle
+    requires { ⌜ Fits n i ⌝ }
+    ensures { λ r. ⌜ r ≡ bundleOf l n i ⌝ }
+{
+    let base = l.base as u64;
+    let low = l.low as u64;
+    let high = l.high as u64;
+    match i {
+        Instr::HALT => Bundle {
+            words: [word(1, 0, 0, 0, 0, 0), 0, 0, 0],
+        },
+        Instr::PLAIN(k, d, a, b, v) => Bundle {
+            words: [word(k + 1, d, a, b, 0, v), 0, 0, 0],
+        },
+        Instr::LOAD(d, a) => Bundle {
+            words: [
+                word(9, HIDDEN, a, 0, 0, high),
+                word(10, HIDDEN, HIDDEN, 0, 0, low),
+                word(12, d, HIDDEN, 0, 0, 0),
+                0,
+            ],
+        },
+        Instr::STORE(a, b) => Bundle {
+            words: [
+                word(9, HIDDEN, a, 0, 0, high),
+                word(10, HIDDEN, HIDDEN, 0, 0, low),
+                word(13, 0, HIDDEN, b, 0, 0),
+                0,
+            ],
+        },
+        Instr::GOIF(a, b, c, v) => Bundle {
+            words: [
+                word(14, 0, a, b, c, base + Bundle::LENGTH as u64 * v),
+                0,
+                0,
+                0,
+            ],
+        },
+        Instr::GOX(d, a, b, c) => Bundle {
+            words: [
+                word(11, HIDDEN, d, 0, 0, 2),
+                word(
+                    9,
+                    HIDDEN,
+                    HIDDEN,
+                    0,
+                    0,
+                    base + Bundle::LENGTH as u64 * n as u64 - 1,
+                ),
+                word(10, HIDDEN, HIDDEN, 0, 0, base),
+                word(15, HIDDEN, a, b, c, 0),
+            ],
+        },
+        Instr::EVENT(e) => Bundle {
+            words: [
+                word(16, HIDDEN, 0, 0, 0, e),
+                word(17, HIDDEN, 0, 0, 0, 0),
+                word(18, HIDDEN, 0, 0, 0, 0),
+                word(19, 0, 0, 0, 0, e),
+            ],
+        },
+    }
+}

@@ -1,0 +1,176 @@
+// The words of a guest's instructions: their fields, their first refusal, the instruction that they stand for.
+use rules::Fields;
+use rules::Instr;
+use rules::Refusal;
+ghost use mathlib.Core.Path.{_≡_};
+ghost use Prim.Native.Nat.{_-_, _≤_};
+ghost use lib.ListN.{getD};
+ghost use Rattle.rules.specs.Names.{topKind};
+ghost use Rattle.rules.specs.Words.{fieldsOf, packFields, zeroOf, fieldSets, numberTops, bitOf, strayFields, highFields, judgeOf, judgeWord, judgeAt, instrOf};
+ghost use Rattle.words.specs.Packing.{cutOf};
+
+// The greatest kind, the greatest register and condition of a field, and the kind with a landing.
+const TOP_KIND: u64 = 12;
+
+const TOP_GUEST: u64 = 7;
+
+const TOP_CONDITION: u64 = 3;
+
+const GOIF: u64 = 10;
+
+// The fields of each kind, as a map: bit 0 kind, 1 d, 2 a, 3 b, 4 c, 5 v.
+const FIELD_SETS: [u64; 13] = [1, 35, 7, 15, 15, 15, 15, 39, 7, 13, 61, 31, 33];
+
+// The greatest v of each kind.
+const NUMBER_TOPS: [u64; 13] = [
+    4294967295,
+    4294967295,
+    4294967295,
+    4294967295,
+    4294967295,
+    4294967295,
+    4294967295,
+    31,
+    4294967295,
+    4294967295,
+    4294967295,
+    4294967295,
+    15,
+];
+
+pub fn fields(w: u64) -> Fields
+    ensures { λ r. ⌜ r ≡ fieldsOf w ⌝ }
+{
+    Fields {
+        kind: w % 256,
+        d: (w >> 8) % 16,
+        a: (w >> 12) % 16,
+        b: (w >> 16) % 16,
+        c: (w >> 20) % 16,
+        v: w >> 32,
+    }
+}
+
+// The word of given fields, each cut to its width.
+pub fn pack(f: Fields) -> u64
+    ensures { λ r. ⌜ r ≡ packFields (cutOf f) ⌝ }
+{
+    f.kind % 256
+        + ((f.d % 16) << 8)
+        + ((f.a % 16) << 12)
+        + ((f.b % 16) << 16)
+        + ((f.c % 16) << 20)
+        + ((f.v % 0x1_0000_0000) << 32)
+}
+
+fn set_of(k: usize) -> u64
+    requires { ⌜ k ≤ topKind ⌝ }
+    ensures { λ r. ⌜ r ≡ getD fieldSets k 0 ⌝ }
+{
+    FIELD_SETS[k]
+}
+
+fn top_of(k: usize) -> u64
+    requires { ⌜ k ≤ topKind ⌝ }
+    ensures { λ r. ⌜ r ≡ getD numberTops k 0 ⌝ }
+{
+    NUMBER_TOPS[k]
+}
+
+// 1 of a field that stands where its kind's set has a 0.
+fn over(x: u64, has: u64) -> u64
+    requires { ⌜ has ≤ 1 ⌝ }
+    ensures { λ r. ⌜ (r ≡ bitOf x - has) × (r ≤ 1) ⌝ }
+{
+    if x == 0 { 0 } else { 1 - has }
+}
+
+// 1 of a number above a bound.
+fn above(x: u64, most: u64) -> u64
+    ensures { λ r. ⌜ (r ≡ bitOf (x - most)) × (r ≤ 1) ⌝ }
+{
+    if x > most { 1 } else { 0 }
+}
+
+fn stray(set: u64, f: Fields) -> u64
+    ensures { λ r. ⌜ r ≡ strayFields set f ⌝ }
+{
+    over(f.d, set / 2 % 2)
+        + over(f.a, set / 4 % 2)
+        + over(f.b, set / 8 % 2)
+        + over(f.c, set / 16 % 2)
+        + over(f.v, set / 32 % 2)
+}
+
+fn high(top: u64, f: Fields) -> u64
+    ensures { λ r. ⌜ r ≡ highFields top f ⌝ }
+{
+    above(f.d, TOP_GUEST)
+        + above(f.a, TOP_GUEST)
+        + above(f.b, TOP_GUEST)
+        + above(f.c, TOP_CONDITION)
+        + above(f.v, top)
+}
+
+// An instruction's first refusal, 3, 2 or 4, or 0; x is not 0 where its form has foreign matter of its own.
+pub fn judge(x: u64, f: Fields) -> u8
+    ensures { λ r. ⌜ r ≡ judgeOf x f ⌝ }
+{
+    let kind = f.kind;
+    if kind > TOP_KIND {
+        return Refusal::UNKNOWN_KIND;
+    }
+    if x != 0 {
+        return Refusal::FOREIGN;
+    }
+    let k = kind as usize;
+    if stray(set_of(k), f) != 0 {
+        return Refusal::FOREIGN;
+    }
+    if high(top_of(k), f) == 0 {
+        Refusal::TAKEN
+    } else {
+        Refusal::OFF_RANGE
+    }
+}
+
+pub fn judge_word(w: u64) -> u8
+    ensures { λ r. ⌜ r ≡ judgeWord w ⌝ }
+{
+    judge((w >> 24) % 256, fields(w))
+}
+
+// The first refusal of a word among n instructions, 3, 2, 4 or 8, or 0.
+pub fn judge_at(n: usize, w: u64) -> u8
+    ensures { λ r. ⌜ r ≡ judgeAt n w ⌝ }
+{
+    let number = judge_word(w);
+    if number != 0 {
+        return number;
+    }
+    if (w % 256 == GOIF) & ((n as u64) < w >> 32) {
+        return Refusal::BAD_LANDING;
+    }
+    Refusal::TAKEN
+}
+
+// The instruction of a word, by its kind.
+pub fn instruction(w: u64) -> Instr
+    ensures { λ r. ⌜ r ≡ instrOf w ⌝ }
+{
+    let kind = w % 256;
+    let d = (w >> 8) % 16;
+    let a = (w >> 12) % 16;
+    let b = (w >> 16) % 16;
+    let c = (w >> 20) % 16;
+    let v = w >> 32;
+    match kind {
+        0 => Instr::HALT,
+        1..=7 => Instr::PLAIN(kind, d, a, b, v),
+        8 => Instr::LOAD(d, a),
+        9 => Instr::STORE(a, b),
+        10 => Instr::GOIF(a, b, c, v),
+        11 => Instr::GOX(d, a, b, c),
+        _ => Instr::EVENT(v),
+    }
+}
