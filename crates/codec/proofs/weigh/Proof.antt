@@ -1,0 +1,69 @@
+use borrow.Author.Needs.{needs}
+use Rattle.codec.proofs.Writing.{weigh-done, weigh-more, weigh-stop}
+use mathlib.Core.Path.{_≡_}
+use Prim.Native.Nat.{_≤_, _-_, _+_, _*_}
+use lib.ListN.{length, drop}
+use Rattle.rules.specs.Bytes.{weighOf}
+use Rattle.codec.proofs.weigh.Statement.{statement}
+use Rattle.codec.proofs.weigh.Tie as tie
+use Rattle.codec.proofs.weigh.Reads as reads
+use Rattle.codec.proofs.weigh.Lts as lts
+use Rattle.words.proofs.guest.judge_word.Reads as judge-word-reads
+use Rattle.codec.proofs.weight_word.Reads as weight-word-reads
+
+abbrev Inv-loop : tie.InvT-loop
+Inv-loop words i₀ z₀ i z = (i ≤ length words) × (z ≤ 2 + 10 * i) × (weighOf words 0 2 ≡ weighOf (drop i words) i z)
+
+abbrev μ-loop : tie.MeasureT-loop
+μ-loop words i₀ z₀ i z = length words - i
+
+loop-holds : tie.Need-loop-holds Inv-loop μ-loop
+loop-holds c = search needs
+
+mul-w : tie.Need-mul-w Inv-loop μ-loop
+mul-w c = search needs
+
+shared-slice-read-w : tie.Need-shared-slice-read-w Inv-loop μ-loop
+shared-slice-read-w c = search needs
+
+judge-word-requires : tie.Need-judge-word-requires Inv-loop μ-loop
+judge-word-requires c κs = search needs
+
+returns : tie.Need-returns Inv-loop μ-loop
+returns c = search (weigh-stop, needs)
+
+weight-word-requires : tie.Need-weight-word-requires Inv-loop μ-loop
+weight-word-requires c κs = search needs
+
+add-z : tie.Need-add-z Inv-loop μ-loop
+add-z c = search needs
+
+add-i : tie.Need-add-i Inv-loop μ-loop
+add-i c = search needs
+
+loop-less : tie.Need-loop-less Inv-loop μ-loop
+loop-less c = search needs
+
+loop-again : tie.Need-loop-again Inv-loop μ-loop
+loop-again c = search (weigh-more, needs)
+
+returns-2 : tie.Need-returns-2 Inv-loop μ-loop
+returns-2 c = search (weigh-done, needs)
+
+pub weigh-spec : {M : Type 1} → statement M
+weigh-spec =
+    tie.close
+    (tie.spec
+    Inv-loop
+    μ-loop
+    loop-holds
+    mul-w
+    shared-slice-read-w
+    judge-word-requires
+    returns
+    weight-word-requires
+    add-z
+    add-i
+    loop-less
+    loop-again
+    returns-2)
