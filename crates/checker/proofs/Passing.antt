@@ -1,0 +1,105 @@
+-- Laws of checking.
+use mathlib.Core.Path.{_≡_, refl, sym, ap, _∙_}
+use mathlib.Core.Bool.{Bool, true, false, _&&_, _||_, cond}
+use mathlib.Core.List.{List, [], _∷_}
+use Prim.Native.Nat.{ℕ, zero, suc, _+_, _-_, _*_, _/_, _%_, _≤_, _<_}
+use native.Mathlib.Omega.{arith}
+use lib.Count.{ones, ones-le}
+use lib.Dec.{ltb, leb, eqb}
+use lib.ListN.{length, getD}
+use borrow.Author.Tests.{leb-true, le-leb, eqb-true}
+use Rattle.rules.specs.declared.Layout.{Layout}
+use Rattle.rules.specs.declared.Instr.{Instr}
+use Rattle.rules.specs.declared.Bundle.{Bundle}
+use Rattle.rules.specs.declared.Answer.{Answer}
+use Rattle.rules.specs.Names.{mostBundles, bundleLength, answer}
+use Rattle.rules.specs.Layouts.{rightLayout}
+use Rattle.rules.specs.Bundles.{bundleWord, bundleOf, valid, readOff, bundleAt, isBundle, shapedAt, isHalt, passesAt, checkFrom, baseRight, countRight, checkAnswer}
+use Rattle.rules.proofs.Bools.{both}
+use Rattle.words.specs.Packing.{Fits}
+
+-- ---- one bundle
+
+pub fits : (n : ℕ) (i : Instr) (t : Bool) → 0 < n → n ≤ mostBundles → t ≡ valid n i → t ≡ true → Fits n i
+fits n i t s m et e = record { some = s; most = m; valid = sym et ∙ e }
+
+module _ (l : Layout) (n : ℕ) (i : Instr) (w x y z : ℕ) (t : Bool) (et : t ≡ valid n i) where
+  pub not-bundle : t ≡ false → false ≡ isBundle l n i w x y z
+  unfolding isBundle
+  not-bundle h = rw (← et, h)
+
+  pub is-bundle : t ≡ true → (b : Bundle) → b ≡ bundleOf l n i
+      → (eqb w (getD (b .words) 0 0) && eqb x (getD (b .words) 1 0) && eqb y (getD (b .words) 2 0) && eqb z (getD (b .words) 3 0)) ≡ isBundle l n i w x y z
+  unfolding isBundle
+  is-bundle h b eb = rw (← et, h, eb)
+
+module _ (l : Layout) (n : ℕ) (ws : List ℕ) (h : ℕ) where
+  pub passing : (i : Instr) → i ≡ readOff l (getD ws (bundleLength * h) 0) (getD ws (bundleLength * h + 2) 0) (getD ws (bundleLength * h + 3) 0)
+      → (s : Bool)
+      → s ≡ isBundle l n i (getD ws (bundleLength * h) 0) (getD ws (bundleLength * h + 1) 0) (getD ws (bundleLength * h + 2) 0) (getD ws (bundleLength * h + 3) 0)
+      → (k : Bool) → k ≡ isHalt i → (s && (ltb (h + 1) n || k)) ≡ passesAt l n ws h
+  unfolding passesAt shapedAt bundleAt
+  passing i ei s es k ek = rw (es, ek, ei)
+
+  -- ---- the bundles in order
+
+  module _ (lt : h < n) (p : Bool) (ep : p ≡ passesAt l n ws h) (a : Answer) (ea : a ≡ checkFrom l n ws h (n - h)) where
+    left : n - h ≡ suc (n - (h + 1))
+    left = omega arith
+
+    pub check-more : p ≡ true → a ≡ checkFrom l n ws (h + 1) (n - (h + 1))
+    unfolding checkFrom
+    check-more e = ea ∙ rw (left, ← ep, e)
+
+    pub check-stop : p ≡ false → answer 11 h ≡ a
+    unfolding checkFrom
+    check-stop e = sym (ea ∙ rw (left, ← ep, e))
+
+  pub check-done : n ≤ h → (a : Answer) → a ≡ checkFrom l n ws h (n - h) → answer 0 0 ≡ a
+  unfolding checkFrom
+  check-done g a ea = let none : n - h ≡ 0 = omega arith in sym (ea ∙ rw none)
+
+-- ---- the whole
+
+module _ (l : Layout) (ws : List ℕ) (t : Bool) (et : t ≡ rightLayout l) where
+  pub bad-layout : t ≡ false → answer 7 0 ≡ checkAnswer l ws
+  unfolding checkAnswer
+  bad-layout e = rw (← et, e)
+
+  module _ (e : t ≡ true) (c : Bool) (ec : c ≡ countRight (length ws)) where
+    pub bad-count : c ≡ false → answer 12 0 ≡ checkAnswer l ws
+    unfolding checkAnswer
+    bad-count f = rw (← et, e, ← ec, f)
+
+    -- a right count is of 1 to 1,024 bundles
+    module _ (f : c ≡ true) where
+      count-facts : (length ws ≤ bundleLength * mostBundles) × (length ws % bundleLength ≡ 0) × (ones (length ws / bundleLength) ≡ 1)
+      count-facts =
+          let h = both _ _ (sym ec ∙ f) in
+          let g = both _ _ (h .0) in
+          (leb-true _ _ (g .0), eqb-true _ _ (g .1), eqb-true _ _ (h .1))
+
+      pub count-most : length ws / bundleLength ≤ mostBundles
+      count-most = omega (arith, count-facts .0)
+
+      pub count-all : bundleLength * (length ws / bundleLength) ≤ length ws
+      count-all = omega arith
+
+      pub count-some : 0 < length ws / bundleLength
+      count-some = go (length ws / bundleLength) (count-facts .2)
+        where
+          go : (k : ℕ) → ones k ≡ 1 → 0 < k
+          go zero e = absurd (omega (arith, ones-le 0 0 (omega arith)))
+          go (suc k) e = omega arith
+
+      module _ (b : Bool) (eb : b ≡ (leb 1 (length ws / bundleLength) && (leb (length ws / bundleLength) mostBundles && baseRight l (length ws / bundleLength)))) where
+        based : b ≡ baseRight l (length ws / bundleLength)
+        based = eb ∙ rw (le-leb 1 (length ws / bundleLength) count-some, le-leb (length ws / bundleLength) mostBundles count-most)
+
+        pub bad-base : b ≡ false → answer 13 0 ≡ checkAnswer l ws
+        unfolding checkAnswer
+        bad-base g = rw (← et, e, ← ec, f, ← based, g)
+
+        pub checked : b ≡ true → (a : Answer) → a ≡ checkFrom l (length ws / bundleLength) ws 0 (length ws / bundleLength) → a ≡ checkAnswer l ws
+        unfolding checkAnswer
+        checked g a ea = ea ∙ rw (← et, e, ← ec, f, ← based, g)

@@ -1,0 +1,107 @@
+// The check of a list of commands: bundles of the known shapes, the last of them HALT. It takes lists of any producer.
+use rules::Answer;
+use rules::Bundle;
+use rules::Instr;
+use rules::Layout;
+use rules::Refusal;
+use words::bundle::base_right;
+use words::bundle::bundle;
+use words::bundle::count_right;
+use words::bundle::read_off;
+use words::bundle::valid;
+use words::layout::right;
+ghost use mathlib.Core.Path.{_≡_};
+ghost use Prim.Native.Nat.{_+_, _*_, _≤_, _<_};
+ghost use lib.ListN.{length};
+ghost use Rattle.rules.specs.Names.{mostBundles, bundleLength};
+ghost use Rattle.rules.specs.Bundles.{isBundle, isHalt, passesAt, checkFrom, checkAnswer};
+
+// Whether four words are the bundle of an instruction among n.
+fn is_bundle(l: Layout, n: usize, i: Instr, w: u64, x: u64, y: u64, z: u64) -> bool
+    requires { ⌜ (0 < n) × (n ≤ mostBundles) ⌝ }
+    ensures { λ r. ⌜ r ≡ isBundle l n i w x y z ⌝ }
+{
+    if !valid(n, i) {
+        return false;
+    }
+    let made = bundle(l, n, i);
+    let words = made.words;
+    (w == words[0]) & (x == words[1]) & (y == words[2]) & (z == words[3])
+}
+
+fn is_halt(i: Instr) -> bool
+    ensures { λ r. ⌜ r ≡ isHalt i ⌝ }
+{
+    match i {
+        Instr::HALT => true,
+        Instr::PLAIN(_, _, _, _, _) => false,
+        Instr::LOAD(_, _) => false,
+        Instr::STORE(_, _) => false,
+        Instr::GOIF(_, _, _, _) => false,
+        Instr::GOX(_, _, _, _) => false,
+        Instr::EVENT(_) => false,
+    }
+}
+
+// Whether bundle h of n has a shape, and is a HALT if it is the last.
+fn passes(l: Layout, n: usize, commands: &[u64], h: usize) -> bool
+    requires { ⌜ (0 < n) × (n ≤ mostBundles) × (h < n) × (bundleLength * n ≤ length (now commands)) ⌝ }
+    ensures { λ r. ⌜ r ≡ passesAt l n (now (commands .entry)) h ⌝ }
+{
+    let at = Bundle::LENGTH * h;
+    let w = commands[at];
+    let x = commands[at + 1];
+    let y = commands[at + 2];
+    let z = commands[at + 3];
+    let i = read_off(l, w, y, z);
+    let shaped = is_bundle(l, n, i, w, x, y, z);
+    let last = is_halt(i);
+    shaped & ((h + 1 < n) | last)
+}
+
+// The lowest of n bundles that does not pass.
+fn scan(l: Layout, n: usize, commands: &[u64]) -> Answer
+    requires { ⌜ (0 < n) × (n ≤ mostBundles) × (bundleLength * n ≤ length (now commands)) ⌝ }
+    ensures { λ r. ⌜ r ≡ checkFrom l n (now (commands .entry)) 0 n ⌝ }
+{
+    let mut h: usize = 0;
+    while h < n {
+        if !passes(l, n, commands, h) {
+            return Answer {
+                number: Refusal::BAD_BUNDLE,
+                place: h,
+            };
+        }
+        h += 1;
+    }
+    Answer {
+        number: Refusal::TAKEN,
+        place: 0,
+    }
+}
+
+pub fn check(layout: Layout, commands: &[u64]) -> Answer
+    ensures { λ r. ⌜ r ≡ checkAnswer layout (now (commands .entry)) ⌝ }
+{
+    if !right(layout) {
+        return Answer {
+            number: Refusal::BAD_LAYOUT,
+            place: 0,
+        };
+    }
+    let count = commands.len();
+    if !count_right(count) {
+        return Answer {
+            number: Refusal::BAD_COUNT,
+            place: 0,
+        };
+    }
+    let n = count / Bundle::LENGTH;
+    if !base_right(layout, n) {
+        return Answer {
+            number: Refusal::BAD_BASE,
+            place: 0,
+        };
+    }
+    scan(layout, n, commands)
+}
