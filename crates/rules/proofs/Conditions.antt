@@ -189,7 +189,7 @@ module _ (lay : Layout) (ws : List ℕ) (n : ℕ) (passed : Passed lay ws n) whe
         each =
             λ h p lh lp.
             fetched ws (lay .base) h p (omega (arith, passed .count)) ∙ ap commandOf (passed-word h lh p lp)
-            ∙ bundle-reads lay n (held-of lay n (layout-facts lay (passed .right)) (passed .most) some) (bundleAt lay ws h) (passed-valid h lh) p;
+            ∙ bundle-reads lay n (held-of lay n (layout-facts lay (passed .right)) (passed .most) some) (bundleAt lay ws h) (passed-valid h lh) p lp;
         last = passed-last;
       }
 
@@ -393,7 +393,7 @@ module _ (lay : Layout) (code : List ℕ) (taken : Taken lay code) where
         each =
             λ h p lh lp.
             fetched (commandsOf lay code) (lay .base) h p (omega (arith, routine-length)) ∙ ap commandOf (routine-word h p lh lp)
-            ∙ bundle-reads lay count (held-of lay count (layout-facts lay (taken .right)) count-most some) (routine code h) (routine-valid h) p;
+            ∙ bundle-reads lay count (held-of lay count (layout-facts lay (taken .right)) count-most some) (routine code h) (routine-valid h) p lp;
         last = routine-last;
       }
 

@@ -12,9 +12,9 @@ use Rattle.rules.specs.Words.{routine, bundlesFor}
 use Rattle.rules.specs.Bundles.{commandsOf, bundleAt}
 use Rattle.rules.specs.Machines.{installAnswer, installMemory}
 use Rattle.rules.specs.Guests.{guestStart}
-use Rattle.rules.specs.Runs.{Given, carriedOf, atFirst, after, Lends, Served}
+use Rattle.rules.specs.Runs.{Given, carriedOf, atFirst, after, Served}
 use Rattle.rules.specs.Claims.{GuestRule, StateCell, Isolation}
-use Rattle.rules.proofs.Facts.{Right, Bundled, Laid}
+use Rattle.rules.proofs.Facts.{Right, Bundled}
 use Rattle.rules.proofs.Conditions.{bundled-of, right-of, laid-of, machine-of, bundled-routine, right-routine}
 use Rattle.rules.proofs.Sim.{Stays}
 use Rattle.rules.proofs.Track.{stays-runs, install, agrees-after, cell-laws, allowed-runs, sound-runs, kept-runs}
@@ -27,7 +27,7 @@ at-first lay pol ws mem n is ok bs z =
     (install lay pol ws n is ok bs (installMemory lay pol mem) (laid-of lay pol mem z))
 
 -- and a list of runs from it
-stays : (lay : Layout) (pol : Policy) (ws mem : List ℕ) (gs : List Given) (n : ℕ) (is : ℕ → Instr) → Right lay pol n → Bundled lay ws n is → Served lay pol ws mem gs → Stays lay pol n is (guestStart lay pol (installMemory lay pol mem)) (after lay pol ws mem gs)
+pub stays : (lay : Layout) (pol : Policy) (ws mem : List ℕ) (gs : List Given) (n : ℕ) (is : ℕ → Instr) → Right lay pol n → Bundled lay ws n is → Served lay pol ws mem gs → Stays lay pol n is (guestStart lay pol (installMemory lay pol mem)) (after lay pol ws mem gs)
 stays lay pol ws mem gs n is ok bs v =
     stays-runs lay pol ws n is ok bs (guestStart lay pol (installMemory lay pol mem)) (atFirst lay pol mem) gs (v .lends) (at-first lay pol ws mem n is ok bs (v .installed))
 

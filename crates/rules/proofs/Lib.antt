@@ -14,6 +14,7 @@ pub mod Sim
 pub mod Track
 pub mod Twins
 pub mod Isolation
+pub mod Progress
 pub mod Moments
 pub mod Counts
 pub mod Samples

@@ -5,7 +5,7 @@ use mathlib.Core.Logic.{⊎-elim}
 use mathlib.Core.List.{List, [], _∷_}
 use Prim.Native.Nat.{ℕ, zero, suc, _+_, _*_, _<_}
 use native.Mathlib.Omega.{arith}
-use borrow.Author.Tests.{ltb-true, ltb-false, eqb-false, eqb-true, eq-eqb}
+use borrow.Author.Tests.{ltb-true, ltb-false, eqb-false, eqb-true}
 use lib.Dec.{eqb, ltb}
 use lib.ListN.{length, getD, set, length-set, List·getD-eq-default}
 use lib.Seq.{getD-set-same, getD-set-other, set-out}
@@ -25,13 +25,14 @@ use Rattle.rules.specs.Names.{events, hidden}
 use Rattle.rules.specs.Layouts.{inBox, rightLayout}
 use Rattle.rules.specs.Policies.{Policy}
 use Rattle.rules.specs.Commands.{fetchOf}
-use Rattle.rules.specs.Machines.{viewOf, effectOf, State, stateOf, withPair, applyOf, seen, nextOf, stepOf, endingOf, Ran, endedIn, unlessOver, unlessWait, fits, startOf, runFrom, runOf, installAnswer, installMemory, installMachine, machineAt}
+use Rattle.rules.specs.Machines.{viewOf, effectOf, State, stateOf, withPair, applyOf, seen, nextOf, stepOf, endingOf, Ran, endedIn, unlessOver, unlessWait, fits, startOf, runFrom, runOf, installMemory}
 use Rattle.rules.specs.Bundles.{shapeOf}
 use Rattle.rules.specs.Guests.{Pair, Guest, rOf, guestStart}
 use Rattle.rules.specs.Runs.{Given, pairsOf, Carried, carriedOf, atFirst, runOn, afterTaken, firstOf, afterRun, runsOf, Lent, Lends, Served}
 use Rattle.rules.specs.Claims.{Each, Alike, Same, Matches}
 use Rattle.rules.proofs.Bools.{no, cases, both}
 use Rattle.rules.proofs.Facts.{Right, Valid, Bundled, Laid}
+use Rattle.rules.proofs.Conditions.{machine-of}
 use Rattle.rules.proofs.Sim.{Mid, start, rest, load1, load2, store1, store2, gox1, gox2, gox3, event1, event2, event3, Sim, over, live, Known, Stays}
 use Rattle.rules.proofs.Track.{course-going, lent-box, lent-cell, lent-table, tracks, step-known, enter, stays-run, install}
 
@@ -304,16 +305,11 @@ watched lay pol ws n is g0 ok bs =
       leave = λ c g lent w. stays-run lay pol ws n is ok bs g0 c g _ refl lent w;
     }
 
--- an installation that answered 0 yields the record with pc at the base
-installed-at : (lay : Layout) (pol : Policy) (mem : List ℕ) → installAnswer lay pol mem .number ≡ 0 → installMachine lay pol mem ≡ machineAt (lay .base)
-unfolding installMachine
-installed-at lay pol mem z = rw (eq-eqb _ _ z)
-
 pub alone : (lay : Layout) (pol : Policy) (ws mem : List ℕ) (gs : List Given) (n : ℕ) (is : ℕ → Instr) → Right lay pol n → Bundled lay ws n is → Laid lay pol (installMemory lay pol mem) → Served lay pol ws mem gs → (pol′ : Policy) (mem′ : List ℕ) (gs′ : List Given) → Served lay pol′ ws mem′ gs′ → Matches lay (installMemory lay pol mem) (installMemory lay pol′ mem′) → Each Alike gs gs′ → Each (Same lay) (runsOf lay ws (atFirst lay pol mem) gs) (runsOf lay ws (atFirst lay pol′ mem′) gs′)
 alone lay pol ws mem gs n is ok bs laid v pol′ mem′ gs′ v′ m a =
     let g0 = guestStart lay pol (installMemory lay pol mem) in
-    let e = installed-at lay pol mem (v .installed) in
-    let e′ = installed-at lay pol′ mem′ (v′ .installed) in
+    let e = machine-of lay pol mem (v .installed) in
+    let e′ = machine-of lay pol′ mem′ (v′ .installed) in
     runs-alike lay ws (Within lay pol n is g0) (Stays lay pol n is g0) (watched lay pol ws n is g0 ok bs) (atFirst lay pol mem) (atFirst lay pol′ mem′) gs gs′ a (v .lends) (v′ .lends)
     (subst (λ (x : Machine). Stays lay pol n is g0 (carriedOf x (installMemory lay pol mem) [] [] 0)) (sym e) (install lay pol ws n is ok bs (installMemory lay pol mem) laid))
     (record { machine = e ∙ sym e′; seen = m })

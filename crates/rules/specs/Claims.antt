@@ -21,7 +21,7 @@ use Rattle.rules.specs.Commands.{shlOf}
 use Rattle.rules.specs.Bundles.{addressOf, lastAddress, baseRight, commandsOf, commandCount, rewriteAnswer, checkAnswer}
 use Rattle.rules.specs.Machines.{State, leftIn, runFrom, runOf, installMemory}
 use Rattle.rules.specs.Guests.{Course, going, ended, stopped, Guest, guestAfter, guestStart, boxOf}
-use Rattle.rules.specs.Runs.{begunFrom, Given, Carried, atFirst, after, Run, runsOf, Lends, Served, pairsOf, eventsOf, pendingAt}
+use Rattle.rules.specs.Runs.{begunFrom, Given, Carried, atFirst, afterRun, after, Run, runsOf, Lent, Lends, Served, pairsOf, eventsOf, pendingAt}
 
 -- ---- masks and sizes
 
@@ -132,6 +132,24 @@ pub record Agrees (lay : Layout) (g : Guest) (c : Carried) : Type 0 where
 abbrev pub GuestRule : Type 0
 GuestRule =
     (lay : Layout) (pol : Policy) (code mem : List ℕ) (room : ℕ) (gs : List Given) → rewriteAnswer lay code room .number ≡ 0 → Served lay pol (commandsOf lay code) mem gs → Stands lay (after lay pol (commandsOf lay code) mem gs .machine) → Agrees lay (guestAfter lay pol (bundlesFor (length code)) (routine code) (after lay pol (commandsOf lay code) mem gs .used) (guestStart lay pol (installMemory lay pol mem)) (after lay pol (commandsOf lay code) mem gs .begun)) (after lay pol (commandsOf lay code) mem gs)
+
+-- ---- progress: what the guest does in its next instruction, the machine does too
+
+-- what a run is given, with another budget
+abbrev pub givenFor : Given → ℕ → Given
+givenFor g j = record { memory = g .memory; budget = j; readings = g .readings; log = g .log }
+
+-- after a run of at most four steps the machine stands again, one bundle on
+pub record Proceeds (lay : Layout) (ws : List ℕ) (c : Carried) (g : Given) : Type 0 where
+  pub budget : ℕ
+  pub few : budget ≤ bundleLength
+  pub stands : Stands lay (afterRun lay ws c (givenFor g budget) .machine)
+  pub begun : afterRun lay ws c (givenFor g budget) .begun ≡ c .begun + 1
+
+-- a machine that stands and runs, lent its memory, two log cells and a reading, comes to the next place of comparison
+abbrev pub Progress : Type 0
+Progress =
+    (lay : Layout) (pol : Policy) (ws mem : List ℕ) (gs : List Given) → Served lay pol ws mem gs → Stands lay (after lay pol ws mem gs .machine) → after lay pol ws mem gs .machine .status ≡ Running → (g : Given) → Lent lay (after lay pol ws mem gs) g → length (g .memory) ≡ lay .size → 2 ≤ length (g .log) → 1 ≤ length (g .readings) → Proceeds lay ws (after lay pol ws mem gs) g
 
 -- ---- isolation
 

@@ -1,0 +1,269 @@
+-- A machine that stands on a first command comes within four steps to the next place of comparison, if log and readings suffice.
+-- So whatever the guest does in its next instruction, the machine does too.
+use mathlib.Core.Path.{_≡_, refl, sym, _∙_, ap, subst}
+use mathlib.Core.Bool.{Bool, true, false, cond}
+use mathlib.Core.Logic.{_⊎_, inl, inr, ⊎-elim}
+use mathlib.Core.List.{List, []}
+use Prim.Native.Nat.{ℕ, zero, suc, _+_, _-_, _*_, _/_, _%_, _<_, _≤_}
+use native.Mathlib.Omega.{arith}
+use borrow.Author.Tests.{le-ltb, ne-eqb, eq-eqb}
+use lib.Dec.{eqb, ltb}
+use lib.ListN.{length, getD}
+use Rattle.rules.specs.declared.Layout.{Layout}
+use Rattle.rules.specs.declared.Instr.{Instr}
+use Rattle.rules.specs.declared.Instr.the-variants.{HALT, PLAIN, LOAD, STORE, GOIF, GOX, EVENT}
+use Rattle.rules.specs.declared.Command.{Command}
+use Rattle.rules.specs.declared.Command.the-variants.{Nop, Halt, Plain, Load, Store, GoIf, GoReg, Look, StopIf, Keep, Event, Stray}
+use Rattle.rules.specs.declared.Status.{Status}
+use Rattle.rules.specs.declared.Status.the-variants.{Running, Ended, Stopped, Faulted}
+use Rattle.rules.specs.declared.Ending.{Ending}
+use Rattle.rules.specs.declared.Ending.the-variants.{LogFull, Silent}
+use Rattle.rules.specs.declared.Effect.{Effect}
+use Rattle.rules.specs.declared.Effect.the-variants.{Go, Put, Cell, Order, Probe, End, Wait}
+use Rattle.rules.specs.Names.{orders, noArrow, bundleLength, hidden}
+use Rattle.rules.specs.Policies.{Policy}
+use Rattle.rules.specs.Commands.{fetchOf, holdsOf}
+use Rattle.rules.specs.Bundles.{addressOf, shapeOf, bundleAt}
+use Rattle.rules.specs.Machines.{State, View, regAt, entryOf, onward, effectOf, applyOf, seen, nextOf, stepOf, unlessWait, runFrom, startOf, runOf, fits, installMemory}
+use Rattle.rules.specs.Guests.{Pair, Guest, rOf, guestStart}
+use Rattle.rules.specs.Runs.{Given, Carried, firstOf, begunFrom, runOn, afterTaken, afterRun, after, Lent, Served, eventIn}
+use Rattle.rules.specs.Claims.{Stands, givenFor, Proceeds, Progress}
+use Rattle.rules.proofs.Facts.{Right, Bundled}
+use Rattle.rules.proofs.Bools.{no}
+use Rattle.rules.proofs.Conditions.{bundled-of, right-of, layout-of}
+use Rattle.rules.proofs.Endings.{either}
+use Rattle.rules.proofs.Sim.{Mid, start, rest, load1, load2, store1, store2, gox1, gox2, gox3, event1, event2, event3, Sim, over, live, Known}
+use Rattle.rules.proofs.Track.{course-going, first-yes, first-no, silent, fetched, tracks, step-known, enter}
+use Rattle.rules.proofs.Isolation.{stays}
+
+-- ---- effects that neither pause nor record
+abbrev Still : Effect → Type 0
+Still (Go to) = Unit {0}
+Still (Put d x) = Unit {0}
+Still (Cell i x) = Unit {0}
+Still (Order v) = ⊥
+Still (Probe v) = ⊥
+Still (End t) = Unit {0}
+Still (Wait e) = ⊥
+
+still : (c : Command) (v : View) → eventIn c ≡ [] → Still (effectOf c v)
+unfolding effectOf
+still Nop v e = tt
+still Halt v e = tt
+still (Plain k d a b x) v e = tt
+still (Load d a) v e = either Still (ltb (regAt v a) (length (v .mem))) _ _ tt tt
+still (Store a b) v e = either Still (ltb (regAt v a) (length (v .mem))) _ _ tt tt
+still (GoIf a b c x) v e = tt
+still (GoReg d a b c) v e = tt
+still (Look d x) v e = either Still (ltb (v .cell) (length (v .mem))) _ _ (either Still (ltb (entryOf v x) (length (v .mem))) _ _ tt tt) tt
+still (StopIf d) v e = either Still (eqb (regAt v d) noArrow) _ _ tt tt
+still (Keep d) v e = either Still (ltb (v .cell) (length (v .mem))) _ _ tt tt
+still (Event x) v e = no (cc)
+still Stray v e = tt
+
+still-keeps : (rd : List ℕ) (e : Effect) (s : State) → Still e → (applyOf rd e s .log ≡ s .log) × (applyOf rd e s .pairs ≡ s .pairs) × (applyOf rd e s .used ≡ s .used)
+unfolding applyOf
+still-keeps rd (Go to) s q = (refl, refl, refl)
+still-keeps rd (Put d x) s q = (refl, refl, refl)
+still-keeps rd (Cell i x) s q = (refl, refl, refl)
+still-keeps rd (Order v) s q = absurd q
+still-keeps rd (Probe v) s q = absurd q
+still-keeps rd (End t) s q = (refl, refl, refl)
+still-keeps rd (Wait e) s q = absurd q
+
+-- ---- room for one pair and one reading: no command pauses
+abbrev Room : List ℕ → State → Type 0
+Room rd s = (2 * s .pairs + 1 < length (s .log)) × (s .used < length rd)
+
+abbrev Goes : Effect → Type 0
+Goes e = (w : Ending) → e ≡ Wait w → ⊥
+
+still-goes : (e : Effect) → Still e → Goes e
+still-goes e q w z = subst Still z q
+
+goes : (lay : Layout) (rd : List ℕ) (c : Command) (s : State) → Room rd s → Goes (effectOf c (seen lay rd s))
+goes lay rd Nop s r = still-goes _ (still Nop _ refl)
+goes lay rd Halt s r = still-goes _ (still Halt _ refl)
+goes lay rd (Plain k d a b x) s r = still-goes _ (still (Plain k d a b x) _ refl)
+goes lay rd (Load d a) s r = still-goes _ (still (Load d a) _ refl)
+goes lay rd (Store a b) s r = still-goes _ (still (Store a b) _ refl)
+goes lay rd (GoIf a b c x) s r = still-goes _ (still (GoIf a b c x) _ refl)
+goes lay rd (GoReg d a b c) s r = still-goes _ (still (GoReg d a b c) _ refl)
+goes lay rd (Look d x) s r = still-goes _ (still (Look d x) _ refl)
+goes lay rd (StopIf d) s r = still-goes _ (still (StopIf d) _ refl)
+goes lay rd (Keep d) s r = still-goes _ (still (Keep d) _ refl)
+goes lay rd (Event x) s r = event (ltb x orders) refl
+  where
+    event : (t : Bool) → ltb x orders ≡ t → Goes (effectOf (Event x) (seen lay rd s))
+    event t e w z = absurd (clash t (unfold effectOf in rw (le-ltb (length (s .log) - 2 * s .pairs) 2 (omega (arith, r .0)), e, ne-eqb (length rd - s .used) 0 (λ u. omega (arith, r .1))) at z))
+      where
+        clash : (t : Bool) → cond t (Order x) (Probe x) ≡ Wait w → ⊥
+        clash true h = no (cc)
+        clash false h = no (cc)
+goes lay rd Stray s r = still-goes _ (still Stray _ refl)
+
+-- ---- where an effect leads: to the next address, or to a place of comparison
+abbrev StandsIn : Layout → State → Type 0
+StandsIn lay s = ((s .pc - lay .base) % bundleLength ≡ 0) ⊎ (s .status ≡ Running → ⊥)
+
+abbrev Moves : Layout → List ℕ → State → Effect → Type 0
+Moves lay rd s e = Goes e → (applyOf rd e s .pc ≡ onward (s .pc)) ⊎ StandsIn lay (applyOf rd e s)
+
+-- a jump, taken or not, leads to a first command or on
+jumps : (lay : Layout) (rd : List ℕ) (s : State) (t : Bool) (x v : ℕ) → v ≡ addressOf lay x → Moves lay rd s (Go (cond t v (onward (s .pc))))
+unfolding applyOf
+jumps lay rd s true x v e f = inr (inl (omega arith))
+jumps lay rd s false x v e f = inl refl
+
+module _ (lay : Layout) (rd : List ℕ) (s : State) where
+  moves-on : Moves lay rd s (Go (onward (s .pc)))
+  unfolding applyOf
+  moves-on f = inl refl
+
+  moves-put : (d x : ℕ) → Moves lay rd s (Put d x)
+  unfolding applyOf
+  moves-put d x f = inl refl
+
+  moves-cell : (i x : ℕ) → Moves lay rd s (Cell i x)
+  unfolding applyOf
+  moves-cell i x f = inl refl
+
+  moves-end : (t : Status) → (t ≡ Running → ⊥) → Moves lay rd s (End t)
+  unfolding applyOf
+  moves-end t h f = inr (inr h)
+
+  faults : Moves lay rd s (End Faulted)
+  faults = moves-end Faulted (λ x. no (cc))
+
+  moves-event : (v : ℕ) → Moves lay rd s (effectOf (Event v) (seen lay rd s))
+  unfolding effectOf applyOf
+  moves-event v =
+      either (Moves lay rd s) (ltb (length (s .log) - 2 * s .pairs) 2) _ _ (λ f. absurd (f LogFull refl))
+      (either (Moves lay rd s) (ltb v orders) _ _ (λ f. inl refl) (either (Moves lay rd s) (eqb (length rd - s .used) 0) _ _ (λ f. absurd (f Silent refl)) (λ f. inl refl)))
+
+  start-moves : (n : ℕ) (i : Instr) → Moves lay rd s (effectOf (shapeOf lay n i 0) (seen lay rd s))
+  unfolding effectOf shapeOf
+  start-moves n HALT = moves-end Ended (λ x. no (cc))
+  start-moves n (PLAIN k d a b v) = moves-put d _
+  start-moves n (LOAD d a) = moves-put hidden _
+  start-moves n (STORE a b) = moves-put hidden _
+  start-moves n (GOIF a b c v) = jumps lay rd s (holdsOf c (getD (s .regs) a 0) (getD (s .regs) b 0)) v (addressOf lay v) refl
+  start-moves n (GOX d a b c) = moves-put hidden _
+  start-moves n (EVENT e) =
+      either (Moves lay rd s) (ltb (lay .cell) (length (s .mem))) _ _ (either (Moves lay rd s) (ltb (entryOf (seen lay rd s) e) (length (s .mem))) _ _ (moves-put hidden _) faults) faults
+
+  mid-moves : (pol : Policy) (n : ℕ) (g : Guest) (h k b : ℕ) (i : Instr) (p : ℕ) → Mid lay pol n g h k b (getD (s .regs) hidden 0) (getD (s .mem) (lay .cell) 0) i p → Moves lay rd s (effectOf (shapeOf lay n i p) (seen lay rd s))
+  unfolding effectOf shapeOf
+  mid-moves pol n g h k b i p (start at bk q) = start-moves n i
+  mid-moves pol n g h k b i p (rest low nop lt at bk q) = rw (nop p (omega arith)) moves-on
+  mid-moves pol n g h k b i p (load1 at bk q e) = moves-put hidden _
+  mid-moves pol n g h k b i p (load2 {d = d} at bk q e) = either (Moves lay rd s) (ltb (getD (s .regs) hidden 0) (length (s .mem))) _ _ (moves-put d _) faults
+  mid-moves pol n g h k b i p (store1 at bk q e) = moves-put hidden _
+  mid-moves pol n g h k b i p (store2 at bk q e) = either (Moves lay rd s) (ltb (getD (s .regs) hidden 0) (length (s .mem))) _ _ (moves-cell _ _) faults
+  mid-moves pol n g h k b i p (gox1 at bk q e) = moves-put hidden _
+  mid-moves pol n g h k b i p (gox2 at bk q e) = moves-put hidden _
+  mid-moves pol n g h k b i p (gox3 {d = d} {a = x} {b′ = y} {t = c} at bk q e) = jumps lay rd s (holdsOf c (getD (s .regs) x 0) (getD (s .regs) y 0)) (rOf g d % n) _ e
+  mid-moves pol n g h k b i p (event1 at bk q e) = either (Moves lay rd s) (eqb (getD (s .regs) hidden 0) noArrow) _ _ (moves-end Stopped (λ x. no (cc))) moves-on
+  mid-moves pol n g h k b i p (event2 at bk q e some) = either (Moves lay rd s) (ltb (lay .cell) (length (s .mem))) _ _ (moves-cell (lay .cell) _) faults
+  mid-moves pol n g h k b i p (event3 {e = x} at bk q some) = moves-event x
+
+-- ---- one step of a run
+unwaiting : {A : Type 0} (e : Effect) (f : Ending → A) (x : A) → Goes e → unlessWait e f x ≡ x
+unwaiting (Go to) f x h = refl
+unwaiting (Put d v) f x h = refl
+unwaiting (Cell i v) f x h = refl
+unwaiting (Order v) f x h = refl
+unwaiting (Probe v) f x h = refl
+unwaiting (End t) f x h = refl
+unwaiting (Wait e) f x h = absurd (h e refl)
+
+module _ (lay : Layout) (ws rd : List ℕ) (s : State) (run : s .status ≡ Running) (go : Goes (nextOf lay ws rd s)) where
+  run-step : (j k : ℕ) → runFrom lay ws rd (suc j) k s ≡ runFrom lay ws rd j (k + 1) (stepOf lay ws rd s)
+  unfolding runFrom
+  run-step j k = rw run (unwaiting (nextOf lay ws rd s) _ _ go)
+
+  begun-step : (j b : ℕ) → begunFrom lay ws rd (suc j) b s ≡ begunFrom lay ws rd j (b + firstOf lay (s .pc)) (stepOf lay ws rd s)
+  unfolding begunFrom
+  begun-step j b = rw run (unwaiting (nextOf lay ws rd s) _ _ go)
+
+-- a run of at most so many steps that ends at a place of comparison
+record Came (lay : Layout) (ws rd : List ℕ) (most k b b₂ : ℕ) (s : State) : Type 0 where
+  j : ℕ
+  few : j ≤ most
+  stands : Stands lay (runFrom lay ws rd j k s .outcome .machine)
+  begun : begunFrom lay ws rd j b s ≡ b₂
+
+-- now, and after one step
+came-now : (lay : Layout) (ws rd : List ℕ) (most k b : ℕ) (s : State) → StandsIn lay s → Came lay ws rd most k b b s
+unfolding runFrom begunFrom
+came-now lay ws rd most k b s x = record { j = 0; few = omega arith; stands = x; begun = refl }
+
+came-then : (lay : Layout) (ws rd : List ℕ) (most k b b₂ : ℕ) (s : State) → s .status ≡ Running → Goes (nextOf lay ws rd s) → Came lay ws rd most (k + 1) (b + firstOf lay (s .pc)) b₂ (stepOf lay ws rd s) → Came lay ws rd (suc most) k b b₂ s
+came-then lay ws rd most k b b₂ s run go c =
+    record {
+      j = suc (c .j);
+      few = omega (arith, c .few);
+      stands = rw (run-step lay ws rd s run go (c .j) k) (c .stands);
+      begun = begun-step lay ws rd s run go (c .j) b ∙ c .begun;
+    }
+
+running : (t : Status) → (t ≡ Running) ⊎ (t ≡ Running → ⊥)
+running Running = inl refl
+running Ended = inr (λ x. no (cc))
+running Stopped = inr (λ x. no (cc))
+running Faulted = inr (λ x. no (cc))
+
+module _ (lay : Layout) (pol : Policy) (ws : List ℕ) (n : ℕ) (is : ℕ → Instr) (ok : Right lay pol n) (bs : Bundled lay ws n is) (past : List Pair) (u0 rd : List ℕ) (g0 : Guest) where
+  sim-moves : (s : State) (g : Guest) (k b : ℕ) → s .status ≡ Running → Sim lay pol n is g k b s → Moves lay rd s (nextOf lay ws rd s)
+  sim-moves s g k b run (over f st h p lh lp pc q bk) = absurd (f (course-going (g .course) (sym st ∙ run)))
+  sim-moves s g k b run (live gg st h p lh lp pc m) = rw (fetched lay pol ws n is ok bs s h p lh lp pc) (mid-moves lay rd s pol n g h k b (is h) p m)
+
+  -- a first command, by its bundle
+  sim-start : (s : State) (g : Guest) (k b : ℕ) → s .status ≡ Running → (s .pc - lay .base) % bundleLength ≡ 0 → Sim lay pol n is g k b s → (h : ℕ) × (h < n) × (s .pc ≡ addressOf lay h + 0)
+  sim-start s g k b run z (over f st h p lh lp pc q bk) = absurd (f (course-going (g .course) (sym st ∙ run)))
+  sim-start s g k b run z (live gg st h p lh lp pc m) = (h, lh, omega arith)
+
+  room-on : (s : State) (h p : ℕ) → h < n → p < 3 → s .pc ≡ addressOf lay h + p → Room rd s → Room rd (stepOf lay ws rd s)
+  room-on s h p lh lp pc r =
+      let e = fetched lay pol ws n is ok bs s h p lh (omega arith) pc in
+      let w = still-keeps rd (nextOf lay ws rd s) s (rw e (still (shapeOf lay n (is h) p) (seen lay rd s) (silent lay n (is h) p lp))) in
+      rw (w .0, w .1, w .2) r
+
+  -- from position p of bundle h, with r more commands after this one
+  reach : (r p h k b b₂ : ℕ) (s : State) → p + suc r ≡ bundleLength → h < n → b + firstOf lay (s .pc) ≡ b₂ → Known lay pol n is past u0 rd g0 b s → s .status ≡ Running → s .pc ≡ addressOf lay h + p → Room rd s → Came lay ws rd (suc r) k b b₂ s
+  reach zero p h k b b₂ s e lh z w run pc room =
+      let go = goes lay rd (fetchOf ws (lay .base) (s .pc)) s room in
+      let t = tracks lay pol ws n is ok bs past u0 rd g0 b s w in
+      came-then lay ws rd 0 k b b₂ s run go
+      (rw z (came-now lay ws rd 0 (k + 1) b₂ (stepOf lay ws rd s) (⊎-elim (λ y. inl (omega (arith, y, ok .room))) (λ y. y) (sim-moves s _ (t .0) b run (t .1 .sim) go))))
+  reach (suc r) p h k b b₂ s e lh z w run pc room =
+      let go = goes lay rd (fetchOf ws (lay .base) (s .pc)) s room in
+      let t = tracks lay pol ws n is ok bs past u0 rd g0 b s w in
+      let now : StandsIn lay (stepOf lay ws rd s) → Came lay ws rd (suc r) (k + 1) b₂ b₂ (stepOf lay ws rd s) = λ y. came-now lay ws rd (suc r) (k + 1) b₂ (stepOf lay ws rd s) y in
+      let more : stepOf lay ws rd s .pc ≡ onward (s .pc) → stepOf lay ws rd s .status ≡ Running → Came lay ws rd (suc r) (k + 1) b₂ b₂ (stepOf lay ws rd s) =
+      λ y l.
+      let to : stepOf lay ws rd s .pc ≡ addressOf lay h + suc p = omega (arith, y, ok .room) in
+      reach r (suc p) h (k + 1) b₂ b₂ (stepOf lay ws rd s) (omega arith) lh (omega (arith, first-no lay (stepOf lay ws rd s .pc) (λ x. omega arith))) (rw z at (step-known lay pol ws n is ok bs past u0 rd g0 b s w run go)) l to (room-on s h p lh (omega arith) pc room) in
+      came-then lay ws rd (suc r) k b b₂ s run go
+      (rw z (⊎-elim (λ y. ⊎-elim (λ l. more y l) (λ l. now (inr l)) (running (stepOf lay ws rd s .status))) (λ y. now y) (sim-moves s _ (t .0) b run (t .1 .sim) go)))
+
+  from-stand : (b : ℕ) (s : State) → Known lay pol n is past u0 rd g0 b s → s .status ≡ Running → StandsIn lay s → Room rd s → Came lay ws rd bundleLength 0 b (b + 1) s
+  from-stand b s w run (inr x) room = absurd (x run)
+  from-stand b s w run (inl x) room =
+      let t = tracks lay pol ws n is ok bs past u0 rd g0 b s w in
+      let q = sim-start s _ (t .0) b run x (t .1 .sim) in
+      reach 3 0 (q .0) 0 b (b + 1) s refl (q .1) (ap (λ (y : ℕ). b + y) (first-yes lay (s .pc) x)) w run (q .2) room
+
+pub progress : Progress
+unfolding afterRun afterTaken runOn runOf
+progress lay pol ws mem gs v x run g lent len ll lr =
+    let n = length ws / bundleLength in
+    let is = bundleAt lay ws in
+    let ok = right-of lay pol ws mem (v .passed) (v .installed) in
+    let bs = bundled-of lay ws (v .passed) in
+    let g0 = guestStart lay pol (installMemory lay pol mem) in
+    let c = after lay pol ws mem gs in
+    let w = enter lay pol ws n is ok bs g0 c g len lent (stays lay pol ws mem gs n is ok bs v) in
+    let y = from-stand lay pol ws n is ok bs (c .records) (c .used) (g .readings) g0 (c .begun) (startOf (c .machine) (g .memory) (g .log)) w run x (omega arith, omega arith) in
+    let t : fits lay (g .memory) ≡ true = rw (layout-of lay ws (v .passed), eq-eqb (length (g .memory)) (lay .size) len) in
+    record { budget = y .j; few = y .few; stands = rw t (y .stands); begun = rw t (y .begun) }
