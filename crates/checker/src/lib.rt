@@ -90,14 +90,16 @@ pub fn check(layout: Layout, commands: &[u64]) -> Answer
         };
     }
     let count = commands.len();
-    if !count_right(count) {
+    let n = count / Bundle::LENGTH;
+    let counted = count_right(count);
+    let based = base_right(layout, n);
+    if !counted {
         return Answer {
             number: Refusal::BAD_COUNT,
             place: 0,
         };
     }
-    let n = count / Bundle::LENGTH;
-    if !base_right(layout, n) {
+    if !based {
         return Answer {
             number: Refusal::BAD_BASE,
             place: 0,

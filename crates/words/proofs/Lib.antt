@@ -1,9 +1,9 @@
 pub mod Tests
-pub mod Signs
-pub mod Laws
-pub mod Masks
 pub mod Judging
 pub mod Boxes
 pub mod Counts
 pub mod Shapes
 pub mod Laying
+pub mod Signs
+pub mod Laws
+pub mod Masks

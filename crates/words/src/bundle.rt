@@ -1,4 +1,7 @@
 // Bundles: their count and base, the words of one, and the instruction that a bundle can be.
+use crate::guest::TOP_CONDITION;
+use crate::guest::TOP_SHIFT;
+use crate::guest::TOP_WORD;
 use crate::guest::pack;
 use rules::Bundle;
 use rules::Fields;
@@ -17,10 +20,8 @@ ghost use Rattle.rules.specs.Commands.{limitsOf};
 ghost use Rattle.rules.specs.Bundles.{countRight, baseRight, bundleOf, valid as isValid, readOff};
 ghost use Rattle.words.specs.Packing.{cutWord, Fits};
 
-// The hidden register, which is also the count of the guest's, and the greatest condition.
+// The hidden register, which is also the count of the guest's.
 const HIDDEN: u64 = Machine::HIDDEN as u64;
-
-const TOP_CONDITION: u64 = 3;
 
 // The greatest values of the fields of SET, MOVE, SAR, and of the kinds with three registers.
 const SET: Limits = Limits {
@@ -28,7 +29,7 @@ const SET: Limits = Limits {
     a: 0,
     b: 0,
     c: 0,
-    v: 0xFFFF_FFFF,
+    v: TOP_WORD,
 };
 
 const MOVE: Limits = Limits {
@@ -44,7 +45,7 @@ const SAR: Limits = Limits {
     a: HIDDEN,
     b: 0,
     c: 0,
-    v: 31,
+    v: TOP_SHIFT,
 };
 
 const THREE: Limits = Limits {

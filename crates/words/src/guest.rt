@@ -1,6 +1,8 @@
 // The words of a guest's instructions: their fields, their first refusal, the instruction that they stand for.
 use rules::Fields;
 use rules::Instr;
+use rules::Machine;
+use rules::Policy;
 use rules::Refusal;
 ghost use mathlib.Core.Path.{_≡_};
 ghost use Prim.Native.Nat.{_-_, _≤_};
@@ -9,33 +11,40 @@ ghost use Rattle.rules.specs.Names.{topKind};
 ghost use Rattle.rules.specs.Words.{fieldsOf, packFields, zeroOf, fieldSets, numberTops, bitOf, strayFields, highFields, judgeOf, judgeWord, judgeAt, instrOf};
 ghost use Rattle.words.specs.Packing.{cutOf};
 
-// The greatest kind, the greatest register and condition of a field, and the kind with a landing.
+// The greatest kind, the kind with a landing, the greatest guest register and the greatest condition.
 const TOP_KIND: u64 = 12;
 
-const TOP_GUEST: u64 = 7;
-
-const TOP_CONDITION: u64 = 3;
-
 const GOIF: u64 = 10;
+
+const TOP_GUEST: u64 = Machine::HIDDEN as u64 - 1;
+
+pub const TOP_CONDITION: u64 = 3;
+
+// The greatest shift, event and 32-bit number.
+pub const TOP_SHIFT: u64 = 31;
+
+const TOP_EVENT: u64 = Policy::EVENTS as u64 - 1;
+
+pub const TOP_WORD: u64 = 0xFFFF_FFFF;
 
 // The fields of each kind, as a map: bit 0 kind, 1 d, 2 a, 3 b, 4 c, 5 v.
 const FIELD_SETS: [u64; 13] = [1, 35, 7, 15, 15, 15, 15, 39, 7, 13, 61, 31, 33];
 
 // The greatest v of each kind.
 const NUMBER_TOPS: [u64; 13] = [
-    4294967295,
-    4294967295,
-    4294967295,
-    4294967295,
-    4294967295,
-    4294967295,
-    4294967295,
-    31,
-    4294967295,
-    4294967295,
-    4294967295,
-    4294967295,
-    15,
+    TOP_WORD,
+    TOP_WORD,
+    TOP_WORD,
+    TOP_WORD,
+    TOP_WORD,
+    TOP_WORD,
+    TOP_WORD,
+    TOP_SHIFT,
+    TOP_WORD,
+    TOP_WORD,
+    TOP_WORD,
+    TOP_WORD,
+    TOP_EVENT,
 ];
 
 pub fn fields(w: u64) -> Fields
@@ -145,10 +154,11 @@ pub fn judge_at(n: usize, w: u64) -> u8
     ensures { λ r. ⌜ r ≡ judgeAt n w ⌝ }
 {
     let number = judge_word(w);
+    let landing_bad = (w % 256 == GOIF) & ((n as u64) < w >> 32);
     if number != 0 {
         return number;
     }
-    if (w % 256 == GOIF) & ((n as u64) < w >> 32) {
+    if landing_bad {
         return Refusal::BAD_LANDING;
     }
     Refusal::TAKEN

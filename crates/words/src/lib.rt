@@ -1,4 +1,4 @@
-// The words of guests and commands: the layout test and the mask, fields and packing, decoding, arithmetic and conditions, bundles.
+// Words of 64 bits: layouts and masks, guest words, command words and what they compute, bundles.
 pub mod arith;
 pub mod bundle;
 pub mod command;
