@@ -1,0 +1,82 @@
+-- Laws of what rewriting answers.
+use mathlib.Core.Path.{_≡_, refl, sym, ap, _∙_}
+use mathlib.Core.Bool.{Bool, true, false, _&&_, cond}
+use mathlib.Core.List.{List, [], _∷_}
+use Prim.Native.Nat.{ℕ, zero, suc, _+_, _-_, _*_, _≤_, _<_, _^_, min}
+use native.Mathlib.Omega.{arith}
+use native.Mathlib.Numerals.{add-one}
+use lib.Dec.{ltb, leb, eqb}
+use lib.ListN.{length, getD, drop}
+use lib.Seq.{drop-cons, drop-length}
+use borrow.Author.Tests.{lt-ltb, le-ltb, le-leb, eq-eqb, ne-eqb}
+use Rattle.rules.specs.declared.Layout.{Layout}
+use Rattle.rules.specs.declared.Answer.{Answer}
+use Rattle.rules.specs.Names.{mostInstructions, mostBundles, bundleLength, answer}
+use Rattle.rules.specs.Layouts.{rightLayout}
+use Rattle.rules.specs.Words.{judgeAt, bundlesFor}
+use Rattle.rules.specs.Bundles.{judgeFrom, baseRight, commandCount, placeAnswer, rewriteAnswer}
+use Rattle.rules.proofs.Masks.{sizes}
+
+-- ---- the words in order
+
+module _ (n : ℕ) (ws : List ℕ) (i : ℕ) (z a : Answer) (ea : a ≡ judgeFrom n (drop i ws) i z) where
+  module _ (h : i < length ws) (x : ℕ) (ex : x ≡ judgeAt n (getD ws i 0)) where
+    pub judge-more : x ≡ 0 → a ≡ judgeFrom n (drop (i + 1) ws) (i + 1) z
+    unfolding judgeFrom
+    judge-more e = ea ∙ rw (drop-cons ws i 0 h, ← ex, eq-eqb x 0 e, add-one)
+
+    pub judge-stop : (x ≡ 0 → ⊥) → answer x i ≡ a
+    unfolding judgeFrom
+    judge-stop e = sym (ea ∙ rw (drop-cons ws i 0 h, ← ex, ne-eqb x 0 e))
+
+  pub judge-done : length ws ≤ i → i ≤ length ws → z ≡ a
+  unfolding judgeFrom
+  judge-done g h = let e : i ≡ length ws = omega arith in sym (ea ∙ rw (e, drop-length ws))
+
+-- ---- the base and the room
+
+module _ (n : ℕ) (h : n ≤ mostInstructions) where
+  pub count-is : (k : ℕ) → k ≡ bundlesFor (min n mostInstructions) → k ≡ bundlesFor n
+  count-is k e = let m : min n mostInstructions ≡ n = omega arith in e ∙ rw m
+
+  some-bundles : 1 ≤ bundlesFor n
+  some-bundles = omega (arith, sizes n (omega arith) .above)
+
+  most-bundles : bundlesFor n ≤ mostBundles
+  most-bundles = sizes n (omega arith) .least 10 (omega arith)
+
+  module _ (k : ℕ) (ek : k ≡ bundlesFor (min n mostInstructions)) where
+    pub length-fits : bundleLength * k < 2 ^ 64
+    length-fits = omega (arith, count-is k ek, most-bundles)
+
+    module _ (l : Layout) (room : ℕ) (b : Bool) (eb : b ≡ (leb 1 k && (leb k mostBundles && baseRight l k))) where
+      based : b ≡ baseRight l (bundlesFor n)
+      based = eb ∙ rw (count-is k ek) (rw (le-leb 1 (bundlesFor n) some-bundles, le-leb (bundlesFor n) mostBundles most-bundles))
+
+      pub place-base : b ≡ false → answer 13 0 ≡ placeAnswer l n room
+      unfolding placeAnswer
+      place-base e = rw (← based, e)
+
+      pub place-small : b ≡ true → room < bundleLength * k → answer 9 0 ≡ placeAnswer l n room
+      unfolding placeAnswer
+      place-small e g = rw (← based, e, ← count-is k ek, lt-ltb room (bundleLength * k) g)
+
+      pub place-taken : b ≡ true → bundleLength * k ≤ room → answer 0 (bundleLength * k) ≡ placeAnswer l n room
+      unfolding placeAnswer
+      place-taken e g = rw (← based, e, ← count-is k ek, le-ltb room (bundleLength * k) g)
+
+-- ---- the whole answer
+
+module _ (l : Layout) (ws : List ℕ) (room : ℕ) (t : Bool) (et : t ≡ rightLayout l) where
+  pub bad-layout : t ≡ false → answer 7 0 ≡ rewriteAnswer l ws room
+  unfolding rewriteAnswer
+  bad-layout e = rw (← et, e)
+
+  module _ (e : t ≡ true) where
+    pub oversize : mostInstructions < length ws → answer 5 0 ≡ rewriteAnswer l ws room
+    unfolding rewriteAnswer
+    oversize h = rw (← et, e, lt-ltb mostInstructions (length ws) h)
+
+    pub judged : length ws ≤ mostInstructions → (z a : Answer) → z ≡ placeAnswer l (length ws) room → a ≡ judgeFrom (length ws) ws 0 z → a ≡ rewriteAnswer l ws room
+    unfolding rewriteAnswer
+    judged h z a ez ea = ea ∙ rw (← et, e, le-ltb mostInstructions (length ws) h, ez)

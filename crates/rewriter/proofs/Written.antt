@@ -1,0 +1,93 @@
+-- Laws of a whole rewriting: what a taken routine is ready for, and what its output holds.
+use mathlib.Core.Path.{_≡_, refl, sym, ap, _∙_, subst}
+use mathlib.Core.Bool.{Bool, true, false, _&&_, cond}
+use mathlib.Core.List.{List, [], _∷_, _++_}
+use Prim.Native.Nat.{ℕ, _+_, _*_, _≤_, _<_, _^_, min}
+use native.Mathlib.Omega.{arith}
+use native.Mathlib.Nat.{zero-add}
+use lib.Dec.{ltb, leb, eqb}
+use lib.ListN.{length, drop}
+use lib.Seq.{sets, sets-eq}
+use borrow.Author.Tests.{lt-ltb, le-leb, eq-eqb, ne-eqb, ltb-false, eqb-false}
+use Rattle.rules.specs.declared.Layout.{Layout}
+use Rattle.rules.specs.declared.Instr.{Instr}
+use Rattle.rules.specs.declared.Instr.the-variants.{HALT, PLAIN, LOAD, STORE, GOIF, GOX, EVENT}
+use Rattle.rules.specs.declared.Answer.{Answer}
+use Rattle.rules.specs.Names.{mostInstructions, bundleLength}
+use Rattle.rules.specs.Layouts.{rightLayout}
+use Rattle.rules.specs.Words.{judgeAt, routine, bundlesFor}
+use Rattle.rules.specs.Bundles.{judgeFrom, baseRight, commandCount, commandsOf, placeAnswer, rewritten, rewriteAnswer, rewriteOutput, valid}
+use Rattle.rules.proofs.Facts.{Valid}
+use Rattle.rules.proofs.Bools.{cond-ind}
+use Rattle.rules.proofs.Conditions.{Taken, taken-of, size-laws, count-most, routine-valid, routine-length}
+use Rattle.rewriter.specs.Rewriting.{Ready}
+use Rattle.rewriter.proofs.Judged.{count-is}
+
+-- facts of an instruction as the test of it
+valid-of : (n : ℕ) (i : Instr) → Valid n i → valid n i ≡ true
+unfolding valid
+valid-of n HALT g = refl
+valid-of n (PLAIN k d a b v) g =
+    simp (le-leb _ _ (g .0), le-leb _ _ (g .1), lt-ltb _ _ (g .2), lt-ltb _ _ (g .3), lt-ltb _ _ (g .4), le-leb _ _ (g .5), le-leb _ _ (g .6), le-leb _ _ (g .7), le-leb _ _ (g .8))
+valid-of n (LOAD d a) g = simp (lt-ltb _ _ (g .0), lt-ltb _ _ (g .1))
+valid-of n (STORE a b) g = simp (lt-ltb _ _ (g .0), lt-ltb _ _ (g .1))
+valid-of n (GOIF a b c v) g = simp (lt-ltb _ _ (g .0), lt-ltb _ _ (g .1), le-leb _ _ (g .2), lt-ltb _ _ (g .3))
+valid-of n (GOX d a b c) g = simp (lt-ltb _ _ (g .0), lt-ltb _ _ (g .1), lt-ltb _ _ (g .2), le-leb _ _ (g .3))
+valid-of n (EVENT x) g = lt-ltb _ _ g
+
+-- words that are all taken leave the answer that follows them
+judge-end : (P : Type 0) (n : ℕ) (ws : List ℕ) (i : ℕ) (z : Answer) → (z .number ≡ 0 → P) → judgeFrom n ws i z .number ≡ 0 → P
+unfolding judgeFrom
+judge-end P n [] i z f = f
+judge-end P n (w ∷ ws) i z f =
+    cond-ind (λ (a : Answer). a .number ≡ 0 → P) (eqb (judgeAt n w) 0) (λ _. judge-end P n ws (i + 1) z f) (λ e y. absurd (eqb-false _ _ e y))
+
+module _ (l : Layout) (ws : List ℕ) (room : ℕ) where
+  abbrev Roomy : Answer → Type 0
+  Roomy a = a .number ≡ 0 → commandCount (length ws) ≤ room
+
+  roomy : Roomy (rewriteAnswer l ws room)
+  unfolding rewriteAnswer placeAnswer
+  roomy =
+      cond-ind Roomy (rightLayout l)
+      (λ _. cond-ind Roomy (ltb mostInstructions (length ws)) (λ _ z. absurd (omega arith))
+      (λ _. judge-end (commandCount (length ws) ≤ room) (length ws) ws 0 (placeAnswer l (length ws) room)
+      (cond-ind Roomy (baseRight l (bundlesFor (length ws)))
+      (λ _. cond-ind Roomy (ltb room (commandCount (length ws))) (λ _ z. absurd (omega arith)) (λ e _. ltb-false _ _ e))
+      (λ _ z. absurd (omega arith)))))
+      (λ _ z. absurd (omega arith))
+
+  module _ (a : Answer) (ea : a ≡ rewriteAnswer l ws room) (z : a .number ≡ 0) where
+    zero-is : rewriteAnswer l ws room .number ≡ 0
+    zero-is = subst (λ (x : Answer). x .number ≡ 0) ea z
+
+    taken : Taken l ws
+    taken = taken-of l ws room zero-is
+
+    module _ (k : ℕ) (ek : k ≡ bundlesFor (min (length ws) mostInstructions)) where
+      count : k ≡ bundlesFor (length ws)
+      count = count-is (length ws) (taken .most) k ek
+
+      pub ready : Ready k ws room
+      ready =
+          record {
+            some = omega (arith, count, size-laws l ws taken .above);
+            most = omega (arith, count, count-most l ws taken);
+            fit = omega (arith, count, roomy zero-is);
+            each = λ h. rw count (valid-of (bundlesFor (length ws)) (routine ws h) (routine-valid l ws taken h));
+          }
+
+module _ (l : Layout) (ws out : List ℕ) (a : Answer) (ea : a ≡ rewriteAnswer l ws (length out)) where
+  pub written : a .number ≡ 0 → (k : ℕ) → k ≡ bundlesFor (min (length ws) mostInstructions) → (out′ : List ℕ) → out′ ≡ sets out 0 (rewritten l k (routine ws))
+      → out′ ≡ rewriteOutput l ws out
+  unfolding rewriteOutput
+  written z k ek out′ eo =
+      let n : rewriteAnswer l ws (length out) .number ≡ 0 = zero-is l ws (length out) a ea z in
+      let t = taken l ws (length out) a ea z in
+      let s = routine-length l ws t in
+      eo ∙ rw (count l ws (length out) a ea z k ek, eq-eqb _ 0 n)
+      (sets-eq (commandsOf l ws) out 0 (omega (arith, s, roomy l ws (length out) n)) ∙ rw (zero-add, s))
+
+  pub refused : (a .number ≡ 0 → ⊥) → out ≡ rewriteOutput l ws out
+  unfolding rewriteOutput
+  refused z = rw (← ea, ne-eqb (a .number) 0 z)

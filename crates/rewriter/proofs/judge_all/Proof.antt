@@ -1,0 +1,31 @@
+use Prim.Native.Nat.{_≤_, _-_}
+use mathlib.Core.Path.{_≡_, refl}
+use native.Mathlib.Omega.{arith}
+use lib.ListN.{length, drop}
+use borrow.Author.Needs.{needs}
+use Rattle.rules.specs.Bundles.{judgeFrom}
+use Rattle.rewriter.proofs.Judged.{judge-stop, judge-more, judge-done}
+use Rattle.rewriter.proofs.judge_all.Statement.{statement}
+use Rattle.rewriter.proofs.judge_all.Tie as tie
+
+abbrev Inv-loop : tie.InvT-loop
+Inv-loop words taken n i₀ i = (i ≤ length words) × (judgeFrom (length words) words 0 taken ≡ judgeFrom (length words) (drop i words) i taken)
+
+abbrev μ-loop : tie.MeasureT-loop
+μ-loop words taken n i₀ i = length words - i
+
+pub judge-all-spec : {M : Type 1} → statement M
+judge-all-spec =
+    tie.close
+    (tie.spec
+    Inv-loop
+    μ-loop
+    (λ c. (omega arith, refl))
+    (λ c. search needs)
+    (λ c. search needs)
+    (λ c κs. search needs)
+    (λ c. search (judge-stop, needs))
+    (λ c. search needs)
+    (λ c. search needs)
+    (λ c. search (judge-more, needs))
+    (λ c. search (judge-done, needs)))

@@ -1,0 +1,16 @@
+use borrow.Author.Tests.{not-true, not-false}
+use borrow.Author.Needs.{needs}
+use Rattle.rewriter.proofs.Judged.{length-fits, place-base, place-small, place-taken}
+use Rattle.rewriter.proofs.place.Statement.{statement}
+use Rattle.rewriter.proofs.place.Tie as tie
+
+pub place-spec : {M : Type 1} → statement M
+place-spec =
+    tie.close
+    (tie.spec
+    (λ c κs. search needs)
+    (λ c κs. search needs)
+    (λ c. search (length-fits, needs))
+    (λ c. search (place-base, not-true, needs))
+    (λ c. search (place-small, not-false, needs))
+    (λ c. search (place-taken, not-false, needs)))

@@ -1,0 +1,15 @@
+use borrow.Author.Needs.{needs}
+use Rattle.rewriter.proofs.Written.{ready, written, refused}
+use Rattle.rewriter.proofs.rewrite.Statement.{statement}
+use Rattle.rewriter.proofs.rewrite.Tie as tie
+
+pub rewrite-spec : {M : Type 1} → statement M
+rewrite-spec =
+    tie.close
+    (tie.spec
+    (λ c κs. search needs)
+    (λ c κs. search needs)
+    (λ c κs. search (ready, needs))
+    (λ c. search needs)
+    (λ c. search (written, needs))
+    (λ c. search (refused, needs)))

@@ -1,0 +1,15 @@
+-- What writing the bundles of a routine takes.
+use Prim.Native.Nat.{ℕ, _*_, _<_, _≤_}
+use mathlib.Core.Path.{_≡_}
+use mathlib.Core.Bool.{true}
+use mathlib.Core.List.{List}
+use Rattle.rules.specs.Names.{mostBundles, bundleLength}
+use Rattle.rules.specs.Words.{routine}
+use Rattle.rules.specs.Bundles.{valid}
+
+-- n bundles, room for them, and each instruction valid among them
+pub record Ready (n : ℕ) (ws : List ℕ) (room : ℕ) : Type 0 where
+  pub some : 0 < n
+  pub most : n ≤ mostBundles
+  pub fit : bundleLength * n ≤ room
+  pub each : (h : ℕ) → valid n (routine ws h) ≡ true

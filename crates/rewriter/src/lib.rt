@@ -1,0 +1,143 @@
+// Rewriting a routine's words into bundles of commands: one pass judges, one writes.
+use rules::Answer;
+use rules::Bundle;
+use rules::Instr;
+use rules::Layout;
+use rules::Refusal;
+use words::bundle::base_right;
+use words::bundle::bundle;
+use words::bundle::bundles;
+use words::guest::instruction;
+use words::guest::judge_at;
+use words::layout::right;
+ghost use mathlib.Core.Path.{_≡_};
+ghost use mathlib.Core.List.{[], _∷_};
+ghost use Prim.Native.Nat.{_+_, _*_, _≤_, _<_};
+ghost use lib.ListN.{length};
+ghost use lib.Seq.{sets};
+ghost use Rattle.rules.specs.Names.{mostInstructions, bundleLength};
+ghost use Rattle.rules.specs.Words.{routine};
+ghost use Rattle.rules.specs.Bundles.{bundleOf, judgeFrom, placeAnswer, rewritten, rewriteAnswer, rewriteOutput};
+ghost use Rattle.rewriter.specs.Rewriting.{Ready};
+
+// The first refusal among the words, or what is answered where there is none.
+fn judge_all(words: &[u64], taken: Answer) -> Answer
+    ensures { λ r. ⌜ r ≡ judgeFrom (length (now (words .entry))) (now (words .entry)) 0 taken ⌝ }
+{
+    let n = words.len();
+    let mut i: usize = 0;
+    while i < n {
+        let number = judge_at(n, words[i]);
+        if number != 0 {
+            return Answer { number, place: i };
+        }
+        i += 1;
+    }
+    taken
+}
+
+// The answer for n words that are right: the base, then the room for their commands.
+fn place(layout: Layout, n: usize, room: usize) -> Answer
+    requires { ⌜ n ≤ mostInstructions ⌝ }
+    ensures { λ r. ⌜ r ≡ placeAnswer layout n room ⌝ }
+{
+    let count = bundles(n);
+    let based = base_right(layout, count);
+    let length = Bundle::LENGTH * count;
+    if !based {
+        return Answer {
+            number: Refusal::BAD_BASE,
+            place: 0,
+        };
+    }
+    if room < length {
+        return Answer {
+            number: Refusal::SMALL_OUTPUT,
+            place: 0,
+        };
+    }
+    Answer {
+        number: Refusal::TAKEN,
+        place: length,
+    }
+}
+
+fn judge(layout: Layout, words: &[u64], room: usize) -> Answer
+    ensures { λ r. ⌜ r ≡ rewriteAnswer layout (now (words .entry)) room ⌝ }
+{
+    if !right(layout) {
+        return Answer {
+            number: Refusal::BAD_LAYOUT,
+            place: 0,
+        };
+    }
+    let n = words.len();
+    if n > Instr::MOST {
+        return Answer {
+            number: Refusal::OVERSIZE,
+            place: 0,
+        };
+    }
+    judge_all(words, place(layout, n, room))
+}
+
+// Instruction h of a routine; those past its words are HALT.
+fn instruction_at(words: &[u64], h: usize) -> Instr
+    ensures { λ r. ⌜ r ≡ routine (now (words .entry)) h ⌝ }
+{
+    if h < words.len() {
+        return instruction(words[h]);
+    }
+    Instr::HALT
+}
+
+fn put(commands: &mut [u64], at: usize, w: u64, x: u64, y: u64, z: u64)
+    requires { ⌜ at + bundleLength ≤ length (now commands) ⌝ }
+    ensures { λ _. ⌜ now (commands .exit) ≡ sets (now (commands .entry)) at (w ∷ x ∷ y ∷ z ∷ []) ⌝ }
+{
+    commands[at] = w;
+    commands[at + 1] = x;
+    commands[at + 2] = y;
+    commands[at + 3] = z;
+}
+
+// Bundle h of n.
+fn put_bundle(layout: Layout, n: usize, words: &[u64], h: usize, commands: &mut [u64])
+    requires { ⌜ Ready n (now words) (length (now commands)) × (h < n) ⌝ }
+    ensures { λ _. ⌜ now (commands .exit) ≡ sets (now (commands .entry)) (bundleLength * h) (bundleOf layout n (routine (now (words .entry)) h) .words) ⌝ }
+{
+    let made = bundle(layout, n, instruction_at(words, h));
+    let four = made.words;
+    put(
+        commands,
+        Bundle::LENGTH * h,
+        four[0],
+        four[1],
+        four[2],
+        four[3],
+    );
+}
+
+// The bundles of a routine that was judged.
+fn fill(layout: Layout, n: usize, words: &[u64], commands: &mut [u64])
+    requires { ⌜ Ready n (now words) (length (now commands)) ⌝ }
+    ensures { λ _. ⌜ now (commands .exit) ≡ sets (now (commands .entry)) 0 (rewritten layout n (routine (now (words .entry)))) ⌝ }
+{
+    let mut h: usize = 0;
+    while h < n {
+        put_bundle(layout, n, words, h, commands);
+        h += 1;
+    }
+}
+
+pub fn rewrite(layout: Layout, words: &[u64], commands: &mut [u64]) -> Answer
+    ensures answer { λ r. ⌜ r ≡ rewriteAnswer layout (now (words .entry)) (length (now (commands .entry))) ⌝ }
+    ensures content { λ _. ⌜ now (commands .exit) ≡ rewriteOutput layout (now (words .entry)) (now (commands .entry)) ⌝ }
+{
+    let answer = judge(layout, words, commands.len());
+    let number = answer.number;
+    if number == 0 {
+        fill(layout, bundles(words.len()), words, commands);
+    }
+    answer
+}
