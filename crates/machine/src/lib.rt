@@ -1,0 +1,565 @@
+// The stepping machine: a pure decision, what the word at pc would do, and its application; runs, steps and installing.
+use rules::Answer;
+use rules::Effect;
+use rules::Ending;
+use rules::Installed;
+use rules::Layout;
+use rules::Machine;
+use rules::Outcome;
+use rules::Policy;
+use rules::Refusal;
+use rules::RunAnswer;
+use rules::Status;
+use words::arith;
+use words::command;
+use words::layout;
+ghost use mathlib.Core.Path.{_≡_};
+ghost use mathlib.Core.Bool.{true, cond};
+ghost use Prim.Native.Nat.{_+_, _*_, _<_, _^_};
+ghost use lib.ListN.{length, getD, set};
+ghost use lib.Seq.{sets};
+ghost use lib.Dec.{ltb, eqb};
+ghost use Rattle.rules.specs.declared.Status.the-variants.{Running, Stopped, Faulted};
+ghost use Rattle.rules.specs.declared.Effect.the-variants.{Go, Put, Cell, End};
+ghost use Rattle.rules.specs.Names.{registers, events, noArrow, answer};
+ghost use Rattle.rules.specs.Policies.{policyOf, entriesRight, rightPolicy};
+ghost use Rattle.rules.specs.Commands.{isCommand, commandOf, holdsOf, fetchOf};
+ghost use Rattle.rules.specs.Machines.{machineOf, machineRefused, viewOf, effectOf, eventEffect, stateOf, applyOf, withPair, endingOf, outcomeOf, ranOf, runFrom, runOf, installOf, installMemory};
+
+// ---- what a command would do
+
+fn target(c: u64, x: u32, y: u32, to: u32, next: u32) -> Effect
+    ensures { λ r. ⌜ r ≡ Go (cond (holdsOf c x y) to next) ⌝ }
+{
+    if arith::holds(c, x, y) {
+        return Effect::Go(to);
+    }
+    Effect::Go(next)
+}
+
+fn load(d: usize, at: u32, memory: &[u32]) -> Effect
+    ensures { λ r. ⌜ r ≡ cond (ltb at (length (now (memory .entry)))) (Put d (getD (now (memory .entry)) at 0)) (End Faulted) ⌝ }
+{
+    let i = at as usize;
+    if i < memory.len() {
+        return Effect::Put(d, memory[i]);
+    }
+    Effect::End(Status::Faulted)
+}
+
+fn store(at: u32, x: u32, memory: &[u32]) -> Effect
+    ensures { λ r. ⌜ r ≡ cond (ltb at (length (now (memory .entry)))) (Cell at x) (End Faulted) ⌝ }
+{
+    let i = at as usize;
+    if i < memory.len() {
+        return Effect::Cell(i, x);
+    }
+    Effect::End(Status::Faulted)
+}
+
+// The policy's entry for event v in the present state; the address is summed without wrap.
+fn look(d: usize, cell: u32, table: u32, v: u32, memory: &[u32]) -> Effect
+    ensures { λ r. ⌜ r ≡ cond (ltb cell (length (now (memory .entry)))) (cond (ltb (table + events * getD (now (memory .entry)) cell 0 + v) (length (now (memory .entry)))) (Put d (getD (now (memory .entry)) (table + events * getD (now (memory .entry)) cell 0 + v) 0)) (End Faulted)) (End Faulted) ⌝ }
+{
+    let i = cell as usize;
+    if i < memory.len() {
+        let at = table as usize + Policy::EVENTS as usize * (memory[i] as usize) + v as usize;
+        if at < memory.len() {
+            return Effect::Put(d, memory[at]);
+        }
+        return Effect::End(Status::Faulted);
+    }
+    Effect::End(Status::Faulted)
+}
+
+fn stop_if(x: u32, next: u32) -> Effect
+    ensures { λ r. ⌜ r ≡ cond (eqb x noArrow) (End Stopped) (Go next) ⌝ }
+{
+    if x == Policy::NO_ARROW {
+        return Effect::End(Status::Stopped);
+    }
+    Effect::Go(next)
+}
+
+// An event, or the pause before it: the log comes before the readings.
+fn event(v: u32, free: usize, left: usize) -> Effect
+    ensures { λ r. ⌜ r ≡ eventEffect v free left ⌝ }
+{
+    if free < 2 {
+        return Effect::Wait(Ending::LogFull);
+    }
+    if v < Policy::ORDERS {
+        return Effect::Order(v);
+    }
+    if left == 0 {
+        return Effect::Wait(Ending::Silent);
+    }
+    Effect::Probe(v)
+}
+
+// What a command would do. Single numbers, no range: so the match becomes one jump.
+fn act(
+    w: u64,
+    regs: &[u32; 9],
+    pc: u32,
+    cell: u32,
+    table: u32,
+    memory: &[u32],
+    free: usize,
+    left: usize,
+) -> Effect
+    requires { ⌜ isCommand w ≡ true ⌝ }
+    ensures { λ r. ⌜ r ≡ effectOf (commandOf w) (viewOf (now (regs .entry)) pc (now (memory .entry)) cell table free left) ⌝ }
+{
+    let k = w % 256;
+    let d = ((w >> 8) % 16) as usize;
+    let a = ((w >> 12) % 16) as usize;
+    let b = ((w >> 16) % 16) as usize;
+    let c = (w >> 20) % 16;
+    let v = (w >> 32) as u32;
+    let x = regs[a];
+    let y = regs[b];
+    let next = arith::add(pc, 1);
+    match k {
+        0 => Effect::Go(next),
+        1 => Effect::End(Status::Ended),
+        2 => Effect::Put(d, v),
+        3 => Effect::Put(d, x),
+        4 => Effect::Put(d, arith::add(x, y)),
+        5 => Effect::Put(d, arith::sub(x, y)),
+        6 => Effect::Put(d, x & y),
+        7 => Effect::Put(d, x | y),
+        8 => Effect::Put(d, arith::sar(x, v)),
+        9 => Effect::Put(d, x & v),
+        10 => Effect::Put(d, x | v),
+        11 => Effect::Put(d, arith::shl(x, v)),
+        12 => load(d, x, memory),
+        13 => store(x, y, memory),
+        14 => target(c, x, y, v, next),
+        15 => target(c, x, y, regs[d], next),
+        16 => look(d, cell, table, v, memory),
+        17 => stop_if(regs[d], next),
+        18 => store(cell, regs[d], memory),
+        19 => event(v, free, left),
+        _ => Effect::End(Status::Faulted),
+    }
+}
+
+// What a word would do.
+fn decide(
+    w: u64,
+    regs: &[u32; 9],
+    pc: u32,
+    cell: u32,
+    table: u32,
+    memory: &[u32],
+    free: usize,
+    left: usize,
+) -> Effect
+    ensures { λ r. ⌜ r ≡ effectOf (commandOf w) (viewOf (now (regs .entry)) pc (now (memory .entry)) cell table free left) ⌝ }
+{
+    if command::is_command(w) {
+        return act(w, regs, pc, cell, table, memory, free, left);
+    }
+    Effect::End(Status::Faulted)
+}
+
+// What the word at pc would do; the list stands at the base. A pc below it is far past the list's end.
+fn next_effect(
+    commands: &[u64],
+    base: usize,
+    regs: &[u32; 9],
+    pc: u32,
+    cell: u32,
+    table: u32,
+    memory: &[u32],
+    free: usize,
+    left: usize,
+) -> Effect
+    requires { ⌜ base < 2 ^ 16 ⌝ }
+    ensures { λ r. ⌜ r ≡ effectOf (fetchOf (now (commands .entry)) base pc) (viewOf (now (regs .entry)) pc (now (memory .entry)) cell table free left) ⌝ }
+{
+    let at = std::num::wrapping_sub_usize(pc as usize, base);
+    if at < commands.len() {
+        return decide(commands[at], regs, pc, cell, table, memory, free, left);
+    }
+    Effect::End(Status::Faulted)
+}
+
+// ---- one step
+
+// A register set; nothing where there is none of that number.
+fn put(regs: &mut [u32; 9], i: usize, x: u32)
+    requires { ⌜ length (now regs) ≡ registers ⌝ }
+    ensures { λ _. ⌜ now (regs .exit) ≡ set (now (regs .entry)) i x ⌝ }
+{
+    if i < Machine::REGISTERS {
+        regs[i] = x;
+    }
+}
+
+// A cell set; nothing where there is none.
+fn poke(cells: &mut [u32], at: usize, x: u32)
+    ensures { λ _. ⌜ now (cells .exit) ≡ set (now (cells .entry)) at x ⌝ }
+{
+    if at < cells.len() {
+        cells[at] = x;
+    }
+}
+
+// Pair n into the log.
+fn put_pair(log: &mut [u32], n: usize, e: u32, x: u32)
+    requires { ⌜ n < 2 ^ 62 ⌝ }
+    ensures { λ _. ⌜ now (log .exit) ≡ withPair (now (log .entry)) n e x ⌝ }
+{
+    poke(log, 2 * n, e);
+    poke(log, 2 * n + 1, x);
+}
+
+// A reading; 0 where there is none.
+fn reading(readings: &[u32], i: usize) -> u32
+    ensures { λ r. ⌜ r ≡ getD (now (readings .entry)) i 0 ⌝ }
+{
+    if i < readings.len() {
+        return readings[i];
+    }
+    0
+}
+
+// What a step leaves beside registers, memory and log.
+pub struct Next {
+    pub pc: u32,
+    pub status: Status,
+    pub pairs: usize,
+    pub used: usize,
+}
+
+// The state after an effect.
+fn apply(
+    e: Effect,
+    regs: &mut [u32; 9],
+    pc: u32,
+    memory: &mut [u32],
+    readings: &[u32],
+    log: &mut [u32],
+    pairs: usize,
+    used: usize,
+) -> Next
+    requires { ⌜ (pairs < 2 ^ 62) × (used < 2 ^ 63) × (length (now regs) ≡ registers) ⌝ }
+    ensures { λ r. ⌜ stateOf (now (regs .exit)) (r .pc) (r .status) (now (memory .exit)) (now (log .exit)) (r .pairs) (r .used) ≡ applyOf (now (readings .entry)) e (stateOf (now (regs .entry)) pc Running (now (memory .entry)) (now (log .entry)) pairs used) ⌝ }
+{
+    let next = std::num::wrapping_add_u32(pc, 1);
+    match e {
+        Effect::Go(to) => Next {
+            pc: to,
+            status: Status::Running,
+            pairs,
+            used,
+        },
+        Effect::Put(d, x) => {
+            put(regs, d, x);
+            Next {
+                pc: next,
+                status: Status::Running,
+                pairs,
+                used,
+            }
+        }
+        Effect::Cell(at, x) => {
+            poke(memory, at, x);
+            Next {
+                pc: next,
+                status: Status::Running,
+                pairs,
+                used,
+            }
+        }
+        Effect::Order(v) => {
+            put_pair(log, pairs, v, regs[0]);
+            Next {
+                pc: next,
+                status: Status::Running,
+                pairs: pairs + 1,
+                used,
+            }
+        }
+        Effect::Probe(v) => {
+            let x = reading(readings, used);
+            put(regs, 0, x);
+            put_pair(log, pairs, v, x);
+            Next {
+                pc: next,
+                status: Status::Running,
+                pairs: pairs + 1,
+                used: used + 1,
+            }
+        }
+        Effect::End(status) => Next {
+            pc,
+            status,
+            pairs,
+            used,
+        },
+        Effect::Wait(_) => Next {
+            pc,
+            status: Status::Running,
+            pairs,
+            used,
+        },
+    }
+}
+
+// ---- a run
+
+fn finish(
+    regs: [u32; 9],
+    pc: u32,
+    status: Status,
+    ending: Ending,
+    steps: u32,
+    pairs: usize,
+    used: usize,
+) -> Outcome
+    ensures { λ r. ⌜ r ≡ outcomeOf (machineOf regs pc status) ending steps pairs used ⌝ }
+{
+    Outcome {
+        machine: Machine { regs, pc, status },
+        answer: RunAnswer {
+            ending,
+            steps,
+            pairs,
+            used,
+        },
+    }
+}
+
+// What a run answers that ends with this status and no pause.
+fn ending_of(status: Status) -> Ending
+    ensures { λ r. ⌜ r ≡ endingOf status ⌝ }
+{
+    match status {
+        Status::Running => Ending::Spent,
+        Status::Ended => Ending::Done,
+        Status::Stopped => Ending::NoArrow,
+        Status::Faulted => Ending::Fault,
+    }
+}
+
+// A run of a machine that is running, under a right layout. Registers, pc and counts are locals; no record is copied per step.
+fn run_on(
+    layout: Layout,
+    commands: &[u64],
+    start: [u32; 9],
+    from: u32,
+    memory: &mut [u32],
+    budget: u32,
+    readings: &[u32],
+    log: &mut [u32],
+) -> Outcome
+    ensures { λ r. ⌜ ranOf r (now (memory .exit)) (now (log .exit)) ≡ runFrom layout (now (commands .entry)) (now (readings .entry)) budget 0 (stateOf start from Running (now (memory .entry)) (now (log .entry)) 0 0) ⌝ }
+{
+    let cell = layout.cell;
+    let table = layout.table;
+    let base = layout.base as usize;
+    let mut regs = start;
+    let mut pc = from;
+    let mut steps: u32 = 0;
+    let mut pairs: usize = 0;
+    let mut used: usize = 0;
+    while steps < budget {
+        let free = log.len() - 2 * pairs;
+        let left = readings.len() - used;
+        let e = next_effect(commands, base, &regs, pc, cell, table, memory, free, left);
+        if let Effect::Wait(ending) = e {
+            return finish(regs, pc, Status::Running, ending, steps, pairs, used);
+        }
+        let n = apply(e, &mut regs, pc, memory, readings, log, pairs, used);
+        pc = n.pc;
+        pairs = n.pairs;
+        used = n.used;
+        steps = steps + 1;
+        let status = n.status;
+        if let Status::Running = status {} else {
+            let ending = ending_of(status);
+            return finish(regs, pc, status, ending, steps, pairs, used);
+        }
+    }
+    finish(regs, pc, Status::Running, Ending::Spent, steps, pairs, used)
+}
+
+// A run, the record by value.
+pub fn run_value(
+    layout: Layout,
+    commands: &[u64],
+    machine: Machine,
+    memory: &mut [u32],
+    budget: u32,
+    readings: &[u32],
+    log: &mut [u32],
+) -> Outcome
+    ensures { λ r. ⌜ ranOf r (now (memory .exit)) (now (log .exit)) ≡ runOf layout (now (commands .entry)) machine (now (memory .entry)) budget (now (readings .entry)) (now (log .entry)) ⌝ }
+{
+    let regs = machine.regs;
+    let pc = machine.pc;
+    let status = machine.status;
+    let fits = layout::right(layout) & (memory.len() == layout.size as usize);
+    if !fits {
+        return finish(regs, pc, status, Ending::Refused, 0, 0, 0);
+    }
+    if let Status::Running = status {
+        return run_on(layout, commands, regs, pc, memory, budget, readings, log);
+    }
+    let ending = ending_of(status);
+    finish(regs, pc, status, ending, 0, 0, 0)
+}
+
+// One step: a run of budget 1.
+pub fn step_value(
+    layout: Layout,
+    commands: &[u64],
+    machine: Machine,
+    memory: &mut [u32],
+    readings: &[u32],
+    log: &mut [u32],
+) -> Outcome
+    ensures { λ r. ⌜ ranOf r (now (memory .exit)) (now (log .exit)) ≡ runOf layout (now (commands .entry)) machine (now (memory .entry)) 1 (now (readings .entry)) (now (log .entry)) ⌝ }
+{
+    run_value(layout, commands, machine, memory, 1, readings, log)
+}
+
+// ---- installing
+
+// Whether every byte of a table is a state or no arrow.
+fn entries_right(states: u32, table: &[u8]) -> bool
+    ensures { λ r. ⌜ r ≡ entriesRight states (now (table .entry)) ⌝ }
+{
+    let mut i: usize = 0;
+    while i < table.len() {
+        let b = table[i] as u32;
+        let known = (b < states) | (b == Policy::NO_ARROW);
+        if !known {
+            return false;
+        }
+        i = i + 1;
+    }
+    true
+}
+
+// The table's bytes into the cells from an address on.
+fn store_table(memory: &mut [u32], at: u32, table: &[u8])
+    ensures { λ _. ⌜ now (memory .exit) ≡ sets (now (memory .entry)) at (now (table .entry)) ⌝ }
+{
+    let first = at as usize;
+    let mut i: usize = 0;
+    while i < table.len() {
+        poke(memory, first + i, table[i] as u32);
+        i = i + 1;
+    }
+}
+
+// Whether a policy can be installed under a layout: 10's four conditions.
+fn policy_right(layout: Layout, policy: Policy, table: &[u8]) -> bool
+    ensures { λ r. ⌜ r ≡ rightPolicy layout (policyOf (policy .states) (policy .start) (now (table .entry))) ⌝ }
+{
+    let states = policy.states;
+    let entries = entries_right(states, table);
+    (states == layout.states)
+        & (table.len() == Policy::EVENTS as usize * states as usize)
+        & (policy.start < states)
+        & entries
+}
+
+fn refused(number: u8) -> Installed
+    ensures { λ r. ⌜ r ≡ record { machine = machineRefused; answer = answer number 0 } ⌝ }
+{
+    let machine = Machine::refused();
+    Installed {
+        machine,
+        answer: Answer { number, place: 0 },
+    }
+}
+
+// Installing a policy: the start state to the state cell and the table to its cells, nothing else.
+pub fn install(layout: Layout, policy: Policy, table: &[u8], memory: &mut [u32]) -> Installed
+    ensures { λ r. ⌜ r ≡ installOf layout (policyOf (policy .states) (policy .start) (now (table .entry))) (now (memory .entry)) ⌝ }
+    ensures leaves { λ _. ⌜ now (memory .exit) ≡ installMemory layout (policyOf (policy .states) (policy .start) (now (table .entry))) (now (memory .entry)) ⌝ }
+{
+    let fits = layout::right(layout) & (memory.len() == layout.size as usize);
+    if !fits {
+        return refused(Refusal::BAD_LAYOUT);
+    }
+    if !policy_right(layout, policy, table) {
+        return refused(Refusal::BAD_POLICY);
+    }
+    poke(memory, layout.cell as usize, policy.start);
+    store_table(memory, layout.table, table);
+    let machine = Machine::new(layout.base);
+    Installed {
+        machine,
+        answer: Answer {
+            number: Refusal::TAKEN,
+            place: 0,
+        },
+    }
+}
+
+// ---- the record lent
+
+// A run: the record is copied out, run by value, and stored back whole.
+pub fn run(
+    layout: Layout,
+    commands: &[u64],
+    machine: &mut Machine,
+    memory: &mut [u32],
+    budget: u32,
+    readings: &[u32],
+    log: &mut [u32],
+) -> RunAnswer
+    ensures answer { λ r. ⌜ r ≡ runOf layout (now (commands .entry)) (now (machine .entry)) (now (memory .entry)) budget (now (readings .entry)) (now (log .entry)) .outcome .answer ⌝ }
+    ensures machine { λ _. ⌜ now (machine .exit) ≡ runOf layout (now (commands .entry)) (now (machine .entry)) (now (memory .entry)) budget (now (readings .entry)) (now (log .entry)) .outcome .machine ⌝ }
+    ensures memory { λ _. ⌜ now (memory .exit) ≡ runOf layout (now (commands .entry)) (now (machine .entry)) (now (memory .entry)) budget (now (readings .entry)) (now (log .entry)) .mem ⌝ }
+    ensures log { λ _. ⌜ now (log .exit) ≡ runOf layout (now (commands .entry)) (now (machine .entry)) (now (memory .entry)) budget (now (readings .entry)) (now (log .entry)) .log ⌝ }
+{
+    let out = run_value(layout, commands, *machine, memory, budget, readings, log);
+    *machine = out.machine;
+    out.answer
+}
+
+// One step of a lent record.
+pub fn step(
+    layout: Layout,
+    commands: &[u64],
+    machine: &mut Machine,
+    memory: &mut [u32],
+    readings: &[u32],
+    log: &mut [u32],
+) -> RunAnswer
+    ensures answer { λ r. ⌜ r ≡ runOf layout (now (commands .entry)) (now (machine .entry)) (now (memory .entry)) 1 (now (readings .entry)) (now (log .entry)) .outcome .answer ⌝ }
+    ensures machine { λ _. ⌜ now (machine .exit) ≡ runOf layout (now (commands .entry)) (now (machine .entry)) (now (memory .entry)) 1 (now (readings .entry)) (now (log .entry)) .outcome .machine ⌝ }
+    ensures memory { λ _. ⌜ now (memory .exit) ≡ runOf layout (now (commands .entry)) (now (machine .entry)) (now (memory .entry)) 1 (now (readings .entry)) (now (log .entry)) .mem ⌝ }
+    ensures log { λ _. ⌜ now (log .exit) ≡ runOf layout (now (commands .entry)) (now (machine .entry)) (now (memory .entry)) 1 (now (readings .entry)) (now (log .entry)) .log ⌝ }
+{
+    let out = step_value(layout, commands, *machine, memory, readings, log);
+    *machine = out.machine;
+    out.answer
+}
+
+// A run by value through the lent form: the record stands in a local.
+pub fn run_lent(
+    layout: Layout,
+    commands: &[u64],
+    machine: Machine,
+    memory: &mut [u32],
+    budget: u32,
+    readings: &[u32],
+    log: &mut [u32],
+) -> Outcome
+    ensures { λ r. ⌜ ranOf r (now (memory .exit)) (now (log .exit)) ≡ runOf layout (now (commands .entry)) machine (now (memory .entry)) budget (now (readings .entry)) (now (log .entry)) ⌝ }
+{
+    let mut lent = machine;
+    let answer = run(layout, commands, &mut lent, memory, budget, readings, log);
+    Outcome {
+        machine: lent,
+        answer: answer,
+    }
+}
