@@ -1,4 +1,4 @@
--- Tests of `&&`, `||` and `cond`, taken apart.
+-- Tests of `&&`, `||` and `cond`, taken apart and put together.
 use mathlib.Core.Path.{_≡_, refl}
 use mathlib.Core.Bool.{Bool, true, false, _&&_, _||_, cond, false≢true}
 use mathlib.Core.Logic.{_⊎_, inl, inr}
@@ -14,6 +14,9 @@ cases false = inr refl
 pub both : (a b : Bool) → (a && b) ≡ true → (a ≡ true) × (b ≡ true)
 both true b e = (refl, e)
 both false b e = no e
+
+pub join : (a b : Bool) → a ≡ true → b ≡ true → (a && b) ≡ true
+join a b e f = rw (e, f)
 
 pub either : (a b : Bool) → (a || b) ≡ true → (a ≡ true) ⊎ (b ≡ true)
 either true b e = inl refl

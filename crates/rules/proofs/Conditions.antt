@@ -340,7 +340,7 @@ unfolding routine instrOf
 past-end code i h = rw (List·getD-eq-default code 0 h)
 
 -- bundles h to h + m − 1 of n, and their words
-length-bundles : (lay : Layout) (n : ℕ) (is : ℕ → Instr) (h m : ℕ) → length (bundlesFrom lay n is h m) ≡ bundleLength * m
+pub length-bundles : (lay : Layout) (n : ℕ) (is : ℕ → Instr) (h m : ℕ) → length (bundlesFrom lay n is h m) ≡ bundleLength * m
 length-bundles lay n is h zero = refl
 length-bundles lay n is h (suc m) = omega (arith, length-bundles lay n is (suc h) m)
 
@@ -359,10 +359,10 @@ module _ (lay : Layout) (code : List ℕ) (taken : Taken lay code) where
   count = bundlesFor (length code)
 
   pub size-laws : SizeLaws (length code)
-  size-laws = sizes (length code) (omega (arith, taken .most))
+  size-laws = sizes (length code) (taken .most)
 
   pub count-most : count ≤ mostBundles
-  count-most = size-laws .least 10 (omega (arith, taken .most))
+  count-most = size-laws .most
 
   pub routine-valid : (h : ℕ) → Valid count (routine code h)
   unfolding routine

@@ -1,16 +1,16 @@
 -- Bounds of what the parts answer: numbers fit a byte, places and counts their outputs.
 use Prim.Native.Nat.{ℕ, zero, suc, _+_, _-_, _*_, _/_, _^_, _≤_, _<_}
-use mathlib.Core.Path.{_≡_, refl, sym, ap}
+use mathlib.Core.Path.{_≡_, refl, sym, _∙_, ap}
 use mathlib.Core.Bool.{_&&_}
 use mathlib.Core.List.{List, [], _∷_}
 use native.Mathlib.Omega.{arith}
-use lib.ListN.{length, getD, drop, length-set}
+use lib.ListN.{length, getD, set, drop, length-set}
+use lib.Seq.{getD-set-other}
 use lib.Dec.{eqb, ltb, lit<}
 use borrow.Author.Tests.{ltb-false, leb-true, eqb-false, eqb-true}
 use Rattle.rules.specs.declared.Layout.{Layout}
 use Rattle.rules.specs.declared.Machine.{Machine}
 use Rattle.rules.specs.declared.Fields.{Fields}
-use Rattle.rules.specs.declared.Instr.{Instr}
 use Rattle.rules.specs.declared.Answer.{Answer}
 use Rattle.rules.specs.declared.One.{One}
 use Rattle.rules.specs.declared.One.the-variants.{Word, Bad}
@@ -26,11 +26,12 @@ use Rattle.rules.specs.Bytes.{sizeOf, weightOf, gap, mapOf, fieldsAt, on
 use Rattle.rules.specs.Layouts.{rightLayout}
 use Rattle.rules.specs.Policies.{Policy, rightPolicy}
 use Rattle.rules.specs.Commands.{fetchOf}
-use Rattle.rules.specs.Bundles.{baseRight, bundlesFrom, rewritten, commandsOf, commandCount, judgeFrom, placeAnswer, rewriteAnswer, countRight, passesAt, checkFrom, checkAnswer}
-use Rattle.rules.specs.Machines.{View, State, Ran, fits, installAnswer, regAt, entryOf, effectOf, applyOf, seen, nextOf, stepOf, endingOf, endedIn, unlessOver, unlessWait, runFrom, startOf, runOf}
+use Rattle.rules.specs.Bundles.{baseRight, rewritten, commandsOf, commandCount, judgeFrom, placeAnswer, rewriteAnswer, countRight, passesAt, checkFrom, checkAnswer}
+use Rattle.rules.specs.Machines.{View, State, Ran, fits, installAnswer, regAt, entryOf, effectOf, withPair, applyOf, seen, nextOf, stepOf, endingOf, endedIn, unlessOver, unlessWait, runFrom, startOf, runOf}
 use Rattle.rules.specs.Loading.{wordsIn, orElse, loadAnswer}
 use Rattle.rules.proofs.Bools.{cond-ind, both}
 use Rattle.rules.proofs.Masks.{sizes}
+use Rattle.rules.proofs.Conditions.{length-bundles}
 
 -- a routine is at most 2 bytes and 10 for each instruction
 abbrev pub mostBytes : ℕ
@@ -143,11 +144,7 @@ judge-bound n (w ∷ ws) i m r z h b =
 
 -- at most 1,024 bundles
 pub count-bound : (n : ℕ) → n ≤ mostInstructions → commandCount n ≤ mostCommands
-count-bound n h = omega (arith, sizes n (omega arith) .least 10 (omega arith))
-
-length-bundles : (lay : Layout) (n : ℕ) (is : ℕ → Instr) (h m : ℕ) → length (bundlesFrom lay n is h m) ≡ bundleLength * m
-length-bundles lay n is h zero = refl
-length-bundles lay n is h (suc m) = omega (arith, length-bundles lay n is (suc h) m)
+count-bound n h = omega (arith, sizes n h .most)
 
 pub length-commands : (lay : Layout) (ws : List ℕ) → length (commandsOf lay ws) ≡ commandCount (length ws)
 unfolding rewritten
@@ -262,62 +259,69 @@ room (Event v) s =
     (λ _. cond-ind (Room (s .free)) (eqb (s .left) 0) (λ _. tt) (λ _. ltb-false _ _ f)))
 room Stray s = tt
 
--- pairs and readings of a state: pairs lie in the log of g cells, and at most n more than p and u come
-pub record Counted (g p u : ℕ) (s : State) : Type 0 where
-  pub log : length (s .log) ≡ g
+-- pairs and readings of a state: at most p and u; the pairs lie in a log as long as l and as l beyond them
+pub record Counted (l : List ℕ) (p u : ℕ) (s : State) : Type 0 where
+  pub log : length (s .log) ≡ length l
   pub pairs : s .pairs ≤ p
   pub used : s .used ≤ u
-  pub room : 2 * s .pairs ≤ g
+  pub room : 2 * s .pairs ≤ length l
+  pub rest : (i : ℕ) → 2 * s .pairs ≤ i → getD (s .log) i 0 ≡ getD l i 0
+
+-- a pair is written before the rest
+pair-rest : (l log : List ℕ) (n e x : ℕ) → ((i : ℕ) → 2 * n ≤ i → getD log i 0 ≡ getD l i 0) → (i : ℕ) → 2 * (n + 1) ≤ i → getD (withPair log n e x) i 0 ≡ getD l i 0
+pair-rest l log n e x h i m =
+    getD-set-other (set log (2 * n) e) (2 * n + 1) i x 0 (λ z. omega arith) ∙ getD-set-other log (2 * n) i e 0 (λ z. omega arith) ∙ h i (omega arith)
 
 -- one step adds at most one
-step-counts : (g p u : ℕ) (rd : List ℕ) (e : Effect) (s : State) → Counted g p u s → Room (length (s .log) - 2 * s .pairs) e → Counted g (p + 1) (u + 1) (applyOf rd e s)
+step-counts : (l : List ℕ) (p u : ℕ) (rd : List ℕ) (e : Effect) (s : State) → Counted l p u s → Room (length (s .log) - 2 * s .pairs) e → Counted l (p + 1) (u + 1) (applyOf rd e s)
 unfolding applyOf
-step-counts g p u rd (Go to) s b r = record { log = b .log; pairs = omega arith; used = omega arith; room = b .room }
-step-counts g p u rd (Put d x) s b r = record { log = b .log; pairs = omega arith; used = omega arith; room = b .room }
-step-counts g p u rd (Cell i x) s b r = record { log = b .log; pairs = omega arith; used = omega arith; room = b .room }
-step-counts g p u rd (Order v) s b r =
-    record { log = simp length-set (b .log); pairs = omega arith; used = omega arith; room = omega arith }
-step-counts g p u rd (Probe v) s b r =
-    record { log = simp length-set (b .log); pairs = omega arith; used = omega arith; room = omega arith }
-step-counts g p u rd (End t) s b r = record { log = b .log; pairs = omega arith; used = omega arith; room = b .room }
-step-counts g p u rd (Wait e) s b r = record { log = b .log; pairs = omega arith; used = omega arith; room = b .room }
+step-counts l p u rd (Go to) s b r = record { log = b .log; pairs = omega arith; used = omega arith; room = b .room; rest = b .rest }
+step-counts l p u rd (Put d x) s b r = record { log = b .log; pairs = omega arith; used = omega arith; room = b .room; rest = b .rest }
+step-counts l p u rd (Cell i x) s b r = record { log = b .log; pairs = omega arith; used = omega arith; room = b .room; rest = b .rest }
+step-counts l p u rd (Order v) s b r =
+    record { log = simp length-set (b .log); pairs = omega arith; used = omega arith; room = omega (arith, b .log); rest = pair-rest l (s .log) (s .pairs) v _ (b .rest) }
+step-counts l p u rd (Probe v) s b r =
+    record { log = simp length-set (b .log); pairs = omega arith; used = omega arith; room = omega (arith, b .log); rest = pair-rest l (s .log) (s .pairs) v _ (b .rest) }
+step-counts l p u rd (End t) s b r = record { log = b .log; pairs = omega arith; used = omega arith; room = b .room; rest = b .rest }
+step-counts l p u rd (Wait e) s b r = record { log = b .log; pairs = omega arith; used = omega arith; room = b .room; rest = b .rest }
 
--- a run's counts: at most n steps, pairs and readings, the pairs within the log of g cells
-pub record RunCounts (g n : ℕ) (r : Ran) : Type 0 where
+-- a run's counts: at most n steps, pairs and readings; the pairs within a log as long as l, and as l beyond them
+pub record RunCounts (l : List ℕ) (n : ℕ) (r : Ran) : Type 0 where
   pub steps : r .outcome .answer .steps ≤ n
   pub pairs : r .outcome .answer .pairs ≤ n
   pub used : r .outcome .answer .used ≤ n
-  pub room : 2 * r .outcome .answer .pairs ≤ g
-  pub log : length (r .log) ≡ g
+  pub room : 2 * r .outcome .answer .pairs ≤ length l
+  pub log : length (r .log) ≡ length l
+  pub rest : (i : ℕ) → 2 * r .outcome .answer .pairs ≤ i → getD (r .log) i 0 ≡ getD l i 0
 
-over-counts : (g n k : ℕ) (t : Status) (s : State) (r : Ran) → k ≤ n → Counted g k k s → RunCounts g n r → RunCounts g n (unlessOver t (endedIn (endingOf (s .status)) k s) r)
-over-counts g n k Running s r h b q = q
-over-counts g n k Ended s r h b q = record { steps = h; pairs = omega arith; used = omega arith; room = b .room; log = b .log }
-over-counts g n k Stopped s r h b q = record { steps = h; pairs = omega arith; used = omega arith; room = b .room; log = b .log }
-over-counts g n k Faulted s r h b q = record { steps = h; pairs = omega arith; used = omega arith; room = b .room; log = b .log }
+over-counts : (l : List ℕ) (n k : ℕ) (t : Status) (s : State) (r : Ran) → k ≤ n → Counted l k k s → RunCounts l n r → RunCounts l n (unlessOver t (endedIn (endingOf (s .status)) k s) r)
+over-counts l n k Running s r h b q = q
+over-counts l n k Ended s r h b q = record { steps = h; pairs = omega arith; used = omega arith; room = b .room; log = b .log; rest = b .rest }
+over-counts l n k Stopped s r h b q = record { steps = h; pairs = omega arith; used = omega arith; room = b .room; log = b .log; rest = b .rest }
+over-counts l n k Faulted s r h b q = record { steps = h; pairs = omega arith; used = omega arith; room = b .room; log = b .log; rest = b .rest }
 
-wait-counts : (g n k : ℕ) (e : Effect) (s : State) (r : Ran) → k ≤ n → Counted g k k s → RunCounts g n r → RunCounts g n (unlessWait e (λ d. endedIn d k s) r)
-wait-counts g n k (Wait e) s r h b q = record { steps = h; pairs = omega arith; used = omega arith; room = b .room; log = b .log }
-wait-counts g n k (Go to) s r h b q = q
-wait-counts g n k (Put d x) s r h b q = q
-wait-counts g n k (Cell i x) s r h b q = q
-wait-counts g n k (Order v) s r h b q = q
-wait-counts g n k (Probe v) s r h b q = q
-wait-counts g n k (End t) s r h b q = q
+wait-counts : (l : List ℕ) (n k : ℕ) (e : Effect) (s : State) (r : Ran) → k ≤ n → Counted l k k s → RunCounts l n r → RunCounts l n (unlessWait e (λ d. endedIn d k s) r)
+wait-counts l n k (Wait e) s r h b q = record { steps = h; pairs = omega arith; used = omega arith; room = b .room; log = b .log; rest = b .rest }
+wait-counts l n k (Go to) s r h b q = q
+wait-counts l n k (Put d x) s r h b q = q
+wait-counts l n k (Cell i x) s r h b q = q
+wait-counts l n k (Order v) s r h b q = q
+wait-counts l n k (Probe v) s r h b q = q
+wait-counts l n k (End t) s r h b q = q
 
-from-counts : (lay : Layout) (ws rd : List ℕ) (g n m k : ℕ) (s : State) → k + m ≤ n → Counted g k k s → RunCounts g n (runFrom lay ws rd m k s)
+from-counts : (lay : Layout) (ws rd l : List ℕ) (n m k : ℕ) (s : State) → k + m ≤ n → Counted l k k s → RunCounts l n (runFrom lay ws rd m k s)
 unfolding runFrom
-from-counts lay ws rd g n zero k s h b = record { steps = omega arith; pairs = omega arith; used = omega arith; room = b .room; log = b .log }
-from-counts lay ws rd g n (suc m) k s h b =
-    over-counts g n k (s .status) s _ (omega arith) b
-    (wait-counts g n k (nextOf lay ws rd s) s _ (omega arith) b
-    (from-counts lay ws rd g n m (k + 1) (stepOf lay ws rd s) (omega arith)
-    (step-counts g k k rd (nextOf lay ws rd s) s b (room (fetchOf ws (lay .base) (s .pc)) (seen lay rd s)))))
+from-counts lay ws rd l n zero k s h b = record { steps = omega arith; pairs = omega arith; used = omega arith; room = b .room; log = b .log; rest = b .rest }
+from-counts lay ws rd l n (suc m) k s h b =
+    over-counts l n k (s .status) s _ (omega arith) b
+    (wait-counts l n k (nextOf lay ws rd s) s _ (omega arith) b
+    (from-counts lay ws rd l n m (k + 1) (stepOf lay ws rd s) (omega arith)
+    (step-counts l k k rd (nextOf lay ws rd s) s b (room (fetchOf ws (lay .base) (s .pc)) (seen lay rd s)))))
 
-pub run-counts : (lay : Layout) (ws : List ℕ) (m : Machine) (mem : List ℕ) (budget : ℕ) (rd log : List ℕ) → RunCounts (length log) budget (runOf lay ws m mem budget rd log)
+pub run-counts : (lay : Layout) (ws : List ℕ) (m : Machine) (mem : List ℕ) (budget : ℕ) (rd log : List ℕ) → RunCounts log budget (runOf lay ws m mem budget rd log)
 unfolding runOf
 run-counts lay ws m mem budget rd log =
-    cond-ind (RunCounts (length log) budget) (fits lay mem)
-    (λ _. from-counts lay ws rd (length log) budget budget 0 (startOf m mem log) (omega arith)
-    (record { log = refl; pairs = omega arith; used = omega arith; room = omega arith }))
-    (λ _. record { steps = omega arith; pairs = omega arith; used = omega arith; room = omega arith; log = refl })
+    cond-ind (RunCounts log budget) (fits lay mem)
+    (λ _. from-counts lay ws rd log budget budget 0 (startOf m mem log) (omega arith)
+    (record { log = refl; pairs = omega arith; used = omega arith; room = omega arith; rest = λ i h. refl }))
+    (λ _. record { steps = omega arith; pairs = omega arith; used = omega arith; room = omega arith; log = refl; rest = λ i h. refl })

@@ -1,5 +1,5 @@
 -- The claims over lists of runs, from what the parts answered: guest rule, state cell, isolation.
-use mathlib.Core.Path.{_≡_, sym, subst}
+use mathlib.Core.Path.{_≡_, sym, _∙_, ap, subst}
 use mathlib.Core.List.{List, []}
 use Prim.Native.Nat.{ℕ, _/_}
 use lib.ListN.{length}
@@ -7,17 +7,17 @@ use Rattle.rules.specs.declared.Layout.{Layout}
 use Rattle.rules.specs.declared.Instr.{Instr}
 use Rattle.rules.specs.declared.Machine.{Machine}
 use Rattle.rules.specs.Names.{bundleLength}
-use Rattle.rules.specs.Policies.{Policy}
+use Rattle.rules.specs.Policies.{Policy, allowed}
 use Rattle.rules.specs.Words.{routine, bundlesFor}
 use Rattle.rules.specs.Bundles.{commandsOf, bundleAt}
 use Rattle.rules.specs.Machines.{installAnswer, installMemory}
-use Rattle.rules.specs.Guests.{guestStart}
-use Rattle.rules.specs.Runs.{Given, carriedOf, atFirst, after, Served}
+use Rattle.rules.specs.Guests.{Pair, guestStart}
+use Rattle.rules.specs.Runs.{Given, eventsOf, carriedOf, atFirst, after, Served}
 use Rattle.rules.specs.Claims.{GuestRule, StateCell, Isolation}
 use Rattle.rules.proofs.Facts.{Right, Bundled}
 use Rattle.rules.proofs.Conditions.{bundled-of, right-of, laid-of, machine-of, bundled-routine, right-routine}
 use Rattle.rules.proofs.Sim.{Stays}
-use Rattle.rules.proofs.Track.{stays-runs, install, agrees-after, cell-laws, allowed-runs, sound-runs, kept-runs}
+use Rattle.rules.proofs.Track.{recorded, stays-runs, install, agrees-after, cell-laws, allowed-runs, sound-runs, kept-runs}
 use Rattle.rules.proofs.Twins.{alone}
 
 -- the guest tracks an installation that answered 0
@@ -58,6 +58,8 @@ isolation lay pol ws mem gs v =
     record {
       sound = sound-runs lay pol ws n is ok bs g0 (atFirst lay pol mem) gs (v .lends) w;
       kept = kept-runs lay pol ws n is ok bs g0 (atFirst lay pol mem) gs (v .lends) w;
-      allowed = allowed-runs lay pol ws n is ok bs g0 (after lay pol ws mem gs) (stays lay pol ws mem gs n is ok bs v);
+      allowed =
+          ap (λ (ps : List Pair). allowed pol (eventsOf ps)) (sym (recorded lay ws (atFirst lay pol mem) gs))
+          ∙ allowed-runs lay pol ws n is ok bs g0 (after lay pol ws mem gs) (stays lay pol ws mem gs n is ok bs v);
       alone = alone lay pol ws mem gs n is ok bs (laid-of lay pol mem (v .installed)) v;
     }

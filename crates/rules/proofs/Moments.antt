@@ -1,6 +1,6 @@
--- Every moment within a run is the end of a run with a smaller budget.
+-- Every moment within a run is the end of a run with a smaller budget, and a list cut off there is on the premise.
 use mathlib.Core.Path.{_≡_, refl, sym, _∙_, ap}
-use mathlib.Core.List.{List}
+use mathlib.Core.List.{List, [], _∷_, _++_}
 use Prim.Native.Nat.{ℕ, zero, suc, _+_}
 use native.Mathlib.Omega.{arith}
 use Rattle.rules.specs.declared.Layout.{Layout}
@@ -10,8 +10,8 @@ use Rattle.rules.specs.declared.Ending.{Ending}
 use Rattle.rules.specs.declared.Effect.{Effect}
 use Rattle.rules.specs.declared.Effect.the-variants.{Go, Put, Cell, Order, Probe, End, Wait}
 use Rattle.rules.specs.Machines.{State, nextOf, stepOf, endingOf, Ran, endedIn, leftIn, unlessOver, unlessWait, runFrom}
-use Rattle.rules.specs.Runs.{firstOf, begunFrom}
-use Rattle.rules.specs.Claims.{SplitLaws, Splits}
+use Rattle.rules.specs.Runs.{firstOf, begunFrom, Given, Carried, afterRun, Lends}
+use Rattle.rules.specs.Claims.{Splits, givenFor, Cuts}
 
 module _ (lay : Layout) (ws rd : List ℕ) (l : ℕ) where
   -- x and b: a run and its bundles that go on from where r and c end
@@ -56,3 +56,11 @@ pub splits : Splits
 splits lay ws rd j l k b s =
     let f = follows lay ws rd l j k b s in
     record { run = f .run; begun = f .begun }
+
+lends-cut : (lay : Layout) (ws : List ℕ) (c : Carried) (xs ys : List Given) (g : Given) (j : ℕ) → Lends lay ws c (xs ++ (g ∷ ys)) → Lends lay ws c (xs ++ (givenFor g j ∷ []))
+lends-cut lay ws c [] ys g j l = (l .0, tt)
+lends-cut lay ws c (x ∷ xs) ys g j l = (l .0, lends-cut lay ws (afterRun lay ws c x) xs ys g j (l .1))
+
+pub cuts : Cuts
+cuts lay pol ws mem xs ys g j v =
+    record { passed = v .passed; installed = v .installed; lends = lends-cut lay ws _ xs ys g j (v .lends) }

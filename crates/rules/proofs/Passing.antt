@@ -8,23 +8,24 @@ use native.Mathlib.Omega.{arith}
 use borrow.Author.Tests.{ltb-true, ltb-false, lt-ltb, le-ltb, le-leb, eq-eqb, ne-eqb}
 use lib.Dec.{ltb}
 use lib.Count.{trailingZeros}
-use lib.ListN.{length, getD}
-use lib.Seq.{ext-getD}
+use lib.ListN.{length, getD, drop}
+use lib.Seq.{ext-getD, take-at}
 use Rattle.rules.specs.declared.Layout.{Layout}
 use Rattle.rules.specs.declared.Answer.{Answer}
 use Rattle.rules.specs.declared.Instr.{Instr}
 use Rattle.rules.specs.declared.Instr.the-variants.{HALT, PLAIN, LOAD, STORE, GOIF, GOX, EVENT}
-use Rattle.rules.specs.Names.{mostInstructions, mostBundles, bundleLength, hidden, guestRegisters, topCondition, events, answer}
+use Rattle.rules.specs.Names.{mostInstructions, mostBundles, bundleLength, bundleShift, hidden, guestRegisters, topCondition, events, answer}
 use Rattle.rules.specs.Words.{judgeAt, instrOf, routine, bundlesFor}
 use Rattle.rules.specs.Commands.{limitsOf, wordOf}
-use Rattle.rules.specs.Bundles.{addressOf, shapeOf, bundleWord, commandsOf, commandCount, judgeFrom, placeAnswer, rewriteAnswer, valid, readOff, bundleAt, isBundle, shapedAt, isHalt, passesAt, checkFrom, checkAnswer}
-use Rattle.rules.specs.Claims.{RewrittenPasses, Rewrites, PassedRewrites}
+use Rattle.rules.specs.Bundles.{addressOf, shapeOf, bundleWord, commandsOf, commandCount, judgeFrom, placeAnswer, rewriteAnswer, rewriteOutput, valid, readOff, bundleAt, isBundle, shapedAt, isHalt, passesAt, checkFrom, checkAnswer}
+use Rattle.rules.specs.Claims.{RewriteLeaves, RewrittenPasses, Rewrites, PassedRewrites, PassedDecodes}
 use Rattle.rules.proofs.Facts.{Valid}
 use Rattle.rules.proofs.Bools.{cases}
 use Rattle.rules.proofs.Masks.{one-bit, sizes}
+use Rattle.rules.proofs.Counts.{length-commands, rewrite-taken as answer-taken}
 use Rattle.rules.proofs.Packing.{pack-kind, pack-d, pack-a, pack-b, pack-c, pack-v}
 use Rattle.rules.proofs.GuestWords.{guestWord, guest-taken, guest-instr}
-use Rattle.rules.proofs.Conditions.{Passed, passed-of, passed-valid, passed-word, passed-last, Taken, taken-of, past-end, some-ones, size-laws, count-most, routine-valid, routine-last, routine-length, routine-word}
+use Rattle.rules.proofs.Conditions.{Passed, passed-of, passed-valid, passed-word, passed-last, Taken, taken-of, past-end, some-ones, size-laws, count-most, routine-valid, routine-last, routine-length, routine-word, bundled-of}
 
 -- ---- an instruction is read off its bundle
 
@@ -44,7 +45,7 @@ module _ (lay : Layout) (n : ℕ) where
       let w : (addressOf lay v - lay .base) / bundleLength ≡ v = omega arith in
       rw (pack-kind 14 0 a b c (addressOf lay v) (omega arith), pack-a 14 0 a b c (addressOf lay v) (omega arith), pack-b 14 0 a b c (addressOf lay v) (omega arith), pack-c 14 0 a b c (addressOf lay v) (omega arith), pack-v 14 0 a b c (addressOf lay v) (omega arith), w)
   bundle-back (GOX d a b c) g =
-      rw (pack-kind 11 hidden d 0 0 2 (omega arith), pack-a 11 hidden d 0 0 2 (omega arith), pack-a 15 hidden a b c 0 (omega arith), pack-b 15 hidden a b c 0 (omega arith), pack-c 15 hidden a b c 0 (omega arith))
+      rw (pack-kind 11 hidden d 0 0 bundleShift (omega arith), pack-a 11 hidden d 0 0 bundleShift (omega arith), pack-a 15 hidden a b c 0 (omega arith), pack-b 15 hidden a b c 0 (omega arith), pack-c 15 hidden a b c 0 (omega arith))
   bundle-back (EVENT e) g = rw (pack-kind 16 hidden 0 0 0 e (omega arith), pack-v 16 hidden 0 0 0 e (omega arith))
 
   is-valid : (i : Instr) → Valid n i → valid n i ≡ true
@@ -206,6 +207,15 @@ module _ (lay : Layout) (ws : List ℕ) (n : ℕ) (p : Passed lay ws n) where
         takes = rewrite-taken lay code (length ws) taken (omega (arith, size)) ∙ ap (answer 0) size;
         same = same;
       }
+
+pub rewrite-leaves : RewriteLeaves
+unfolding rewriteOutput
+rewrite-leaves lay code out e =
+    let n = length-commands lay code ∙ ap (λ (a : Answer). a .place) (sym (answer-taken lay code (length out) e)) in
+    rw (eq-eqb _ _ e) (take-at (commandsOf lay code) (drop (commandCount (length code)) out) _ n)
+
+pub passed-decodes : PassedDecodes
+passed-decodes lay ws e = bundled-of lay ws e .each
 
 pub passed-rewrites : PassedRewrites
 passed-rewrites lay ws e = rewrites lay ws _ (passed-of lay ws e)

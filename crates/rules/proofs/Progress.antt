@@ -26,12 +26,11 @@ use Rattle.rules.specs.Commands.{fetchOf, holdsOf}
 use Rattle.rules.specs.Bundles.{addressOf, shapeOf, bundleAt}
 use Rattle.rules.specs.Machines.{State, View, regAt, entryOf, onward, effectOf, applyOf, seen, nextOf, stepOf, unlessWait, runFrom, startOf, runOf, fits, installMemory}
 use Rattle.rules.specs.Guests.{Pair, Guest, rOf, guestStart}
-use Rattle.rules.specs.Runs.{Given, Carried, firstOf, begunFrom, runOn, afterTaken, afterRun, after, Lent, Served, eventIn}
-use Rattle.rules.specs.Claims.{Stands, givenFor, Proceeds, Progress}
+use Rattle.rules.specs.Runs.{firstOf, begunFrom, runOn, afterTaken, afterRun, after, eventIn}
+use Rattle.rules.specs.Claims.{Stands, Progress}
 use Rattle.rules.proofs.Facts.{Right, Bundled}
-use Rattle.rules.proofs.Bools.{no}
+use Rattle.rules.proofs.Bools.{no, cond-ind}
 use Rattle.rules.proofs.Conditions.{bundled-of, right-of, layout-of}
-use Rattle.rules.proofs.Endings.{either}
 use Rattle.rules.proofs.Sim.{Mid, start, rest, load1, load2, store1, store2, gox1, gox2, gox3, event1, event2, event3, Sim, over, live, Known}
 use Rattle.rules.proofs.Track.{course-going, first-yes, first-no, silent, fetched, tracks, step-known, enter}
 use Rattle.rules.proofs.Isolation.{stays}
@@ -51,13 +50,13 @@ unfolding effectOf
 still Nop v e = tt
 still Halt v e = tt
 still (Plain k d a b x) v e = tt
-still (Load d a) v e = either Still (ltb (regAt v a) (length (v .mem))) _ _ tt tt
-still (Store a b) v e = either Still (ltb (regAt v a) (length (v .mem))) _ _ tt tt
+still (Load d a) v e = cond-ind Still (ltb (regAt v a) (length (v .mem))) (λ _. tt) (λ _. tt)
+still (Store a b) v e = cond-ind Still (ltb (regAt v a) (length (v .mem))) (λ _. tt) (λ _. tt)
 still (GoIf a b c x) v e = tt
 still (GoReg d a b c) v e = tt
-still (Look d x) v e = either Still (ltb (v .cell) (length (v .mem))) _ _ (either Still (ltb (entryOf v x) (length (v .mem))) _ _ tt tt) tt
-still (StopIf d) v e = either Still (eqb (regAt v d) noArrow) _ _ tt tt
-still (Keep d) v e = either Still (ltb (v .cell) (length (v .mem))) _ _ tt tt
+still (Look d x) v e = cond-ind Still (ltb (v .cell) (length (v .mem))) (λ _. cond-ind Still (ltb (entryOf v x) (length (v .mem))) (λ _. tt) (λ _. tt)) (λ _. tt)
+still (StopIf d) v e = cond-ind Still (eqb (regAt v d) noArrow) (λ _. tt) (λ _. tt)
+still (Keep d) v e = cond-ind Still (ltb (v .cell) (length (v .mem))) (λ _. tt) (λ _. tt)
 still (Event x) v e = no (cc)
 still Stray v e = tt
 
@@ -138,8 +137,9 @@ module _ (lay : Layout) (rd : List ℕ) (s : State) where
   moves-event : (v : ℕ) → Moves lay rd s (effectOf (Event v) (seen lay rd s))
   unfolding effectOf applyOf
   moves-event v =
-      either (Moves lay rd s) (ltb (length (s .log) - 2 * s .pairs) 2) _ _ (λ f. absurd (f LogFull refl))
-      (either (Moves lay rd s) (ltb v orders) _ _ (λ f. inl refl) (either (Moves lay rd s) (eqb (length rd - s .used) 0) _ _ (λ f. absurd (f Silent refl)) (λ f. inl refl)))
+      cond-ind (Moves lay rd s) (ltb (length (s .log) - 2 * s .pairs) 2) (λ _ f. absurd (f LogFull refl))
+      (λ _. cond-ind (Moves lay rd s) (ltb v orders) (λ _ f. inl refl)
+      (λ _. cond-ind (Moves lay rd s) (eqb (length rd - s .used) 0) (λ _ f. absurd (f Silent refl)) (λ _ f. inl refl)))
 
   start-moves : (n : ℕ) (i : Instr) → Moves lay rd s (effectOf (shapeOf lay n i 0) (seen lay rd s))
   unfolding effectOf shapeOf
@@ -150,21 +150,22 @@ module _ (lay : Layout) (rd : List ℕ) (s : State) where
   start-moves n (GOIF a b c v) = jumps lay rd s (holdsOf c (getD (s .regs) a 0) (getD (s .regs) b 0)) v (addressOf lay v) refl
   start-moves n (GOX d a b c) = moves-put hidden _
   start-moves n (EVENT e) =
-      either (Moves lay rd s) (ltb (lay .cell) (length (s .mem))) _ _ (either (Moves lay rd s) (ltb (entryOf (seen lay rd s) e) (length (s .mem))) _ _ (moves-put hidden _) faults) faults
+      cond-ind (Moves lay rd s) (ltb (lay .cell) (length (s .mem)))
+      (λ _. cond-ind (Moves lay rd s) (ltb (entryOf (seen lay rd s) e) (length (s .mem))) (λ _. moves-put hidden _) (λ _. faults)) (λ _. faults)
 
   mid-moves : (pol : Policy) (n : ℕ) (g : Guest) (h k b : ℕ) (i : Instr) (p : ℕ) → Mid lay pol n g h k b (getD (s .regs) hidden 0) (getD (s .mem) (lay .cell) 0) i p → Moves lay rd s (effectOf (shapeOf lay n i p) (seen lay rd s))
   unfolding effectOf shapeOf
   mid-moves pol n g h k b i p (start at bk q) = start-moves n i
   mid-moves pol n g h k b i p (rest low nop lt at bk q) = rw (nop p (omega arith)) moves-on
   mid-moves pol n g h k b i p (load1 at bk q e) = moves-put hidden _
-  mid-moves pol n g h k b i p (load2 {d = d} at bk q e) = either (Moves lay rd s) (ltb (getD (s .regs) hidden 0) (length (s .mem))) _ _ (moves-put d _) faults
+  mid-moves pol n g h k b i p (load2 {d = d} at bk q e) = cond-ind (Moves lay rd s) (ltb (getD (s .regs) hidden 0) (length (s .mem))) (λ _. moves-put d _) (λ _. faults)
   mid-moves pol n g h k b i p (store1 at bk q e) = moves-put hidden _
-  mid-moves pol n g h k b i p (store2 at bk q e) = either (Moves lay rd s) (ltb (getD (s .regs) hidden 0) (length (s .mem))) _ _ (moves-cell _ _) faults
+  mid-moves pol n g h k b i p (store2 at bk q e) = cond-ind (Moves lay rd s) (ltb (getD (s .regs) hidden 0) (length (s .mem))) (λ _. moves-cell _ _) (λ _. faults)
   mid-moves pol n g h k b i p (gox1 at bk q e) = moves-put hidden _
   mid-moves pol n g h k b i p (gox2 at bk q e) = moves-put hidden _
   mid-moves pol n g h k b i p (gox3 {d = d} {a = x} {b′ = y} {t = c} at bk q e) = jumps lay rd s (holdsOf c (getD (s .regs) x 0) (getD (s .regs) y 0)) (rOf g d % n) _ e
-  mid-moves pol n g h k b i p (event1 at bk q e) = either (Moves lay rd s) (eqb (getD (s .regs) hidden 0) noArrow) _ _ (moves-end Stopped (λ x. no (cc))) moves-on
-  mid-moves pol n g h k b i p (event2 at bk q e some) = either (Moves lay rd s) (ltb (lay .cell) (length (s .mem))) _ _ (moves-cell (lay .cell) _) faults
+  mid-moves pol n g h k b i p (event1 at bk q e) = cond-ind (Moves lay rd s) (eqb (getD (s .regs) hidden 0) noArrow) (λ _. moves-end Stopped (λ x. no (cc))) (λ _. moves-on)
+  mid-moves pol n g h k b i p (event2 at bk q e some) = cond-ind (Moves lay rd s) (ltb (lay .cell) (length (s .mem))) (λ _. moves-cell (lay .cell) _) (λ _. faults)
   mid-moves pol n g h k b i p (event3 {e = x} at bk q some) = moves-event x
 
 -- ---- one step of a run

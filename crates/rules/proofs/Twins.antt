@@ -28,8 +28,8 @@ use Rattle.rules.specs.Commands.{fetchOf}
 use Rattle.rules.specs.Machines.{viewOf, effectOf, State, stateOf, withPair, applyOf, seen, nextOf, stepOf, endingOf, Ran, endedIn, unlessOver, unlessWait, fits, startOf, runFrom, runOf, installMemory}
 use Rattle.rules.specs.Bundles.{shapeOf}
 use Rattle.rules.specs.Guests.{Pair, Guest, rOf, guestStart}
-use Rattle.rules.specs.Runs.{Given, pairsOf, Carried, carriedOf, atFirst, runOn, afterTaken, firstOf, afterRun, runsOf, Lent, Lends, Served}
-use Rattle.rules.specs.Claims.{Each, Alike, Same, Matches}
+use Rattle.rules.specs.Runs.{Given, pairsOf, Carried, carriedOf, atFirst, runOn, afterTaken, firstOf, afterRun, runsOf, Matches, Lent, Lends, Served}
+use Rattle.rules.specs.Claims.{Each, Alike, Same}
 use Rattle.rules.proofs.Bools.{no, cases, both}
 use Rattle.rules.proofs.Facts.{Right, Valid, Bundled, Laid}
 use Rattle.rules.proofs.Conditions.{machine-of}

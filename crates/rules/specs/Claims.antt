@@ -1,7 +1,7 @@
 -- What is claimed of the definitions. Each claim is a type; its proof has the claim's name in small letters, in proofs/.
-use Prim.Native.Nat.{ℕ, zero, suc, _+_, _-_, _*_, _/_, _%_, _^_, _<_, _≤_}
+use Prim.Native.Nat.{ℕ, suc, _+_, _-_, _*_, _/_, _%_, _^_, _<_, _≤_}
 use mathlib.Core.Path.{_≡_}
-use mathlib.Core.Bool.{Bool, true, false, _||_}
+use mathlib.Core.Bool.{true, false}
 use mathlib.Core.Logic.{_⊎_}
 use mathlib.Core.List.{List, [], _∷_, _++_}
 use lib.ListN.{length, getD, take}
@@ -12,16 +12,16 @@ use Rattle.rules.specs.declared.Status.{Status}
 use Rattle.rules.specs.declared.Status.the-variants.{Running, Ended, Stopped, Faulted}
 use Rattle.rules.specs.declared.Ending.{Ending}
 use Rattle.rules.specs.declared.Ending.the-variants.{Done, NoArrow, Fault, LogFull, Silent, Spent, Refused}
-use Rattle.rules.specs.Names.{mostBundles, bundleLength, guestRegisters, answer, endingNumber}
-use Rattle.rules.specs.Layouts.{rightLayout, maskOf, inBox, protected}
+use Rattle.rules.specs.Names.{mostInstructions, mostBundles, bundleLength, bundleShift, guestRegisters, answer, endingNumber}
+use Rattle.rules.specs.Layouts.{rightLayout, maskOf, inBox}
 use Rattle.rules.specs.Policies.{Policy, allowed, stateOver}
 use Rattle.rules.specs.Words.{routine, bundlesFor}
 use Rattle.rules.specs.Bytes.{readAnswer, readOutput, writeAnswer, writeOutput}
-use Rattle.rules.specs.Commands.{shlOf}
-use Rattle.rules.specs.Bundles.{addressOf, lastAddress, baseRight, commandsOf, commandCount, rewriteAnswer, checkAnswer}
+use Rattle.rules.specs.Commands.{shlOf, fetchOf}
+use Rattle.rules.specs.Bundles.{addressOf, lastAddress, shapeOf, bundleAt, baseRight, commandsOf, rewriteAnswer, rewriteOutput, checkAnswer}
 use Rattle.rules.specs.Machines.{State, leftIn, runFrom, runOf, installMemory}
 use Rattle.rules.specs.Guests.{Course, going, ended, stopped, Guest, guestAfter, guestStart, boxOf}
-use Rattle.rules.specs.Runs.{begunFrom, Given, Carried, atFirst, afterRun, after, Run, runsOf, Lent, Lends, Served, pairsOf, eventsOf, pendingAt}
+use Rattle.rules.specs.Runs.{begunFrom, Given, Carried, afterRun, allRuns, after, Run, recordedIn, Matches, Lent, Served, pairsOf, eventsOf, pendingAt}
 
 -- ---- masks and sizes
 
@@ -29,19 +29,20 @@ use Rattle.rules.specs.Runs.{begunFrom, Given, Carried, atFirst, afterRu
 pub record MaskLaws (lay : Layout) : Type 0 where
   pub inside : (e : ℕ) → inBox lay (maskOf (lay .low) (lay .high) e) ≡ true
   pub fixed : (e : ℕ) → inBox lay e ≡ true → maskOf (lay .low) (lay .high) e ≡ e
-  pub lands : (n x : ℕ) → ones n ≡ 1 → n ≤ mostBundles → baseRight lay n ≡ true → maskOf (lay .base) (lastAddress lay n) (shlOf x 2) ≡ addressOf lay (x % n)
+  pub lands : (N x : ℕ) → ones N ≡ 1 → N ≤ mostBundles → baseRight lay N ≡ true → maskOf (lay .base) (lastAddress lay N) (shlOf x bundleShift) ≡ addressOf lay (x % N)
 
 abbrev pub Masks : Type 0
 Masks = (lay : Layout) → rightLayout lay ≡ true → MaskLaws lay
 
--- 'N is the smallest power of two greater than n'
+-- 'N is the smallest power of two greater than n', and at most 1,024
 pub record SizeLaws (n : ℕ) : Type 0 where
   pub above : n < bundlesFor n
   pub power : ones (bundlesFor n) ≡ 1
   pub least : (i : ℕ) → n < 2 ^ i → bundlesFor n ≤ 2 ^ i
+  pub most : bundlesFor n ≤ mostBundles
 
 abbrev pub Sizes : Type 0
-Sizes = (n : ℕ) → n < 2 ^ 31 → SizeLaws n
+Sizes = (n : ℕ) → n ≤ mostInstructions → SizeLaws n
 
 -- ---- bytes
 
@@ -64,7 +65,14 @@ BytesBack =
 
 -- ---- rewriter and checker
 
--- 'the checker passes exactly the listed shapes, all the rewriter's output among them'
+-- the commands that rewriting leaves are the first of its output
+abbrev pub RewriteLeaves : Type 0
+RewriteLeaves =
+    (lay : Layout) (code out : List ℕ) →
+    let a = rewriteAnswer lay code (length out) in
+    a .number ≡ 0 → take (a .place) (rewriteOutput lay code out) ≡ commandsOf lay code
+
+-- the checker passes what the rewriter writes
 abbrev pub RewrittenPasses : Type 0
 RewrittenPasses =
     (lay : Layout) (code : List ℕ) (room : ℕ) → rewriteAnswer lay code room .number ≡ 0 → checkAnswer lay (commandsOf lay code) ≡ answer 0 0
@@ -78,9 +86,16 @@ pub record Rewrites (lay : Layout) (ws : List ℕ) : Type 0 where
 abbrev pub PassedRewrites : Type 0
 PassedRewrites = (lay : Layout) (ws : List ℕ) → checkAnswer lay ws .number ≡ 0 → Rewrites lay ws
 
+-- every word of a passed list is a command: the one that its bundle's shape names
+abbrev pub PassedDecodes : Type 0
+PassedDecodes =
+    (lay : Layout) (ws : List ℕ) → checkAnswer lay ws .number ≡ 0 →
+    let N = length ws / bundleLength in
+    (h p : ℕ) → h < N → p < bundleLength → fetchOf ws (lay .base) (addressOf lay h + p) ≡ shapeOf lay N (bundleAt lay ws h) p
+
 -- ---- endings
 
--- the status that an ending leaves
+-- the status that an ending of a run that is not refused leaves
 abbrev pub statusAfter : Ending → Status
 statusAfter Done = Ended
 statusAfter NoArrow = Stopped
@@ -93,17 +108,33 @@ statusAfter Refused = Running
 -- a run that is not refused answers 20, 21 or 22 exactly where its record has ended, stopped or faulted
 abbrev pub Endings : Type 0
 Endings =
-    (lay : Layout) (ws : List ℕ) (m : Machine) (mem : List ℕ) (budget : ℕ) (rd log : List ℕ) → (runOf lay ws m mem budget rd log .outcome .answer .ending ≡ Refused → ⊥) → runOf lay ws m mem budget rd log .outcome .machine .status ≡ statusAfter (runOf lay ws m mem budget rd log .outcome .answer .ending)
+    (lay : Layout) (ws : List ℕ) (m : Machine) (mem : List ℕ) (budget : ℕ) (reads log : List ℕ) →
+    let o = runOf lay ws m mem budget reads log .outcome in
+    (o .answer .ending ≡ Refused → ⊥) → o .machine .status ≡ statusAfter (o .answer .ending)
 
 -- ---- every moment
 
 -- a run with a budget above j comes to where the run with budget j ends, and goes on from there as a run does; so do the bundles begun
-pub record SplitLaws (lay : Layout) (ws rd : List ℕ) (j l k b : ℕ) (s : State) : Type 0 where
-  pub run : runFrom lay ws rd (j + suc l) k s ≡ runFrom lay ws rd (suc l) (runFrom lay ws rd j k s .outcome .answer .steps) (leftIn (runFrom lay ws rd j k s))
-  pub begun : begunFrom lay ws rd (j + suc l) b s ≡ begunFrom lay ws rd (suc l) (begunFrom lay ws rd j b s) (leftIn (runFrom lay ws rd j k s))
+pub record SplitLaws (lay : Layout) (ws reads : List ℕ) (j l k b : ℕ) (s : State) : Type 0 where
+  pub run :
+      let r = runFrom lay ws reads j k s in
+      runFrom lay ws reads (j + suc l) k s ≡ runFrom lay ws reads (suc l) (r .outcome .answer .steps) (leftIn r)
+  pub begun :
+      let r = runFrom lay ws reads j k s in
+      begunFrom lay ws reads (j + suc l) b s ≡ begunFrom lay ws reads (suc l) (begunFrom lay ws reads j b s) (leftIn r)
 
 abbrev pub Splits : Type 0
-Splits = (lay : Layout) (ws rd : List ℕ) (j l k b : ℕ) (s : State) → SplitLaws lay ws rd j l k b s
+Splits = (lay : Layout) (ws reads : List ℕ) (j l k b : ℕ) (s : State) → SplitLaws lay ws reads j l k b s
+
+-- what a run is given, with another budget
+abbrev pub givenFor : Given → ℕ → Given
+givenFor g j = record { memory = g .memory; budget = j; readings = g .readings; log = g .log }
+
+-- a list of runs cut off within a run is on the premise too
+abbrev pub Cuts : Type 0
+Cuts =
+    (lay : Layout) (pol : Policy) (ws mem : List ℕ) (xs ys : List Given) (g : Given) (j : ℕ) →
+    Served lay pol ws mem (xs ++ (g ∷ ys)) → Served lay pol ws mem (xs ++ (givenFor g j ∷ []))
 
 -- ---- the guest rule
 
@@ -116,7 +147,8 @@ statusOf stopped = Stopped
 abbrev pub Stands : Layout → Machine → Type 0
 Stands lay m = ((m .pc - lay .base) % bundleLength ≡ 0) ⊎ (m .status ≡ Running → ⊥)
 
--- 'on ending, r0 to r7, sandbox, state cell, records and readings used'; and on the instruction to come
+-- 'on ending, r0 to r7, sandbox, state cell, records and readings used'; and on the instruction to come.
+-- The ending is the record's status: by Endings a run answers 20 or 21 exactly where it has ended or stopped
 pub record Agrees (lay : Layout) (g : Guest) (c : Carried) : Type 0 where
   pub ending : c .machine .status ≡ statusOf (g .course)
   pub regs : take guestRegisters (c .machine .regs) ≡ g .regs
@@ -131,13 +163,13 @@ pub record Agrees (lay : Layout) (g : Guest) (c : Carried) : Type 0 where
 -- A list of runs may end anywhere and budgets are any, so this speaks of every moment
 abbrev pub GuestRule : Type 0
 GuestRule =
-    (lay : Layout) (pol : Policy) (code mem : List ℕ) (room : ℕ) (gs : List Given) → rewriteAnswer lay code room .number ≡ 0 → Served lay pol (commandsOf lay code) mem gs → Stands lay (after lay pol (commandsOf lay code) mem gs .machine) → Agrees lay (guestAfter lay pol (bundlesFor (length code)) (routine code) (after lay pol (commandsOf lay code) mem gs .used) (guestStart lay pol (installMemory lay pol mem)) (after lay pol (commandsOf lay code) mem gs .begun)) (after lay pol (commandsOf lay code) mem gs)
+    (lay : Layout) (pol : Policy) (code mem : List ℕ) (room : ℕ) (gs : List Given) → rewriteAnswer lay code room .number ≡ 0 →
+    let ws = commandsOf lay code in
+    let c = after lay pol ws mem gs in
+    let g = guestStart lay pol (installMemory lay pol mem) in
+    Served lay pol ws mem gs → Stands lay (c .machine) → Agrees lay (guestAfter lay pol (bundlesFor (length code)) (routine code) (c .used) g (c .begun)) c
 
--- ---- progress: what the guest does in its next instruction, the machine does too
-
--- what a run is given, with another budget
-abbrev pub givenFor : Given → ℕ → Given
-givenFor g j = record { memory = g .memory; budget = j; readings = g .readings; log = g .log }
+-- ---- progress: a machine that can go on reaches the next place of comparison in at most four steps
 
 -- after a run of at most four steps the machine stands again, one bundle on
 pub record Proceeds (lay : Layout) (ws : List ℕ) (c : Carried) (g : Given) : Type 0 where
@@ -149,7 +181,10 @@ pub record Proceeds (lay : Layout) (ws : List ℕ) (c : Carried) (g : Given) : T
 -- a machine that stands and runs, lent its memory, two log cells and a reading, comes to the next place of comparison
 abbrev pub Progress : Type 0
 Progress =
-    (lay : Layout) (pol : Policy) (ws mem : List ℕ) (gs : List Given) → Served lay pol ws mem gs → Stands lay (after lay pol ws mem gs .machine) → after lay pol ws mem gs .machine .status ≡ Running → (g : Given) → Lent lay (after lay pol ws mem gs) g → length (g .memory) ≡ lay .size → 2 ≤ length (g .log) → 1 ≤ length (g .readings) → Proceeds lay ws (after lay pol ws mem gs) g
+    (lay : Layout) (pol : Policy) (ws mem : List ℕ) (gs : List Given) → Served lay pol ws mem gs →
+    let c = after lay pol ws mem gs in
+    Stands lay (c .machine) → c .machine .status ≡ Running →
+    (g : Given) → Lent lay c g → length (g .memory) ≡ lay .size → 2 ≤ length (g .log) → 1 ≤ length (g .readings) → Proceeds lay ws c g
 
 -- ---- isolation
 
@@ -168,10 +203,14 @@ Each R (x ∷ xs) (y ∷ ys) = R x y × Each R xs ys
 abbrev pub Sound : Run → Type 0
 Sound r = endingNumber (r .ran .outcome .answer .ending) ≡ 22 → ⊥
 
--- a run leaves its memory's length and every cell outside the sandbox but the state cell as it found them
+-- a run leaves its memory's length and every cell outside the sandbox but the state cell as it found them;
+-- beyond the counted pairs a log is as it was found
 pub record Kept (lay : Layout) (r : Run) : Type 0 where
   pub size : length (r .ran .mem) ≡ length (r .given .memory)
   pub cells : (i : ℕ) → inBox lay i ≡ false → (i ≡ lay .cell → ⊥) → getD (r .ran .mem) i 0 ≡ getD (r .given .memory) i 0
+  pub counted : 2 * r .ran .outcome .answer .pairs ≤ length (r .ran .log)
+  pub logSize : length (r .ran .log) ≡ length (r .given .log)
+  pub logRest : (i : ℕ) → 2 * r .ran .outcome .answer .pairs ≤ i → getD (r .ran .log) i 0 ≡ getD (r .given .log) i 0
 
 -- two runs given the same readings and budget, and logs and memories of the same lengths
 pub record Alike (g g′ : Given) : Type 0 where
@@ -187,20 +226,19 @@ pub record Same (lay : Layout) (r r′ : Run) : Type 0 where
   pub cell : getD (r .memory) (lay .cell) 0 ≡ getD (r′ .memory) (lay .cell) 0
   pub box : (i : ℕ) → inBox lay i ≡ true → getD (r .memory) i 0 ≡ getD (r′ .memory) i 0
 
--- two memories alike in sandbox and protected cells
-abbrev pub Matches : Layout → List ℕ → List ℕ → Type 0
-Matches lay mem mem′ = (i : ℕ) → (inBox lay i || protected lay i) ≡ true → getD mem i 0 ≡ getD mem′ i 0
-
 -- what holds of a whole list of runs:
--- (a) no run faults; (b) each leaves every cell outside the sandbox but the state cell as it found it;
+-- (a) no run faults; (b) each leaves every cell outside the sandbox but the state cell as it found it, and its log beyond the counted pairs;
 -- (c) the events of all counted pairs, log after log, are a list that the policy allows;
 -- (d) a second list, from an installation alike in sandbox and protected cells, its runs given alike, does the same run by run:
 --     free memory and what logs held before have no influence
 pub record Isolated (lay : Layout) (pol : Policy) (ws mem : List ℕ) (gs : List Given) : Type 0 where
-  pub sound : Every Sound (runsOf lay ws (atFirst lay pol mem) gs)
-  pub kept : Every (Kept lay) (runsOf lay ws (atFirst lay pol mem) gs)
-  pub allowed : allowed pol (eventsOf (after lay pol ws mem gs .records)) ≡ true
-  pub alone : (pol′ : Policy) (mem′ : List ℕ) (gs′ : List Given) → Served lay pol′ ws mem′ gs′ → Matches lay (installMemory lay pol mem) (installMemory lay pol′ mem′) → Each Alike gs gs′ → Each (Same lay) (runsOf lay ws (atFirst lay pol mem) gs) (runsOf lay ws (atFirst lay pol′ mem′) gs′)
+  pub sound : Every Sound (allRuns lay pol ws mem gs)
+  pub kept : Every (Kept lay) (allRuns lay pol ws mem gs)
+  pub allowed : allowed pol (eventsOf (recordedIn (allRuns lay pol ws mem gs))) ≡ true
+  pub alone :
+      (pol′ : Policy) (mem′ : List ℕ) (gs′ : List Given) → Served lay pol′ ws mem′ gs′ →
+      Matches lay (installMemory lay pol mem) (installMemory lay pol′ mem′) → Each Alike gs gs′ →
+      Each (Same lay) (allRuns lay pol ws mem gs) (allRuns lay pol′ ws mem′ gs′)
 
 -- demand 3
 abbrev pub Isolation : Type 0

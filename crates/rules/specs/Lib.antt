@@ -12,3 +12,4 @@ pub mod Runs
 pub mod Claims
 pub mod Loading
 pub mod Tray
+pub mod Sample

@@ -1,5 +1,5 @@
 -- The numbers of document 01, each named once, and the numbers of its refusals and endings.
-use Prim.Native.Nat.{ℕ, _+_, _^_}
+use Prim.Native.Nat.{ℕ, _+_, _-_, _^_}
 use mathlib.Core.Bool.{Bool, cond}
 use mathlib.Core.List.{List, [], _∷_}
 use Rattle.rules.specs.declared.Refusal.{Refusal}
@@ -38,22 +38,26 @@ mostBundles = 1024
 abbrev pub bundleLength : ℕ
 bundleLength = 4
 
+-- a bundle number shifted by it is times 4: 4 is 2 ^ 2
+abbrev pub bundleShift : ℕ
+bundleShift = 2
+
 -- the guest's registers are 0 to 7; register 8 is hidden; the machine has nine
 abbrev pub guestRegisters : ℕ
 guestRegisters = 8
 
 abbrev pub hidden : ℕ
-hidden = 8
+hidden = guestRegisters
 
 abbrev pub registers : ℕ
-registers = 9
+registers = hidden + 1
 
 -- the greatest register of a guest field and of a command's, the greatest condition, shift and event, and the greatest 32-bit number
 abbrev pub topGuest : ℕ
-topGuest = 7
+topGuest = guestRegisters - 1
 
 abbrev pub topRegister : ℕ
-topRegister = 8
+topRegister = hidden
 
 abbrev pub topCondition : ℕ
 topCondition = 3
@@ -62,7 +66,7 @@ abbrev pub topShift : ℕ
 topShift = 31
 
 abbrev pub topEvent : ℕ
-topEvent = 15
+topEvent = events - 1
 
 abbrev pub topWord : ℕ
 topWord = 4294967295
@@ -74,31 +78,31 @@ topKind = 12
 abbrev pub commandKinds : ℕ
 commandKinds = 20
 
--- the table 'Rejects'
+-- the table 'Rejects', with its words
 abbrev pub numberOf : Refusal → ℕ
-numberOf Taken = 0
-numberOf Short = 1
-numberOf Foreign = 2
-numberOf UnknownKind = 3
-numberOf OffRange = 4
-numberOf Oversize = 5
-numberOf Trailing = 6
-numberOf BadLayout = 7
-numberOf BadLanding = 8
-numberOf SmallOutput = 9
-numberOf BadPolicy = 10
-numberOf BadBundle = 11
-numberOf BadCount = 12
-numberOf BadBase = 13
+numberOf Taken = 0  -- taken
+numberOf Short = 1  -- short weight
+numberOf Foreign = 2  -- foreign matter
+numberOf UnknownKind = 3  -- unknown variety
+numberOf OffRange = 4  -- off grade
+numberOf Oversize = 5  -- oversize
+numberOf Trailing = 6  -- overweight
+numberOf BadLayout = 7  -- bad layout
+numberOf BadLanding = 8  -- bad landing
+numberOf SmallOutput = 9  -- small hopper
+numberOf BadPolicy = 10  -- bad policy
+numberOf BadBundle = 11  -- bad bundle
+numberOf BadCount = 12  -- bad count
+numberOf BadBase = 13  -- bad base
 
--- the table of endings; a refused run answers 7
+-- the table of endings, with its words; a refused run answers 7
 abbrev pub endingNumber : Ending → ℕ
-endingNumber Done = 20
-endingNumber NoArrow = 21
-endingNumber Fault = 22
-endingNumber LogFull = 23
-endingNumber Silent = 24
-endingNumber Spent = 25
+endingNumber Done = 20  -- ended
+endingNumber NoArrow = 21  -- no arrow
+endingNumber Fault = 22  -- fault
+endingNumber LogFull = 23  -- log full
+endingNumber Silent = 24  -- probe silent
+endingNumber Spent = 25  -- spent
 endingNumber Refused = numberOf BadLayout
 
 -- a number with its place

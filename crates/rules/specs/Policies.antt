@@ -1,6 +1,6 @@
 -- Policies: a start state and a table of 16 bytes a state.
 use Prim.Native.Nat.{ℕ, _+_, _*_}
-use mathlib.Core.Bool.{Bool, true, false, _&&_, _||_, not, cond}
+use mathlib.Core.Bool.{Bool, true, _&&_, _||_, not, cond}
 use mathlib.Core.List.{List, [], _∷_}
 use lib.ListN.{length, getD}
 use lib.Dec.{eqb, ltb}
@@ -42,7 +42,7 @@ abbrev pub entriesRight : ℕ → List ℕ → Bool
 entriesRight s [] = true
 entriesRight s (b ∷ bs) = (ltb b s || eqb b noArrow) && entriesRight s bs
 
--- what 10 refuses: S not the layout's, length not 16 × S, start not below S, a byte neither below S nor 255
+-- what 10 does not refuse: 'S not the layout's, length not 16 × S, start not below S, or a byte neither below S nor 255'
 unfoldable pub rightPolicy : Layout → Policy → Bool
 rightPolicy l pol =
     eqb (pol .states) (l .states) && eqb (length (pol .table)) (events * pol .states) && ltb (pol .start) (pol .states) && entriesRight (pol .states) (pol .table)

@@ -1,37 +1,45 @@
 -- The sample tray: document 01's cases marked *, rows of one table.
-use Prim.Native.Nat.{ℕ, _+_, _-_, _*_, _%_, _^_}
+use Prim.Native.Nat.{ℕ, _+_, _-_, _^_}
 use mathlib.Core.Path.{_≡_}
-use mathlib.Core.Bool.{Bool, true, false, not, _&&_, Bool·beq}
-use mathlib.Core.List.{List, [], _∷_, _++_}
-use lib.ListN.{length, replicate}
-use lib.Dec.{eqb, ltb}
+use mathlib.Core.Bool.{Bool, true, false, _&&_, Bool·beq}
+use mathlib.Core.List.{List, [], _∷_}
+use lib.ListN.{length, set, replicate}
+use lib.Dec.{eqb}
 use Rattle.rules.specs.declared.Layout.{Layout}
+use Rattle.rules.specs.declared.Answer.{Answer}
 use Rattle.rules.specs.declared.Status.the-variants.{Running}
-use Rattle.rules.specs.Names.{registers}
+use Rattle.rules.specs.Names.{mostInstructions, bundleLength, registers}
 use Rattle.rules.specs.Layouts.{layoutOf, rightLayout, maskOf}
 use Rattle.rules.specs.Words.{packOf, bundlesFor}
-use Rattle.rules.specs.Bytes.{oneOut, readAnswer}
+use Rattle.rules.specs.Bytes.{readAnswer, writeOutput}
 use Rattle.rules.specs.Commands.{plainOf, holdsOf}
 use Rattle.rules.specs.Bundles.{rewriteAnswer, checkAnswer, commandsOf}
 use Rattle.rules.specs.Machines.{machineOf, runOf}
 
 pub data Row : Type 0 where
   masks : (sl sh e r : ℕ) → Row  -- address e masks to r
-  fits : (l : Layout) (r : Bool) → Row  -- whether the layout is right
-  checks : (l : Layout) (ws : List ℕ) (r : ℕ) → Row  -- checking's number
+  rightness : (l : Layout) (r : Bool) → Row  -- whether the layout is right
+  checks : (l : Layout) (ws : List ℕ) (r place : ℕ) → Row  -- checking's number and place
   rewrites : (l : Layout) (ws : List ℕ) (room r place : ℕ) → Row  -- rewriting's number and place
   reaches : (l : Layout) (x r : ℕ) → Row  -- pc after the four commands of GOX r0 in a routine of seven instructions, with x in r0
   computes : (k x v r : ℕ) → Row  -- what a plain command puts into rd
   holds : (c x y : ℕ) (r : Bool) → Row  -- condition c
-  writes : (w : ℕ) (bytes : List ℕ) → Row  -- a word's bytes
-  reads : (bytes : List ℕ) (r : ℕ) → Row  -- reading's number
+  writes : (w : ℕ) (bytes : List ℕ) → Row  -- what writing a word leaves after its count
+  reads : (bytes : List ℕ) (r place : ℕ) → Row  -- reading's number and place
   sizes : (n r : ℕ) → Row  -- N from n
 
-abbrev pub alike : List ℕ → List ℕ → Bool
-alike [] [] = true
-alike [] (y ∷ ys) = false
-alike (x ∷ xs) [] = false
-alike (x ∷ xs) (y ∷ ys) = eqb x y && alike xs ys
+abbrev pub sameList : List ℕ → List ℕ → Bool
+sameList [] [] = true
+sameList [] (y ∷ ys) = false
+sameList (x ∷ xs) [] = false
+sameList (x ∷ xs) (y ∷ ys) = eqb x y && sameList xs ys
+
+abbrev pub answersAs : Answer → ℕ → ℕ → Bool
+answersAs a r place = eqb (a .number) r && eqb (a .place) place
+
+-- U 64, SL 8, SH 15, M 0, P 16, S 1 and a base
+abbrev pub smallLayout : ℕ → Layout
+smallLayout b = layoutOf 64 8 15 0 16 1 b
 
 -- GOX r0, always; then HALTs to seven instructions
 abbrev pub goxRoutine : List ℕ
@@ -39,18 +47,18 @@ goxRoutine = packOf 11 0 0 0 0 0 ∷ replicate 6 0
 
 abbrev pub reached : Layout → ℕ → ℕ
 reached l x =
-    runOf l (commandsOf l goxRoutine) (machineOf (x ∷ replicate 8 0) (l .base) Running) (replicate 64 0) 4 [] [] .outcome .machine .pc
+    runOf l (commandsOf l goxRoutine) (machineOf (set (replicate registers 0) 0 x) (l .base) Running) (replicate (l .size) 0) bundleLength [] [] .outcome .machine .pc
 
 abbrev pub rowHolds : Row → Bool
 rowHolds (masks sl sh e r) = eqb (maskOf sl sh e) r
-rowHolds (fits l r) = Bool·beq (rightLayout l) r
-rowHolds (checks l ws r) = eqb (checkAnswer l ws .number) r
-rowHolds (rewrites l ws room r place) = eqb (rewriteAnswer l ws room .number) r && eqb (rewriteAnswer l ws room .place) place
+rowHolds (rightness l r) = Bool·beq (rightLayout l) r
+rowHolds (checks l ws r place) = answersAs (checkAnswer l ws) r place
+rowHolds (rewrites l ws room r place) = answersAs (rewriteAnswer l ws room) r place
 rowHolds (reaches l x r) = eqb (reached l x) r
 rowHolds (computes k x v r) = eqb (plainOf k x 0 v) r
 rowHolds (holds c x y r) = Bool·beq (holdsOf c x y) r
-rowHolds (writes w bytes) = alike (oneOut w) bytes
-rowHolds (reads bytes r) = eqb (readAnswer bytes 1023 .number) r
+rowHolds (writes w bytes) = sameList (writeOutput (w ∷ []) (replicate (2 + length bytes) 0)) (1 ∷ 0 ∷ bytes)
+rowHolds (reads bytes r place) = answersAs (readAnswer bytes mostInstructions) r place
 rowHolds (sizes n r) = eqb (bundlesFor n) r
 
 abbrev pub allHold : List Row → Bool
@@ -64,24 +72,25 @@ rows =
     ∷ masks 256 511 768 256
     ∷ masks 256 511 4294967295 511
     ∷ masks 7 7 0 7
-    ∷ checks (layoutOf 64 6 9 0 16 1 0) (1 ∷ 0 ∷ 0 ∷ 0 ∷ []) 7
+    ∷ checks (layoutOf 64 6 9 0 16 1 0) (1 ∷ 0 ∷ 0 ∷ 0 ∷ []) 7 0
     ∷ masks 6 9 9 15
-    ∷ fits (layoutOf 64 8 15 0 16 1 0) true
-    ∷ checks (layoutOf 64 8 15 0 16 1 0) (1 ∷ 0 ∷ 0 ∷ 0 ∷ []) 0
-    ∷ fits (layoutOf 64 8 13 0 16 1 0) false
-    ∷ reaches (layoutOf 64 8 15 0 16 1 32) 3 44
-    ∷ reaches (layoutOf 64 8 15 0 16 1 32) 11 44
-    ∷ reaches (layoutOf 64 8 15 0 16 1 32) 0x40000003 44
-    ∷ rewrites (layoutOf 64 8 15 0 16 1 16) goxRoutine 32 13 0
+    ∷ rightness (smallLayout 0) true
+    ∷ checks (smallLayout 0) (1 ∷ 0 ∷ 0 ∷ 0 ∷ []) 0 0
+    ∷ rightness (layoutOf 64 8 13 0 16 1 0) false
+    ∷ reaches (smallLayout 32) 3 44
+    ∷ reaches (smallLayout 32) 11 44
+    ∷ reaches (smallLayout 32) 0x40000003 44
+    ∷ rewrites (smallLayout 16) goxRoutine 32 13 0
+    ∷ checks (smallLayout 16) (commandsOf (smallLayout 32) goxRoutine) 13 0
     ∷ computes 8 (2 ^ 32 - 7) 1 (2 ^ 32 - 4)
     ∷ computes 8 (2 ^ 31) 31 (2 ^ 32 - 1)
     ∷ holds 3 (2 ^ 32 - 1) 0 true
     ∷ holds 2 (2 ^ 32 - 1) 0 false
     ∷ writes (packOf 1 1 0 0 0 200) (0x23 ∷ 0x01 ∷ 0x01 ∷ 0xC8 ∷ 0x00 ∷ 0x00 ∷ 0x00 ∷ [])
     ∷ writes (packOf 1 0 0 0 0 0) (0x01 ∷ 0x01 ∷ [])
-    ∷ reads (1 ∷ 0 ∷ 0x23 ∷ 0x01 ∷ 0x01 ∷ 0x00 ∷ 0x00 ∷ 0x00 ∷ 0x00 ∷ []) 2
+    ∷ reads (1 ∷ 0 ∷ 0x23 ∷ 0x01 ∷ 0x01 ∷ 0x00 ∷ 0x00 ∷ 0x00 ∷ 0x00 ∷ []) 2 0
     ∷ sizes 0 1
-    ∷ rewrites (layoutOf 64 8 15 0 16 1 32) [] 4 0 4
+    ∷ rewrites (smallLayout 32) [] 4 0 4
     ∷ sizes 255 256
     ∷ sizes 256 512
     ∷ []

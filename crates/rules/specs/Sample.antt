@@ -1,0 +1,78 @@
+-- A sample on the claims' premises: the routine of document 01's trial in two runs with a refused one between,
+-- and a second list alike in all but free cells and what the logs held.
+use Prim.Native.Nat.{ℕ}
+use mathlib.Core.Path.{_≡_}
+use mathlib.Core.List.{List, [], _∷_, _++_}
+use lib.ListN.{getD, set, replicate}
+use Rattle.rules.specs.declared.Layout.{Layout}
+use Rattle.rules.specs.declared.Ending.{Ending}
+use Rattle.rules.specs.declared.Ending.the-variants.{NoArrow, Spent, Refused}
+use Rattle.rules.specs.declared.RunAnswer.{RunAnswer}
+use Rattle.rules.specs.Layouts.{layoutOf}
+use Rattle.rules.specs.Policies.{Policy, policyOf}
+use Rattle.rules.specs.Words.{packOf, routine}
+use Rattle.rules.specs.Bundles.{commandsOf}
+use Rattle.rules.specs.Machines.{installMemory}
+use Rattle.rules.specs.Guests.{pairOf, guestAfter, guestStart}
+use Rattle.rules.specs.Runs.{Given, atFirst, afterRun, Run, recordedIn, Matches, Served, allRuns, after}
+use Rattle.rules.specs.Claims.{Each, Alike, Same}
+
+abbrev pub layout : Layout
+layout = layoutOf 1024 256 511 0 16 2 4096
+
+-- the door's event 2 goes to state 1, which has no arrow for event 0, gas
+abbrev pub policy : Policy
+policy = policyOf 2 0 (0 ∷ 0 ∷ 1 ∷ replicate 13 0 ++ 255 ∷ replicate 15 1)
+
+-- SET r0, 70; EVENT 0; EVENT 2; EVENT 0
+abbrev pub code : List ℕ
+code = packOf 1 0 0 0 0 70 ∷ packOf 12 0 0 0 0 0 ∷ packOf 12 0 0 0 0 2 ∷ packOf 12 0 0 0 0 0 ∷ []
+
+abbrev pub commands : List ℕ
+commands = commandsOf layout code
+
+-- a routine that reads a probe: EVENT 9
+abbrev pub probing : List ℕ
+probing = commandsOf layout (packOf 12 0 0 0 0 9 ∷ [])
+
+-- cell 700 is free
+abbrev pub memory : ℕ → List ℕ
+memory x = set (replicate 1024 0) 700 x
+
+-- a lent memory, a budget, and what the log held
+abbrev pub given : List ℕ → ℕ → ℕ → Given
+given mem budget old = record { memory = mem; budget = budget; readings = 1800 ∷ 1950 ∷ 2100 ∷ []; log = replicate 64 old }
+
+-- six steps; a memory too short; a thousand steps, before which the host wrote x to the free cell 600
+abbrev pub firstRun : ℕ → Given
+firstRun x = given (installMemory layout policy (memory x)) 6 x
+
+abbrev pub left : ℕ → List ℕ
+left x = afterRun layout commands (atFirst layout policy (memory x)) (firstRun x) .memory
+
+abbrev pub lastRun : ℕ → Given
+lastRun x = given (set (left x) 600 x) 1000 x
+
+abbrev pub runs : ℕ → List Given
+runs x = firstRun x ∷ given [] 6 x ∷ lastRun x ∷ []
+
+abbrev pub answerIs : Ending → ℕ → ℕ → ℕ → RunAnswer
+answerIs e k n u = record { ending = e; steps = k; pairs = n; used = u }
+
+abbrev pub answersIn : List Run → List RunAnswer
+answersIn [] = []
+answersIn (r ∷ rs) = r .ran .outcome .answer ∷ answersIn rs
+
+-- whatever x and y free cells and logs held, the runs are on the premises of Isolation and of its (d);
+-- fourteen steps in all, and the last run stops where gas has no arrow, after four bundles, as the guest does
+pub record SampleHolds : Type 0 where
+  pub served : (x : ℕ) → Served layout policy commands (memory x) (runs x)
+  pub matches : (x y : ℕ) → Matches layout (installMemory layout policy (memory x)) (installMemory layout policy (memory y))
+  pub alike : (x y : ℕ) → Each Alike (runs x) (runs y)
+  pub same : (x y : ℕ) → Each (Same layout) (allRuns layout policy commands (memory x) (runs x)) (allRuns layout policy commands (memory y) (runs y))
+  pub answers : (x : ℕ) → answersIn (allRuns layout policy commands (memory x) (runs x)) ≡ answerIs Spent 6 0 0 ∷ answerIs Refused 0 0 0 ∷ answerIs NoArrow 8 2 0 ∷ []
+  pub recorded : (x : ℕ) → recordedIn (allRuns layout policy commands (memory x) (runs x)) ≡ pairOf 0 70 ∷ pairOf 2 70 ∷ []
+  pub state : (x : ℕ) → getD (after layout policy commands (memory x) (runs x) .memory) (layout .cell) 0 ≡ 1
+  pub begun : (x : ℕ) → after layout policy commands (memory x) (runs x) .begun ≡ 4
+  pub guest : (x : ℕ) → guestAfter layout policy 8 (routine code) [] (guestStart layout policy (installMemory layout policy (memory x))) 4 .records ≡ pairOf 0 70 ∷ pairOf 2 70 ∷ []
+  pub reading : (x : ℕ) → recordedIn (allRuns layout policy probing (memory x) (firstRun x ∷ [])) ≡ pairOf 9 1800 ∷ []
