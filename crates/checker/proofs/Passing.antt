@@ -1,7 +1,7 @@
 -- Laws of checking.
-use mathlib.Core.Path.{_≡_, refl, sym, ap, _∙_}
-use mathlib.Core.Bool.{Bool, true, false, _&&_, _||_, cond}
-use mathlib.Core.List.{List, [], _∷_}
+use mathlib.Core.Path.{_≡_, sym, _∙_}
+use mathlib.Core.Bool.{Bool, true, false, _&&_, _||_}
+use mathlib.Core.List.{List}
 use Prim.Native.Nat.{ℕ, zero, suc, _+_, _-_, _*_, _/_, _%_, _≤_, _<_}
 use native.Mathlib.Omega.{arith}
 use lib.Count.{ones, ones-le}
@@ -12,9 +12,10 @@ use Rattle.rules.specs.declared.Layout.{Layout}
 use Rattle.rules.specs.declared.Instr.{Instr}
 use Rattle.rules.specs.declared.Bundle.{Bundle}
 use Rattle.rules.specs.declared.Answer.{Answer}
-use Rattle.rules.specs.Names.{mostBundles, bundleLength, answer}
+use Rattle.rules.specs.declared.Refusal.the-variants.{BadBase, BadBundle, BadCount, BadLayout, Taken}
+use Rattle.rules.specs.Names.{mostBundles, bundleLength, numberOf, answer, refusal}
 use Rattle.rules.specs.Layouts.{rightLayout}
-use Rattle.rules.specs.Bundles.{bundleWord, bundleOf, valid, readOff, bundleAt, isBundle, shapedAt, isHalt, passesAt, checkFrom, baseRight, countRight, checkAnswer}
+use Rattle.rules.specs.Bundles.{bundleOf, valid, readOff, bundleAt, isBundle, shapedAt, isHalt, passesAt, checkFrom, baseRight, countRight, checkAnswer}
 use Rattle.rules.proofs.Bools.{both}
 use Rattle.words.specs.Packing.{Fits}
 
@@ -51,23 +52,23 @@ module _ (l : Layout) (n : ℕ) (ws : List ℕ) (h : ℕ) where
     unfolding checkFrom
     check-more e = ea ∙ rw (left, ← ep, e)
 
-    pub check-stop : p ≡ false → answer 11 h ≡ a
+    pub check-stop : p ≡ false → refusal BadBundle h ≡ a
     unfolding checkFrom
     check-stop e = sym (ea ∙ rw (left, ← ep, e))
 
-  pub check-done : n ≤ h → (a : Answer) → a ≡ checkFrom l n ws h (n - h) → answer 0 0 ≡ a
+  pub check-done : n ≤ h → (a : Answer) → a ≡ checkFrom l n ws h (n - h) → answer (numberOf Taken) 0 ≡ a
   unfolding checkFrom
   check-done g a ea = let none : n - h ≡ 0 = omega arith in sym (ea ∙ rw none)
 
 -- ---- the whole
 
 module _ (l : Layout) (ws : List ℕ) (t : Bool) (et : t ≡ rightLayout l) where
-  pub bad-layout : t ≡ false → answer 7 0 ≡ checkAnswer l ws
+  pub bad-layout : t ≡ false → refusal BadLayout 0 ≡ checkAnswer l ws
   unfolding checkAnswer
   bad-layout e = rw (← et, e)
 
   module _ (e : t ≡ true) (c : Bool) (ec : c ≡ countRight (length ws)) where
-    pub bad-count : c ≡ false → answer 12 0 ≡ checkAnswer l ws
+    pub bad-count : c ≡ false → refusal BadCount 0 ≡ checkAnswer l ws
     unfolding checkAnswer
     bad-count f = rw (← et, e, ← ec, f)
 
@@ -96,7 +97,7 @@ module _ (l : Layout) (ws : List ℕ) (t : Bool) (et : t ≡ rightLayout l) wher
         based : b ≡ baseRight l (length ws / bundleLength)
         based = eb ∙ rw (le-leb 1 (length ws / bundleLength) count-some, le-leb (length ws / bundleLength) mostBundles count-most)
 
-        pub bad-base : b ≡ false → answer 13 0 ≡ checkAnswer l ws
+        pub bad-base : b ≡ false → refusal BadBase 0 ≡ checkAnswer l ws
         unfolding checkAnswer
         bad-base g = rw (← et, e, ← ec, f, ← based, g)
 

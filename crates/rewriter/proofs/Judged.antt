@@ -1,20 +1,21 @@
 -- Laws of what rewriting answers.
-use mathlib.Core.Path.{_≡_, refl, sym, ap, _∙_}
-use mathlib.Core.Bool.{Bool, true, false, _&&_, cond}
-use mathlib.Core.List.{List, [], _∷_}
-use Prim.Native.Nat.{ℕ, zero, suc, _+_, _-_, _*_, _≤_, _<_, _^_, min}
+use mathlib.Core.Path.{_≡_, sym, _∙_}
+use mathlib.Core.Bool.{Bool, true, false, _&&_}
+use mathlib.Core.List.{List}
+use Prim.Native.Nat.{ℕ, _+_, _*_, _≤_, _<_, _^_, min}
 use native.Mathlib.Omega.{arith}
 use native.Mathlib.Numerals.{add-one}
-use lib.Dec.{ltb, leb, eqb}
+use lib.Dec.{leb}
 use lib.ListN.{length, getD, drop}
 use lib.Seq.{drop-cons, drop-length}
 use borrow.Author.Tests.{lt-ltb, le-ltb, le-leb, eq-eqb, ne-eqb}
 use Rattle.rules.specs.declared.Layout.{Layout}
 use Rattle.rules.specs.declared.Answer.{Answer}
-use Rattle.rules.specs.Names.{mostInstructions, mostBundles, bundleLength, answer}
+use Rattle.rules.specs.declared.Refusal.the-variants.{BadBase, BadLayout, Oversize, SmallOutput, Taken}
+use Rattle.rules.specs.Names.{mostInstructions, mostBundles, bundleLength, numberOf, answer, refusal}
 use Rattle.rules.specs.Layouts.{rightLayout}
 use Rattle.rules.specs.Words.{judgeAt, bundlesFor}
-use Rattle.rules.specs.Bundles.{judgeFrom, baseRight, commandCount, placeAnswer, rewriteAnswer}
+use Rattle.rules.specs.Bundles.{judgeFrom, baseRight, placeAnswer, rewriteAnswer}
 use Rattle.rules.proofs.Masks.{sizes}
 
 -- ---- the words in order
@@ -53,27 +54,27 @@ module _ (n : ℕ) (h : n ≤ mostInstructions) where
       based : b ≡ baseRight l (bundlesFor n)
       based = eb ∙ rw (count-is k ek) (rw (le-leb 1 (bundlesFor n) some-bundles, le-leb (bundlesFor n) mostBundles most-bundles))
 
-      pub place-base : b ≡ false → answer 13 0 ≡ placeAnswer l n room
+      pub place-base : b ≡ false → refusal BadBase 0 ≡ placeAnswer l n room
       unfolding placeAnswer
       place-base e = rw (← based, e)
 
-      pub place-small : b ≡ true → room < bundleLength * k → answer 9 0 ≡ placeAnswer l n room
+      pub place-small : b ≡ true → room < bundleLength * k → refusal SmallOutput 0 ≡ placeAnswer l n room
       unfolding placeAnswer
       place-small e g = rw (← based, e, ← count-is k ek, lt-ltb room (bundleLength * k) g)
 
-      pub place-taken : b ≡ true → bundleLength * k ≤ room → answer 0 (bundleLength * k) ≡ placeAnswer l n room
+      pub place-taken : b ≡ true → bundleLength * k ≤ room → answer (numberOf Taken) (bundleLength * k) ≡ placeAnswer l n room
       unfolding placeAnswer
       place-taken e g = rw (← based, e, ← count-is k ek, le-ltb room (bundleLength * k) g)
 
 -- ---- the whole answer
 
 module _ (l : Layout) (ws : List ℕ) (room : ℕ) (t : Bool) (et : t ≡ rightLayout l) where
-  pub bad-layout : t ≡ false → answer 7 0 ≡ rewriteAnswer l ws room
+  pub bad-layout : t ≡ false → refusal BadLayout 0 ≡ rewriteAnswer l ws room
   unfolding rewriteAnswer
   bad-layout e = rw (← et, e)
 
   module _ (e : t ≡ true) where
-    pub oversize : mostInstructions < length ws → answer 5 0 ≡ rewriteAnswer l ws room
+    pub oversize : mostInstructions < length ws → refusal Oversize 0 ≡ rewriteAnswer l ws room
     unfolding rewriteAnswer
     oversize h = rw (← et, e, lt-ltb mostInstructions (length ws) h)
 

@@ -1,15 +1,10 @@
 -- Laws of the count of bundles and of the base.
-use mathlib.Core.Path.{_≡_, refl, sym, ap, _∙_}
-use mathlib.Core.Bool.{Bool, true, false, _&&_}
-use Prim.Native.Nat.{ℕ, _+_, _-_, _*_, _%_, _≤_, _<_, _^_, min}
+use mathlib.Core.Path.{_≡_}
+use Prim.Native.Nat.{ℕ, _-_, _*_, _%_, _≤_, _<_, _^_, min}
 use native.Mathlib.Omega.{arith}
 use lib.Count.{leadingZeros}
-use lib.Dec.{ltb, leb, eqb}
-use borrow.Author.Tests.{le-leb, lt-leb}
-use Rattle.rules.specs.declared.Layout.{Layout}
 use Rattle.rules.specs.Names.{mostInstructions, mostBundles}
 use Rattle.rules.specs.Words.{bundlesFor}
-use Rattle.rules.specs.Bundles.{baseRight}
 use Rattle.rules.proofs.Masks.{bundles-most}
 
 module _ (n : ℕ) where

@@ -1,17 +1,15 @@
 -- Laws of the words of a bundle.
-use mathlib.Core.Path.{_≡_, refl, sym, ap, _∙_, subst}
-use mathlib.Core.Bool.{Bool, true, false, _&&_}
-use mathlib.Core.List.{List, [], _∷_}
-use Prim.Native.Nat.{ℕ, zero, suc, _+_, _-_, _*_, _/_, _%_, _≤_, _<_, _^_}
+use mathlib.Core.Path.{_≡_, refl, _∙_, subst}
+use mathlib.Core.Bool.{true}
+use mathlib.Core.List.{[], _∷_}
+use Prim.Native.Nat.{ℕ, zero, suc, _+_, _*_, _≤_, _<_, _^_}
 use native.Mathlib.Omega.{arith}
 use native.Mathlib.Nat.{mod-eq-of-lt}
-use lib.Dec.{ltb, leb, eqb}
-use borrow.Author.Tests.{ltb-true, leb-true}
 use Rattle.rules.specs.declared.Layout.{Layout}
 use Rattle.rules.specs.declared.Instr.{Instr}
 use Rattle.rules.specs.declared.Instr.the-variants.{HALT, PLAIN, LOAD, STORE, GOIF, GOX, EVENT}
 use Rattle.rules.specs.declared.Bundle.{Bundle}
-use Rattle.rules.specs.Names.{mostBundles, bundleLength, hidden, guestRegisters, topCondition, topWord, events, baseBound}
+use Rattle.rules.specs.Names.{bundleLength, hidden, topWord, baseBound}
 use Rattle.rules.specs.Words.{packOf}
 use Rattle.rules.specs.Commands.{limitsOf, wordOf}
 use Rattle.rules.specs.Bundles.{addressOf, lastAddress, shapeOf, bundleWord, bundleOf, valid}

@@ -15,7 +15,7 @@ ghost use mathlib.Core.Bool.{_&&_};
 ghost use Prim.Native.Nat.{_+_, _-_, _≤_, min};
 ghost use lib.Dec.{leb};
 ghost use Rattle.rules.specs.Names.{mostInstructions, mostBundles};
-ghost use Rattle.rules.specs.Words.{bundlesFor, packOf};
+ghost use Rattle.rules.specs.Words.{bundlesFor};
 ghost use Rattle.rules.specs.Commands.{limitsOf};
 ghost use Rattle.rules.specs.Bundles.{countRight, baseRight, bundleOf, valid as isValid, readOff};
 ghost use Rattle.words.specs.Packing.{cutWord, Fits};

@@ -8,7 +8,7 @@ ghost use mathlib.Core.Path.{_≡_};
 ghost use Prim.Native.Nat.{_-_, _≤_};
 ghost use lib.ListN.{getD};
 ghost use Rattle.rules.specs.Names.{topKind};
-ghost use Rattle.rules.specs.Words.{fieldsOf, packFields, zeroOf, fieldSets, numberTops, bitOf, strayFields, highFields, judgeOf, judgeWord, judgeAt, instrOf};
+ghost use Rattle.rules.specs.Words.{fieldsOf, packFields, fieldSets, numberTops, bitOf, strayFields, highFields, judgeOf, judgeWord, judgeAt, instrOf};
 ghost use Rattle.words.specs.Packing.{cutOf};
 
 // The greatest kind, the kind with a landing, the greatest guest register and the greatest condition.

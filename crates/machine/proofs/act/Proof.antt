@@ -7,7 +7,7 @@ use Rattle.rules.specs.declared.Effect.the-variants.{Go}
 use native.Mathlib.Omega.{arith}
 use mathlib.Core.Path.{_≡_, refl, ap}
 use mathlib.Core.Bool.{true}
-use Prim.Native.Nat.{ℕ, zero-le, _<_, _≤_}
+use Prim.Native.Nat.{zero-le, _<_, _≤_}
 use borrow.Author.Needs.{needs}
 use Rattle.machine.proofs.act.Statement.{statement}
 use Rattle.machine.proofs.act.Tie as tie

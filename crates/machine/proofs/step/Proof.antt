@@ -24,7 +24,7 @@ use types.Run.{look, init, store, forget, stop, hop, fld, from, load, addr, of-o
 use types.Part.{agg, whole, sub, look-in}
 use types.SemTy.{Body}
 use sound.WpLaws.{FmC, fmOf, WpFn-mono}
-use denote.RattleType.{RattleType, owns}
+use denote.RattleType.{owns}
 use denote.Memory.{mem, cellAt}
 use denote.Laws.{Is, shows}
 use denote.Builtin.{u32, u64}
