@@ -1,0 +1,255 @@
+-- Laws of loading, one for each way out of the code.
+use Prim.Native.Nat.{ℕ, zero, suc, _+_, _-_, _≤_, _<_}
+use mathlib.Core.Path.{_≡_, refl, sym, ap, _∙_}
+use mathlib.Core.Bool.{Bool, true, false, cond}
+use mathlib.Core.Logic.{⊎-elim}
+use mathlib.Core.List.{List, [], _∷_, _++_}
+use native.Mathlib.Omega.{arith}
+use lib.ListN.{length, take, drop, length-append, length-drop, length-take}
+use lib.Seq.{take-at, length-take-le}
+use lib.Dec.{eqb, ltb}
+use borrow.Author.Tests.{eq-eqb, ne-eqb, eqb-true, eqb-false, lt-ltb, le-ltb, ltb-false}
+use Rattle.rules.specs.declared.Layout.{Layout}
+use Rattle.rules.specs.declared.Machine.{Machine}
+use Rattle.rules.specs.declared.Answer.{Answer}
+use Rattle.rules.specs.declared.Installed.{Installed}
+use Rattle.rules.specs.declared.Refusal.the-variants.{SmallOutput}
+use Rattle.rules.specs.Names.{mostInstructions, answer, refusal}
+use Rattle.rules.specs.Layouts.{rightLayout}
+use Rattle.rules.specs.Policies.{Policy}
+use Rattle.rules.specs.Words.{judgeAt, bundlesFor}
+use Rattle.rules.specs.Bytes.{countOf, wordsOf, readAnswer, readOutput, roomFor}
+use Rattle.rules.specs.Bundles.{baseRight, commandsOf, commandCount, judgeFrom, placeAnswer, rewriteAnswer, rewriteOutput, checkAnswer}
+use Rattle.rules.specs.Machines.{machineRefused, installAnswer, installMemory, installMachine, installOf}
+use Rattle.rules.specs.Loading.{wordsIn, orElse, loadAnswer, loadCommands, loadMemory, loadMachine, loadOf}
+use Rattle.rules.proofs.Bools.{cond-ind, cases}
+use Rattle.rules.proofs.Bytes.{read-ok}
+use Rattle.rules.proofs.Counts.{mostCommands, count-bound, length-commands, rewrite-taken, rewrite-bound}
+use Rattle.sandbox.specs.Translating.{writtenAnswer, writtenOutput, checkedAnswer, translateAnswer, Listed}
+
+-- the first answer where it is a refusal, else the second
+else-next : (a b : Answer) → a .number ≡ 0 → orElse a b ≡ b
+else-next a b e = rw (eq-eqb _ _ e)
+
+else-kept : (a b : Answer) → (a .number ≡ 0 → ⊥) → orElse a b ≡ a
+else-kept a b h = rw (ne-eqb _ _ h)
+
+else-assoc : (a b c : Answer) → orElse (orElse a b) c ≡ orElse a (orElse b c)
+else-assoc a b c = by (eqb (a .number) 0) refl
+  where
+    by : (t : Bool) → eqb (a .number) 0 ≡ t → orElse (cond t b a) c ≡ cond t (orElse b c) a
+    by true e = refl
+    by false e = rw e
+
+else-three : (a b c d : Answer) → orElse a (orElse b (orElse c d)) ≡ orElse (orElse a (orElse b c)) d
+else-three a b c d = sym (else-assoc a (orElse b c) d ∙ ap (λ (x : Answer). orElse a x) (else-assoc b c d))
+
+-- two answers of nothing refused, and another between them
+else-twice : (a d i : Answer) → d .number ≡ 0 → orElse (orElse a d) (orElse i (orElse a d)) ≡ orElse a (orElse i d)
+else-twice a d i z = by (eqb (a .number) 0) refl
+  where
+    by : (t : Bool) → eqb (a .number) 0 ≡ t → orElse (cond t d a) (orElse i (cond t d a)) ≡ cond t (orElse i d) a
+    by true e = rw (eq-eqb _ _ z)
+    by false e = rw e
+
+-- a refusal of none of the two
+else-none : (a b : Answer) → orElse a b .number ≡ 0 → (a .number ≡ 0) × (b .number ≡ 0)
+else-none a b =
+    cond-ind (λ (x : Answer). x .number ≡ 0 → (a .number ≡ 0) × (b .number ≡ 0)) (eqb (a .number) 0)
+    (λ t e. (eqb-true _ _ t, e)) (λ t e. absurd (eqb-false _ _ t e))
+
+-- ---- reading, then rewriting
+module _ (s : List ℕ) (a : Answer) (e : a ≡ readAnswer s mostInstructions) where
+  pub not-read : (lay : Layout) (out : List ℕ) → (a .number ≡ 0 → ⊥) → (a ≡ writtenAnswer lay s (length out)) × (out ≡ writtenOutput lay s out)
+  unfolding writtenAnswer writtenOutput
+  not-read lay out h = rw (← e, ne-eqb _ _ h) (refl, refl)
+
+  module _ (z : a .number ≡ 0) (w₀ words : List ℕ) (f : words ≡ readOutput s w₀) (l : length w₀ ≡ mostInstructions) where
+    taken : length (wordsIn s) ≡ a .place
+    taken = let ok = read-ok s mostInstructions (rw e at z) in rw e (rw (← ok .count) (ok .words))
+
+    words-are : words ≡ wordsIn s ++ drop (countOf s) w₀
+    unfolding readOutput
+    words-are = f ∙ rw (l, ← e, eq-eqb _ _ z)
+
+    read-words : take (a .place) words ≡ wordsIn s
+    read-words = rw words-are (take-at _ _ _ taken)
+
+    pub read-length : a .place ≤ length words
+    read-length = rw words-are (omega (arith, taken, length-append (wordsIn s) (drop (countOf s) w₀)))
+
+    pub rewrote : (lay : Layout) (out : List ℕ) (b : Answer) (out′ : List ℕ) → b ≡ rewriteAnswer lay (take (a .place) words) (length out) → out′ ≡ rewriteOutput lay (take (a .place) words) out → (b ≡ writtenAnswer lay s (length out)) × (out′ ≡ writtenOutput lay s out)
+    unfolding writtenAnswer writtenOutput
+    rewrote lay out b out′ eb eo = rw (← e, eq-eqb _ _ z) (rw read-words at eb, rw read-words at eo)
+
+-- ---- the room: all 4,096 commands at most fit the crate's own list, so only the lent one's length is left to test
+
+pub roomed : (room : ℕ) (a : Answer) → (a .number ≡ 0 → ⊥) → a ≡ roomFor room a
+unfolding roomFor
+roomed room a h = rw (ne-eqb _ _ h)
+
+pub roomless : (room : ℕ) (a : Answer) → a .number ≡ 0 → room < a .place → refusal SmallOutput 0 ≡ roomFor room a
+unfolding roomFor
+roomless room a e h = rw (eq-eqb _ _ e, lt-ltb _ _ h)
+
+pub roomy : (room : ℕ) (a : Answer) → a .number ≡ 0 → a .place ≤ room → a ≡ roomFor room a
+unfolding roomFor
+roomy room a e h = rw (eq-eqb _ _ e, le-ltb _ _ h)
+
+room-none : (room : ℕ) (a : Answer) → roomFor room a .number ≡ 0 → a .number ≡ 0
+unfolding roomFor
+room-none room a =
+    cond-ind (λ (x : Answer). x .number ≡ 0 → a .number ≡ 0) (eqb (a .number) 0) (λ t _. eqb-true _ _ t) (λ _ e. e)
+
+cond-map : (f : Answer → Answer) (b : Bool) {x y x′ y′ : Answer} → (b ≡ true → f x ≡ x′) → (b ≡ false → f y ≡ y′) → f (cond b x y) ≡ cond b x′ y′
+cond-map f true p q = p refl
+cond-map f false p q = q refl
+
+judge-room : (room n : ℕ) (ws : List ℕ) (i : ℕ) (z z′ : Answer) → roomFor room z ≡ z′ → roomFor room (judgeFrom n ws i z) ≡ judgeFrom n ws i z′
+unfolding judgeFrom
+judge-room room n [] i z z′ e = e
+judge-room room n (w ∷ ws) i z z′ e =
+    cond-map (roomFor room) (eqb (judgeAt n w) 0) (λ _. judge-room room n ws (i + 1) z z′ e)
+    (λ t. sym (roomed room (answer (judgeAt n w) i) (eqb-false _ _ t)))
+
+pub rewrite-room : (lay : Layout) (ws : List ℕ) (room most : ℕ) → mostCommands ≤ most → roomFor room (rewriteAnswer lay ws most) ≡ rewriteAnswer lay ws room
+unfolding rewriteAnswer placeAnswer roomFor
+rewrite-room lay ws room most h =
+    cond-map (roomFor room) (rightLayout lay)
+    (λ _. cond-map (roomFor room) (ltb mostInstructions (length ws)) (λ _. refl)
+    (λ t. let n : commandCount (length ws) ≤ most = omega (arith, count-bound (length ws) (ltb-false _ _ t)) in
+    judge-room room (length ws) ws 0 _ _ (cond-map (roomFor room) (baseRight lay (bundlesFor (length ws))) (λ _. rw (le-ltb _ _ n)) (λ _. refl))))
+    (λ _. refl)
+
+-- ---- checking
+module _ (lay : Layout) (list : List ℕ) (a : Answer) where
+  pub not-checked : (a .number ≡ 0 → ⊥) → a ≡ checkedAnswer lay list a
+  unfolding checkedAnswer
+  not-checked h = sym (else-kept a _ h)
+
+  pub not-passed : a .number ≡ 0 → (b : Answer) → b ≡ checkAnswer lay (take (a .place) list) → (b .number ≡ 0 → ⊥) → b ≡ checkedAnswer lay list a
+  unfolding checkedAnswer
+  not-passed z b e h = sym (else-next a _ z ∙ rw (← e) (else-kept b a h))
+
+  pub passed : a .number ≡ 0 → (b : Answer) → b ≡ checkAnswer lay (take (a .place) list) → b .number ≡ 0 → a ≡ checkedAnswer lay list a
+  unfolding checkedAnswer
+  passed z b e h = sym (else-next a _ z ∙ rw (← e) (else-next b a h))
+
+-- ---- translating
+module _ (lay : Layout) (s l₀ list : List ℕ) (room : ℕ) (most : mostCommands ≤ length l₀) (a : Answer) (ea : a ≡ writtenAnswer lay s (length l₀)) (el : list ≡ writtenOutput lay s l₀) (b : Answer) (eb : b ≡ roomFor room a) where
+  abbrev code : List ℕ
+  code = wordsIn s
+
+  roomed-is : b ≡ writtenAnswer lay s room
+  unfolding writtenAnswer
+  roomed-is =
+      eb ∙ rw ea
+      (cond-map (roomFor room) (eqb (readAnswer s mostInstructions .number) 0) (λ _. rewrite-room lay code room (length l₀) most)
+      (λ t. sym (roomed room (readAnswer s mostInstructions) (eqb-false _ _ t))))
+
+  -- where nothing is refused yet
+  module _ (z : b .number ≡ 0) where
+    parts : (readAnswer s mostInstructions .number ≡ 0) × (rewriteAnswer lay code room .number ≡ 0)
+    unfolding writtenAnswer
+    parts = else-none _ _ (rw roomed-is at z)
+
+    counted : b ≡ answer 0 (commandCount (length code))
+    unfolding writtenAnswer
+    counted = roomed-is ∙ else-next _ _ (parts .0) ∙ rewrite-taken lay code room (parts .1)
+
+    fits : commandCount (length code) ≤ room
+    fits = omega (arith, rewrite-bound lay code room .taken (parts .1), ap (λ (x : Answer). x .place) (rewrite-taken lay code room (parts .1)))
+
+    -- the list is long enough for all, so rewriting took the words there too
+    also : rewriteAnswer lay code (length l₀) .number ≡ 0
+    also = room-none room (rewriteAnswer lay code (length l₀)) (rw (rewrite-room lay code room (length l₀) most) (parts .1))
+
+    list-is : list ≡ commandsOf lay code ++ drop (commandCount (length code)) l₀
+    unfolding writtenOutput rewriteOutput
+    list-is = el ∙ rw (eq-eqb _ _ (parts .0), eq-eqb _ _ also)
+
+    listed : take (b .place) list ≡ commandsOf lay code
+    listed = rw (list-is, counted) (take-at _ _ _ (length-commands lay code))
+
+    pub long : b .place ≤ length list
+    long = rw (list-is, counted) (omega (arith, length-commands lay code, length-append (commandsOf lay code) (drop (commandCount (length code)) l₀)))
+
+  module _ (r : Answer) (er : r ≡ checkedAnswer lay list b) where
+    abbrev last : Answer
+    last = orElse (checkAnswer lay (commandsOf lay code)) (answer 0 (commandCount (length code)))
+
+    joined : orElse b last ≡ translateAnswer lay s room
+    unfolding writtenAnswer translateAnswer
+    joined = rw roomed-is (else-assoc (readAnswer s mostInstructions) (rewriteAnswer lay code room) last)
+
+    -- what a caller learns of the answer and the list
+    abbrev Translated : Type 0
+    Translated = (r ≡ translateAnswer lay s room) × (r .number ≡ 0 → Listed lay s room list r)
+
+    refused-by : (b .number ≡ 0 → ⊥) → Translated
+    unfolding checkedAnswer
+    refused-by h =
+        let same : r ≡ b = er ∙ else-kept b _ h in
+        (same ∙ sym (else-kept b last h) ∙ joined, λ z. absurd (h (rw same at z)))
+
+    passed-by : b .number ≡ 0 → Translated
+    unfolding checkedAnswer
+    passed-by z =
+        let C = checkAnswer lay (commandsOf lay code) in
+        let same : r ≡ orElse C b = er ∙ else-next b _ z ∙ rw (listed z) in
+        let is-b : r .number ≡ 0 → r ≡ b = λ y. same ∙ else-next C b (else-none C b (rw same at y) .0) in
+        let all : Listed lay s room list b = record { commands = listed z; fits = rw (counted z) (fits z); within = long z } in
+        (same ∙ ap (λ (x : Answer). orElse C x) (counted z) ∙ sym (else-next b last z) ∙ joined, λ y. rw (is-b y) all)
+
+    pub translated : Translated
+    translated = ⊎-elim (λ t. passed-by (eqb-true _ _ t)) (λ t. refused-by (eqb-false _ _ t)) (cases (eqb (b .number) 0))
+
+-- ---- loading
+module _ (lay : Layout) (pol : Policy) (s out mem : List ℕ) where
+  abbrev installs : Answer
+  installs = installAnswer lay pol mem
+
+  abbrev loads : Answer
+  loads = loadAnswer lay pol s (length out) mem
+
+  -- a loaded routine has the answer that translating gave
+  loads-are : (a : Answer) → a ≡ translateAnswer lay s (length out) → loads ≡ orElse a (orElse installs a)
+  unfolding loadAnswer translateAnswer
+  loads-are a e =
+      let R = readAnswer s mostInstructions in
+      let W = rewriteAnswer lay (wordsIn s) (length out) in
+      let C = checkAnswer lay (commandsOf lay (wordsIn s)) in
+      let d = answer 0 (commandCount (length (wordsIn s))) in
+      let a-is : a ≡ orElse (orElse R (orElse W C)) d = e ∙ else-three R W C d in
+      else-three R W C (orElse installs d) ∙ rw a-is (sym (else-twice (orElse R (orElse W C)) d installs refl))
+
+  module _ (a : Answer) (e : a ≡ translateAnswer lay s (length out)) where
+    -- what a caller learns of the record, the commands and the memory
+    abbrev Loaded : Installed → List ℕ → List ℕ → Type 0
+    Loaded i out′ mem′ =
+        (i ≡ loadOf lay pol s (length out) mem) × ((out′ ≡ loadCommands lay pol s out mem) × ((mem′ ≡ loadMemory lay pol s (length out) mem) × (i .answer .number ≡ 0 → i .answer .place ≤ length out′)))
+
+    pub not-translated : (a .number ≡ 0 → ⊥) → (m : Machine) → m ≡ machineRefused → Loaded (record { machine = m; answer = a }) out mem
+    unfolding loadCommands loadMemory loadMachine
+    not-translated h m em =
+        let same : loads ≡ a = loads-are a e ∙ else-kept a _ h in
+        rw (same, em, ne-eqb _ _ h) (refl, (refl, (refl, λ z. absurd (h z))))
+
+    module _ (z : a .number ≡ 0) (i : Installed) (ei : i ≡ installOf lay pol mem) (mem′ : List ℕ) (em : mem′ ≡ installMemory lay pol mem) where
+      same-answer : i .answer ≡ installs
+      same-answer = ap (λ (x : Installed). x .answer) ei
+
+      pub not-installed : (i .answer .number ≡ 0 → ⊥) → Loaded i out mem′
+      unfolding loadCommands loadMemory loadMachine installMemory installMachine
+      not-installed h =
+          let n : installs .number ≡ 0 → ⊥ = λ y. h (rw same-answer y) in
+          let same : loads ≡ installs = loads-are a e ∙ else-next a _ z ∙ else-kept installs a n in
+          rw (same, ne-eqb _ _ n) (ei ∙ rw (ne-eqb _ _ n), (refl, (em ∙ rw (ne-eqb _ _ n), λ y. absurd (h y))))
+
+      pub loaded : i .answer .number ≡ 0 → (list : List ℕ) → (a .number ≡ 0 → Listed lay s (length out) list a) → (out′ : List ℕ) → out′ ≡ take (a .place) list ++ drop (length (take (a .place) list)) out → Loaded (record { machine = i .machine; answer = a }) out′ mem′
+      unfolding loadCommands loadMemory loadMachine
+      loaded y list l out′ eo =
+          let same : loads ≡ a = loads-are a e ∙ else-next a _ z ∙ else-next installs a (rw same-answer at y) in
+          let n : a .place ≤ length out′ = omega (arith, length-take-le (a .place) list (l z .within), length-append (take (a .place) list) (drop (length (take (a .place) list)) out), ap length eo) in
+          rw (same, eq-eqb _ _ z)
+          (ap (λ (x : Installed). record { machine = x .machine; answer = a }) ei, (eo ∙ rw (l z .commands, length-commands lay (wordsIn s)), (em, λ _. n)))

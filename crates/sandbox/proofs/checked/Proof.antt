@@ -1,0 +1,28 @@
+use borrow.Author.Needs.{needs}
+use Rattle.sandbox.proofs.Laws.{not-checked, not-passed, passed}
+use lib.Seq.{length-take-le}
+use mathlib.Core.Path.{sym}
+use Rattle.sandbox.proofs.checked.Statement.{statement}
+use Rattle.sandbox.proofs.checked.Tie as tie
+use Rattle.sandbox.proofs.checked.Reads as reads
+use Rattle.sandbox.proofs.checked.Lts as lts
+use Rattle.checker.proofs.check.Reads as check-reads
+
+returns : tie.Need-returns
+returns c = search (not-checked, needs)
+
+slice-aggregate-check : tie.Need-slice-aggregate-check
+slice-aggregate-check c = sym (length-take-le _ _ (c .before .before .before .pre (c .before .if1 .left)))
+
+check-requires : tie.Need-check-requires
+check-requires c κs = search needs
+
+returns-2 : tie.Need-returns-2
+returns-2 c = search (not-passed, needs)
+
+returns-3 : tie.Need-returns-3
+returns-3 c = passed _ _ _ (c .before .before .before .if1 .left) _ (c .before .check .ensures) (c .if2 .left)
+
+pub checked-spec : {M : Type 1} → statement M
+checked-spec =
+    tie.close (tie.spec returns slice-aggregate-check check-requires returns-2 returns-3)

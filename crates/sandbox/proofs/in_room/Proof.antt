@@ -1,0 +1,18 @@
+use borrow.Author.Needs.{needs}
+use Rattle.sandbox.proofs.Laws.{roomed, roomless, roomy}
+use Rattle.sandbox.proofs.in_room.Statement.{statement}
+use Rattle.sandbox.proofs.in_room.Tie as tie
+use Rattle.sandbox.proofs.in_room.Reads as reads
+use Rattle.sandbox.proofs.in_room.Lts as lts
+
+returns : tie.Need-returns
+returns c = search (roomed, needs)
+
+returns-2 : tie.Need-returns-2
+returns-2 c = search (roomless, needs)
+
+returns-3 : tie.Need-returns-3
+returns-3 c = search (roomy, needs)
+
+pub in-room-spec : {M : Type 1} → statement M
+in-room-spec = tie.close (tie.spec returns returns-2 returns-3)

@@ -1,0 +1,33 @@
+use borrow.Author.Needs.{needs}
+use Rattle.sandbox.proofs.Laws.{long, translated}
+use Rattle.sandbox.proofs.translate.Statement.{statement}
+use Rattle.sandbox.proofs.translate.Tie as tie
+use Rattle.sandbox.proofs.translate.Reads as reads
+use Rattle.sandbox.proofs.translate.Lts as lts
+use Rattle.sandbox.proofs.checked.Reads as checked-reads
+use Rattle.sandbox.proofs.in_room.Reads as in-room-reads
+use Rattle.sandbox.proofs.write_commands.Reads as write-commands-reads
+
+write-commands-requires : tie.Need-write-commands-requires
+write-commands-requires c κs = search needs
+
+in-room-requires : tie.Need-in-room-requires
+in-room-requires c κs = search needs
+
+checked-requires : tie.Need-checked-requires
+checked-requires c κs = search (long, needs)
+
+same-length : tie.Need-same-length
+same-length c = search needs
+
+returns : tie.Need-returns
+returns c =
+    let i = c .before .before in
+    let w = i .before .before .before in
+    let s = w .before .before .before .before in
+    translated _ _ _ _ _ (s .pre) _ (w .write-commands .ensures .0) (w .write-commands .ensures .1) _ (i .in-room .ensures) _ (c .checked .ensures)
+
+pub translate-spec : {M : Type 1} → statement M
+translate-spec =
+    tie.close
+    (tie.spec write-commands-requires in-room-requires checked-requires same-length returns)

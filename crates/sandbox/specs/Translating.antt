@@ -1,0 +1,37 @@
+-- From a routine's bytes to commands that passed: what stands before installing.
+use Prim.Native.Nat.{ℕ, _≤_}
+use mathlib.Core.Path.{_≡_}
+use mathlib.Core.Bool.{cond}
+use mathlib.Core.List.{List}
+use lib.ListN.{length, take}
+use lib.Dec.{eqb}
+use Rattle.rules.specs.declared.Layout.{Layout}
+use Rattle.rules.specs.declared.Answer.{Answer}
+use Rattle.rules.specs.Names.{mostInstructions, answer}
+use Rattle.rules.specs.Bytes.{readAnswer}
+use Rattle.rules.specs.Bundles.{commandsOf, commandCount, rewriteAnswer, rewriteOutput, checkAnswer}
+use Rattle.rules.specs.Loading.{wordsIn, orElse}
+
+-- reading, then rewriting to a list of so many commands, and what that list then holds
+unfoldable pub writtenAnswer : Layout → List ℕ → ℕ → Answer
+writtenAnswer lay s room = orElse (readAnswer s mostInstructions) (rewriteAnswer lay (wordsIn s) room)
+
+unfoldable pub writtenOutput : Layout → List ℕ → List ℕ → List ℕ
+writtenOutput lay s out = cond (eqb (readAnswer s mostInstructions .number) 0) (rewriteOutput lay (wordsIn s) out) out
+
+-- an answer of nothing refused, once the commands that it counts are checked
+unfoldable pub checkedAnswer : Layout → List ℕ → Answer → Answer
+checkedAnswer lay out a = orElse a (orElse (checkAnswer lay (take (a .place) out)) a)
+
+-- reading, rewriting and checking
+unfoldable pub translateAnswer : Layout → List ℕ → ℕ → Answer
+translateAnswer lay s room =
+    orElse (readAnswer s mostInstructions)
+    (orElse (rewriteAnswer lay (wordsIn s) room)
+    (orElse (checkAnswer lay (commandsOf lay (wordsIn s))) (answer 0 (commandCount (length (wordsIn s))))))
+
+-- the commands that an answer counts stand at the start of a list, and there is room for them
+pub record Listed (lay : Layout) (s : List ℕ) (room : ℕ) (list : List ℕ) (a : Answer) : Type 0 where
+  pub commands : take (a .place) list ≡ commandsOf lay (wordsIn s)
+  pub fits : a .place ≤ room
+  pub within : a .place ≤ length list
