@@ -1,0 +1,63 @@
+-- `trial::run` meets its contract.
+use Prim.Native.Nat.{ℕ, _*_, _≤_}
+use mathlib.Core.Path.{_≡_}
+use mathlib.Core.List.{List}
+use native.Mathlib.Omega.{arith}
+use lib.ListN.{length}
+use Rattle.rules.specs.declared.Outcome.{Outcome}
+use Rattle.rules.specs.Machines.{Ran, ranOf}
+use Rattle.rules.proofs.Counts.{RunCounts, run-counts}
+use borrow.Author.Needs.{needs}
+use Rattle.trial.proofs.run.Statement.{statement}
+use Rattle.trial.proofs.run.Tie as tie
+use Rattle.trial.proofs.run.Reads as reads
+use Rattle.trial.proofs.run.Lts as lts
+use Rattle.machine.proofs.run_lent.Reads as run-lent-reads
+use Rattle.sandbox.proofs.ending_number.Reads as ending-number-reads
+use Rattle.trial.proofs.print_end.Reads as print-end-reads
+use Rattle.trial.proofs.print_events.Reads as print-events-reads
+
+slice-aggregate-run-lent : tie.Need-slice-aggregate-run-lent
+slice-aggregate-run-lent c = search needs
+
+slice-aggregate-run-lent-2 : tie.Need-slice-aggregate-run-lent-2
+slice-aggregate-run-lent-2 c = search needs
+
+run-lent-requires : tie.Need-run-lent-requires
+run-lent-requires c κs = search needs
+
+slice-aggregate-print-events : tie.Need-slice-aggregate-print-events
+slice-aggregate-print-events c = search needs
+
+-- a run's pairs lie within its log
+within : (o : Outcome) (mem log : List ℕ) (r : Ran) (g : List ℕ) (n : ℕ) → ranOf o mem log ≡ r → RunCounts g n r → 2 * o .answer .pairs ≤ length log
+within o mem log r g n e k = let c : RunCounts g n (ranOf o mem log) = rw e k in omega (arith, c .room, c .log)
+
+print-events-requires : tie.Need-print-events-requires
+print-events-requires c κs = within _ _ _ _ _ _ (c .before .before .before .run-lent .ensures) (run-counts _ _ _ _ _ _ _)
+
+ending-number-requires : tie.Need-ending-number-requires
+ending-number-requires c κs = search needs
+
+element-copy-out-print-end : tie.Need-element-copy-out-print-end
+element-copy-out-print-end c = search needs
+
+print-end-requires : tie.Need-print-end-requires
+print-end-requires c κs = search needs
+
+returns : tie.Need-returns
+returns c = search needs
+
+pub run-spec : {M : Type 1} → statement M
+run-spec =
+    tie.close
+    (tie.spec
+    slice-aggregate-run-lent
+    slice-aggregate-run-lent-2
+    run-lent-requires
+    slice-aggregate-print-events
+    print-events-requires
+    ending-number-requires
+    element-copy-out-print-end
+    print-end-requires
+    returns)

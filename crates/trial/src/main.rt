@@ -1,0 +1,119 @@
+// Tries the routine on standard input, in document 01's layout and policy: prints its answer and,
+// where that is 0, what one run records and how it ends.
+use libc::STDIN_FILENO;
+use libc::STDOUT_FILENO;
+use rules::Layout;
+use rules::Machine;
+use rules::Policy;
+use rules::Refusal;
+ghost use Prim.Native.Nat.{_*_, _≤_};
+ghost use lib.ListN.{length};
+
+// The start of a line, and a number.
+fn print(text: &[u8], n: u64) {
+    io::write_all(STDOUT_FILENO, text);
+    io::print_decimal(STDOUT_FILENO, n);
+}
+
+fn print_answer(number: u8) {
+    print(b"answer ", number as u64);
+    io::write_all(STDOUT_FILENO, b"\n");
+}
+
+fn print_event(event: u32, value: u32) {
+    print(b"event ", event as u64);
+    print(b" ", value as u64);
+    io::write_all(STDOUT_FILENO, b"\n");
+}
+
+// The pairs at the start of a log, a line each.
+fn print_events(log: &[u32], pairs: usize)
+    requires { ⌜ 2 * pairs ≤ length (now log) ⌝ }
+{
+    let mut i = 0;
+    while i < pairs {
+        print_event(log[2 * i], log[2 * i + 1]);
+        i += 1;
+    }
+}
+
+fn print_end(ending: u32, steps: u32, state: u32) {
+    print(b"end ", ending as u64);
+    print(b" steps ", steps as u64);
+    print(b" state ", state as u64);
+    io::write_all(STDOUT_FILENO, b"\n");
+}
+
+// One run of a loaded routine. The state cell is cell 0.
+fn run(layout: Layout, commands: &[u64], start: Machine, memory: &mut [u32; 1024]) {
+    let readings = [1800u32, 1950, 2100];
+    let mut log = [0u32; 64];
+    let out = machine::run_lent(layout, commands, start, memory, 1000, &readings, &mut log);
+    let a = out.answer;
+    print_events(&log, a.pairs);
+    let e = a.ending;
+    print_end(sandbox::ending_number(e), a.steps, memory[0]);
+}
+
+fn try_routine(bytes: &[u8]) {
+    let layout = Layout::new(1024, 256, 511, 0, 16, 2, 4096);
+    // State 0 stays but for event 2, the door; in state 1 event 0, gas, has no arrow.
+    let table = [
+        0u8,
+        0,
+        1,
+        0,
+        0,
+        0,
+        0,
+        0,
+        0,
+        0,
+        0,
+        0,
+        0,
+        0,
+        0,
+        0,
+        255,
+        1,
+        1,
+        1,
+        1,
+        1,
+        1,
+        1,
+        1,
+        1,
+        1,
+        1,
+        1,
+        1,
+        1,
+        1,
+    ];
+    let policy = Policy {
+        states: 2,
+        start: 0,
+    };
+    let mut commands = [0u64; 4096];
+    let mut memory = [0u32; 1024];
+    let i = sandbox::load(layout, policy, &table, bytes, &mut commands, &mut memory);
+    let a = i.answer;
+    let refused = a.number;
+    print_answer(refused);
+    if refused != Refusal::TAKEN {
+        return;
+    }
+    let n = a.place;
+    let m = i.machine;
+    run(layout, &commands[..n], m, &mut memory);
+}
+
+// One byte more than the longest routine has, so that a longer input is refused as it would be
+// whole.
+fn main() {
+    let mut input = [0u8; 10233];
+    let n = io::read_full(STDIN_FILENO, &mut input);
+    try_routine(&input[..n]);
+}
