@@ -1,0 +1,127 @@
+-- What the parts answer and leave, said of the numbers of a C host.
+use Prim.Native.Nat.{ℕ, zero, suc, _+_, _^_, _≤_, _<_}
+use mathlib.Core.Path.{_≡_, refl, sym, _∙_, ap, subst}
+use mathlib.Core.Bool.{Bool, true, false, _&&_, cond}
+use mathlib.Core.List.{List, [], _∷_, _++_}
+use native.Mathlib.Omega.{arith}
+use lib.ListN.{length, getD, take, drop}
+use lib.Seq.{drop-cons, take-all}
+use lib.Dec.{eqb, ltb}
+use borrow.Author.Tests.{ltb-false, lt-ltb, le-ltb}
+use Rattle.rules.specs.declared.Layout.{Layout}
+use Rattle.rules.specs.declared.Machine.{Machine}
+use Rattle.rules.specs.declared.Status.{Status}
+use Rattle.rules.specs.declared.Answer.{Answer}
+use Rattle.rules.specs.declared.Outcome.{Outcome}
+use Rattle.rules.specs.declared.Installed.{Installed}
+use Rattle.rules.specs.declared.Ending.the-variants.{Refused}
+use Rattle.rules.specs.declared.Refusal.the-variants.{BadLayout}
+use Rattle.rules.specs.Names.{registers, baseBound, refusal}
+use Rattle.rules.specs.Layouts.{layoutOf, rightLayout}
+use Rattle.rules.specs.Policies.{Policy}
+use Rattle.rules.specs.Bundles.{rewriteAnswer, rewriteOutput, checkAnswer}
+use Rattle.rules.specs.Machines.{machineOf, machineRefused, fits, installAnswer, installMachine, installMemory, installOf, Ran, ranOf, outcomeOf, runOf}
+use Rattle.rules.specs.Loading.{layoutFrom, statusFrom, machineFrom, machineTo, statusNumber, answerTo, runAnswerTo, recordAfter}
+use Rattle.rules.proofs.Layouts.{layout-facts}
+use Rattle.rules.proofs.Counts.{Bounded, RunCounts, run-counts}
+use Rattle.capi.specs.Hosts.{layoutHeld, runFor}
+
+-- ---- arrays
+
+-- n elements from i on, one by one
+abbrev cells : ℕ → ℕ → List ℕ → List ℕ
+cells zero i xs = []
+cells (suc n) i xs = getD xs i 0 ∷ cells n (suc i) xs
+
+spelt : (n i : ℕ) (xs : List ℕ) → i + n ≤ length xs → take n (drop i xs) ≡ cells n i xs
+spelt zero i xs h = refl
+spelt (suc n) i xs h = ap (take (suc n)) (drop-cons xs i 0 (omega arith)) ∙ ap (λ (r : List ℕ). getD xs i 0 ∷ r) (spelt n (suc i) xs (omega arith))
+
+registers-of : (xs : List ℕ) → registers ≤ length xs → cells registers 0 xs ≡ take registers xs
+registers-of xs h = sym (spelt registers 0 xs h)
+
+pub machine-of : (xs : List ℕ) (t : Status) → length xs ≡ registers + 2 → t ≡ statusFrom (getD xs (registers + 1) 0) → machineOf (cells registers 0 xs) (getD xs registers 0) t ≡ machineFrom xs
+machine-of xs t h e = rw (registers-of xs (omega arith), e)
+
+pub record-of : (m : Machine) (t : ℕ) → length (m .regs) ≡ registers → t ≡ statusNumber (m .status) → cells registers 0 (m .regs) ++ (m .pc ∷ t ∷ []) ≡ machineTo m
+record-of m t h e =
+    ap (λ (k : ℕ). cells registers 0 (m .regs) ++ (m .pc ∷ k ∷ [])) e
+    ∙ ap (λ (r : List ℕ). r ++ (m .pc ∷ statusNumber (m .status) ∷ [])) (registers-of (m .regs) (omega arith) ∙ take-all registers (m .regs) (omega arith))
+
+-- ---- layouts
+
+-- B has 16 bits in a right layout
+no-base : (l : Layout) → ltb (l .base) baseBound ≡ false → rightLayout l ≡ false
+no-base l e = by (rightLayout l) refl
+  where
+    by : (b : Bool) → rightLayout l ≡ b → rightLayout l ≡ false
+    by true q = absurd (omega (arith, layout-facts l q .base, ltb-false (l .base) baseBound e))
+    by false q = q
+
+pub base-kept : (xs : List ℕ) → getD xs 6 0 < baseBound → layoutFrom xs ≡ layoutHeld xs
+unfolding layoutHeld
+base-kept xs h = rw (lt-ltb _ _ h)
+
+pub base-refused : (xs : List ℕ) → baseBound ≤ getD xs 6 0 → layoutOf 0 0 0 0 0 0 0 ≡ layoutHeld xs
+unfolding layoutHeld
+base-refused xs h = rw (le-ltb _ _ h)
+
+-- what is the same of all layouts that are not right is the same of the layout held and of the host's
+held : {A : Type 0} (f : Layout → A) (z : A) → ((l : Layout) → rightLayout l ≡ false → f l ≡ z) → (xs : List ℕ) (l : Layout) → l ≡ layoutHeld xs → f l ≡ f (layoutFrom xs)
+unfolding layoutHeld rightLayout
+held f z h xs l e = ap f e ∙ by (ltb (getD xs 6 0) baseBound) refl
+  where
+    by : (b : Bool) → ltb (getD xs 6 0) baseBound ≡ b → f (cond b (layoutFrom xs) (layoutOf 0 0 0 0 0 0 0)) ≡ f (layoutFrom xs)
+    by true q = refl
+    by false q = h (layoutOf 0 0 0 0 0 0 0) refl ∙ sym (h (layoutFrom xs) (no-base (layoutFrom xs) q))
+
+-- ---- the parts
+
+-- a place has 32 bits
+pub narrow : {m r : ℕ} (a b : Answer) → a ≡ b → Bounded m r b → m < 2 ^ 32 → a .place < 2 ^ 32
+narrow a b e h k = subst (λ (x : Answer). x .place < 2 ^ 32) (sym e) (omega (arith, h .place, k))
+
+-- so have pairs and readings
+pub counts : (l : Layout) (ws mem rd log mem′ log′ : List ℕ) (budget : ℕ) (m : Machine) (o : Outcome) → ranOf o mem′ log′ ≡ runOf l ws m mem budget rd log → budget < 2 ^ 32
+    → (o .answer .pairs < 2 ^ 32) × (o .answer .used < 2 ^ 32)
+counts l ws mem rd log mem′ log′ budget m o q h =
+    let b = subst (RunCounts log budget) (sym q) (run-counts l ws m mem budget rd log) in
+    (omega (arith, b .pairs), omega (arith, b .used))
+
+-- an answer and an output of a layout that is right or refused
+module _ (xs : List ℕ) (l : Layout) (e : l ≡ layoutHeld xs) where
+  pub rewritten : (ws out left ns : List ℕ) (a : Answer) → a ≡ rewriteAnswer l ws (length out) → left ≡ rewriteOutput l ws out → ns ≡ answerTo a
+      → (ns ≡ answerTo (rewriteAnswer (layoutFrom xs) ws (length out))) × (left ≡ rewriteOutput (layoutFrom xs) ws out)
+  unfolding rewriteAnswer rewriteOutput
+  rewritten ws out left ns a p q r =
+      (r ∙ ap answerTo (p ∙ held (λ (k : Layout). rewriteAnswer k ws (length out)) (refusal BadLayout 0) (λ k f. rw f) xs l e), q ∙ held (λ (k : Layout). rewriteOutput k ws out) out (λ k f. rw f) xs l e)
+
+  pub checked : (ws ns : List ℕ) (a : Answer) → a ≡ checkAnswer l ws → ns ≡ answerTo a → ns ≡ answerTo (checkAnswer (layoutFrom xs) ws)
+  unfolding checkAnswer
+  checked ws ns a p r = r ∙ ap answerTo (p ∙ held (λ (k : Layout). checkAnswer k ws) (refusal BadLayout 0) (λ k f. rw f) xs l e)
+
+  pub installed : (pol : Policy) (mem left ms ns : List ℕ) (i : Installed) → i ≡ installOf l pol mem → left ≡ installMemory l pol mem → ms ≡ machineTo (i .machine) → ns ≡ answerTo (i .answer)
+      → (ns ≡ answerTo (installAnswer (layoutFrom xs) pol mem)) × ((ms ≡ machineTo (installMachine (layoutFrom xs) pol mem)) × (left ≡ installMemory (layoutFrom xs) pol mem))
+  unfolding installAnswer installMachine installMemory
+  installed pol mem left ms ns i p q r s =
+      let h = p ∙ held (λ (k : Layout). installOf k pol mem) (record { machine = machineRefused; answer = refusal BadLayout 0 }) (λ k f. rw f) xs l e in
+      (s ∙ ap (λ (x : Installed). answerTo (x .answer)) h, (r ∙ ap (λ (x : Installed). machineTo (x .machine)) h, q ∙ held (λ (k : Layout). installMemory k pol mem) mem (λ k f. rw f) xs l e))
+
+  module _ (ws ms mem rd log mem′ log′ : List ℕ) (budget : ℕ) (m : Machine) (o : Outcome) (p : m ≡ machineFrom ms) (q : ranOf o mem′ log′ ≡ runOf l ws m mem budget rd log) where
+    ran : ranOf o mem′ log′ ≡ runFor xs ws ms mem budget rd log
+    unfolding runOf
+    ran =
+        q ∙ held (λ (k : Layout). runOf k ws m mem budget rd log) (ranOf (outcomeOf m Refused 0 0 0) mem log) (λ k f. rw f) xs l e
+        ∙ ap (λ (x : Machine). runOf (layoutFrom xs) ws x mem budget rd log) p
+
+    pub left : (r : Bool) (ms′ ns : List ℕ) → r ≡ rightLayout l → ms′ ≡ cond (r && eqb (length mem) (l .size)) (machineTo (o .machine)) ms → ns ≡ runAnswerTo (o .answer)
+        → (ns ≡ runAnswerTo (runFor xs ws ms mem budget rd log .outcome .answer)) × ((ms′ ≡ recordAfter (layoutFrom xs) mem ms (runFor xs ws ms mem budget rd log))
+        × ((mem′ ≡ runFor xs ws ms mem budget rd log .mem) × (log′ ≡ runFor xs ws ms mem budget rd log .log)))
+    left r ms′ ns s t u =
+        let f : (r && eqb (length mem) (l .size)) ≡ fits (layoutFrom xs) mem = ap (λ (b : Bool). b && eqb (length mem) (l .size)) s ∙ held (λ (k : Layout). fits k mem) false (λ k f. rw f) xs l e in (
+          u ∙ ap (λ (x : Ran). runAnswerTo (x .outcome .answer)) ran,
+          (
+            t ∙ ap (λ (b : Bool). cond b (machineTo (o .machine)) ms) f ∙ ap (λ (x : Ran). recordAfter (layoutFrom xs) mem ms x) ran,
+            (ap (λ (x : Ran). x .mem) ran, ap (λ (x : Ran). x .log) ran),
+          ),
+        )

@@ -1,0 +1,15 @@
+use lib.Dec.{lit<}
+use Rattle.rules.proofs.Counts.{check-bound}
+use Rattle.capi.proofs.Hosting.{narrow, checked}
+use borrow.Author.Needs.{needs}
+use Rattle.capi.proofs.hemdroas_check.Statement.{statement}
+use Rattle.capi.proofs.hemdroas_check.Tie as tie
+
+pub hemdroas-check-spec : {M : Type 1} → statement M
+hemdroas-check-spec =
+    tie.close
+    (tie.spec
+    (λ c κs. search needs)
+    (λ c κs. search needs)
+    (λ c κs. narrow _ _ (c .check .ensures) (check-bound _ _) (lit< tt))
+    (λ c. search (checked, needs)))

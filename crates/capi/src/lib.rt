@@ -1,0 +1,231 @@
+// The C interface: the sandbox's parts over numbers, arrays and slices.
+use rules::Answer;
+use rules::Ending;
+use rules::Layout;
+use rules::Machine;
+use rules::Policy;
+use rules::Refusal;
+use rules::RunAnswer;
+use rules::Status;
+use words::layout::right;
+ghost use mathlib.Core.Path.{_≡_};
+ghost use mathlib.Core.Bool.{cond};
+ghost use Prim.Native.Nat.{_<_, _^_};
+ghost use lib.ListN.{length};
+ghost use Rattle.rules.specs.Names.{endingNumber};
+ghost use Rattle.rules.specs.Policies.{policyOf};
+ghost use Rattle.rules.specs.Bytes.{readAnswer, readOutput, writeAnswer, writeOutput};
+ghost use Rattle.rules.specs.Bundles.{rewriteAnswer, rewriteOutput, checkAnswer};
+ghost use Rattle.rules.specs.Machines.{installAnswer, installMachine, installMemory};
+ghost use Rattle.rules.specs.Loading.{layoutFrom, statusFrom, statusNumber, machineFrom, machineTo, answerTo, runAnswerTo, recordAfter};
+ghost use Rattle.capi.specs.Hosts.{layoutHeld, runFor};
+
+// The greatest B.
+const TOP_BASE: u32 = 65535;
+
+// ---- the numbers of a C host
+
+// A layout; one that is not right in place of one whose B has more than 16 bits.
+fn layout_of(xs: [u32; 7]) -> Layout
+    ensures { λ r. ⌜ r ≡ layoutHeld xs ⌝ }
+{
+    let base = xs[6];
+    if base > TOP_BASE {
+        return Layout::new(0, 0, 0, 0, 0, 0, 0);
+    }
+    Layout::new(xs[0], xs[1], xs[2], xs[3], xs[4], xs[5], base as u16)
+}
+
+// A status; any number above 3 counts as faulted.
+fn status_of(x: u32) -> Status
+    ensures { λ r. ⌜ r ≡ statusFrom x ⌝ }
+{
+    match x {
+        0 => Status::Running,
+        1 => Status::Ended,
+        2 => Status::Stopped,
+        _ => Status::Faulted,
+    }
+}
+
+fn status_number(t: Status) -> u32
+    ensures { λ r. ⌜ r ≡ statusNumber t ⌝ }
+{
+    match t {
+        Status::Running => 0,
+        Status::Ended => 1,
+        Status::Stopped => 2,
+        Status::Faulted => 3,
+    }
+}
+
+fn machine_of(xs: [u32; 11]) -> Machine
+    ensures { λ r. ⌜ r ≡ machineFrom xs ⌝ }
+{
+    let regs = [
+        xs[0],
+        xs[1],
+        xs[2],
+        xs[3],
+        xs[4],
+        xs[5],
+        xs[6],
+        xs[7],
+        xs[8],
+    ];
+    let status = status_of(xs[10]);
+    Machine {
+        regs,
+        pc: xs[9],
+        status,
+    }
+}
+
+fn record_of(m: Machine) -> [u32; 11]
+    ensures { λ r. ⌜ r ≡ machineTo m ⌝ }
+{
+    let r = m.regs;
+    let t = m.status;
+    let status = status_number(t);
+    [
+        r[0],
+        r[1],
+        r[2],
+        r[3],
+        r[4],
+        r[5],
+        r[6],
+        r[7],
+        r[8],
+        m.pc,
+        status,
+    ]
+}
+
+// The record after a run; a refused run leaves the numbers as they were.
+fn record_after(fits: bool, m: Machine, xs: [u32; 11]) -> [u32; 11]
+    ensures { λ r. ⌜ r ≡ cond fits (machineTo m) xs ⌝ }
+{
+    if fits {
+        return record_of(m);
+    }
+    xs
+}
+
+fn answer_of(a: Answer) -> [u32; 2]
+    requires { ⌜ a .place < 2 ^ 32 ⌝ }
+    ensures { λ r. ⌜ r ≡ answerTo a ⌝ }
+{
+    [a.number as u32, a.place as u32]
+}
+
+fn ending_number(e: Ending) -> u32
+    ensures { λ r. ⌜ r ≡ endingNumber e ⌝ }
+{
+    match e {
+        Ending::Done => 20,
+        Ending::NoArrow => 21,
+        Ending::Fault => 22,
+        Ending::LogFull => 23,
+        Ending::Silent => 24,
+        Ending::Spent => 25,
+        Ending::Refused => Refusal::BAD_LAYOUT as u32,
+    }
+}
+
+fn run_answer_of(a: RunAnswer) -> [u32; 4]
+    requires { ⌜ (a .pairs < 2 ^ 32) × (a .used < 2 ^ 32) ⌝ }
+    ensures { λ r. ⌜ r ≡ runAnswerTo a ⌝ }
+{
+    let e = a.ending;
+    let ending = ending_number(e);
+    [ending, a.steps, a.pairs as u32, a.used as u32]
+}
+
+// ---- the parts
+
+// Reads a routine's bytes into words.
+#[no_mangle]
+pub extern "C" fn hemdroas_read(bytes: &[u8], words: &mut [u64], answer: &mut [u32; 2])
+    ensures answer { λ _. ⌜ now (answer .exit) ≡ answerTo (readAnswer (now (bytes .entry)) (length (now (words .entry)))) ⌝ }
+    ensures content { λ _. ⌜ now (words .exit) ≡ readOutput (now (bytes .entry)) (now (words .entry)) ⌝ }
+{
+    *answer = answer_of(codec::read(bytes, words));
+}
+
+// Writes a routine's words as bytes.
+#[no_mangle]
+pub extern "C" fn hemdroas_write(words: &[u64], bytes: &mut [u8], answer: &mut [u32; 2])
+    ensures answer { λ _. ⌜ now (answer .exit) ≡ answerTo (writeAnswer (now (words .entry)) (length (now (bytes .entry)))) ⌝ }
+    ensures content { λ _. ⌜ now (bytes .exit) ≡ writeOutput (now (words .entry)) (now (bytes .entry)) ⌝ }
+{
+    *answer = answer_of(codec::write(words, bytes));
+}
+
+// Rewrites a routine's words into commands.
+#[no_mangle]
+pub extern "C" fn hemdroas_rewrite(
+    layout: &[u32; 7],
+    words: &[u64],
+    commands: &mut [u64],
+    answer: &mut [u32; 2],
+)
+    ensures answer { λ _. ⌜ now (answer .exit) ≡ answerTo (rewriteAnswer (layoutFrom (now (layout .entry))) (now (words .entry)) (length (now (commands .entry)))) ⌝ }
+    ensures content { λ _. ⌜ now (commands .exit) ≡ rewriteOutput (layoutFrom (now (layout .entry))) (now (words .entry)) (now (commands .entry)) ⌝ }
+{
+    *answer = answer_of(rewriter::rewrite(layout_of(*layout), words, commands));
+}
+
+// Checks a list of commands.
+#[no_mangle]
+pub extern "C" fn hemdroas_check(layout: &[u32; 7], commands: &[u64], answer: &mut [u32; 2])
+    ensures { λ _. ⌜ now (answer .exit) ≡ answerTo (checkAnswer (layoutFrom (now (layout .entry))) (now (commands .entry))) ⌝ }
+{
+    *answer = answer_of(checker::check(layout_of(*layout), commands));
+}
+
+// Installs a policy.
+#[no_mangle]
+pub extern "C" fn hemdroas_install(
+    layout: &[u32; 7],
+    states: u32,
+    start: u32,
+    table: &[u8],
+    memory: &mut [u32],
+    machine: &mut [u32; 11],
+    answer: &mut [u32; 2],
+)
+    ensures answer { λ _. ⌜ now (answer .exit) ≡ answerTo (installAnswer (layoutFrom (now (layout .entry))) (policyOf states start (now (table .entry))) (now (memory .entry))) ⌝ }
+    ensures machine { λ _. ⌜ now (machine .exit) ≡ machineTo (installMachine (layoutFrom (now (layout .entry))) (policyOf states start (now (table .entry))) (now (memory .entry))) ⌝ }
+    ensures memory { λ _. ⌜ now (memory .exit) ≡ installMemory (layoutFrom (now (layout .entry))) (policyOf states start (now (table .entry))) (now (memory .entry)) ⌝ }
+{
+    let policy = Policy { states, start };
+    let done = machine::install(layout_of(*layout), policy, table, memory);
+    *machine = record_of(done.machine);
+    *answer = answer_of(done.answer);
+}
+
+// Runs a record; one that is refused comes back as it was.
+#[no_mangle]
+pub extern "C" fn hemdroas_run(
+    layout: &[u32; 7],
+    commands: &[u64],
+    machine: &mut [u32; 11],
+    memory: &mut [u32],
+    budget: u32,
+    readings: &[u32],
+    log: &mut [u32],
+    answer: &mut [u32; 4],
+)
+    ensures answer { λ _. ⌜ now (answer .exit) ≡ runAnswerTo (runFor (now (layout .entry)) (now (commands .entry)) (now (machine .entry)) (now (memory .entry)) budget (now (readings .entry)) (now (log .entry)) .outcome .answer) ⌝ }
+    ensures machine { λ _. ⌜ now (machine .exit) ≡ recordAfter (layoutFrom (now (layout .entry))) (now (memory .entry)) (now (machine .entry)) (runFor (now (layout .entry)) (now (commands .entry)) (now (machine .entry)) (now (memory .entry)) budget (now (readings .entry)) (now (log .entry))) ⌝ }
+    ensures memory { λ _. ⌜ now (memory .exit) ≡ runFor (now (layout .entry)) (now (commands .entry)) (now (machine .entry)) (now (memory .entry)) budget (now (readings .entry)) (now (log .entry)) .mem ⌝ }
+    ensures log { λ _. ⌜ now (log .exit) ≡ runFor (now (layout .entry)) (now (commands .entry)) (now (machine .entry)) (now (memory .entry)) budget (now (readings .entry)) (now (log .entry)) .log ⌝ }
+{
+    let lay = layout_of(*layout);
+    let fits = right(lay) & (memory.len() == lay.size as usize);
+    let m = machine_of(*machine);
+    let out = machine::run_value(lay, commands, m, memory, budget, readings, log);
+    *machine = record_after(fits, out.machine, *machine);
+    *answer = run_answer_of(out.answer);
+}

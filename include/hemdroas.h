@@ -1,0 +1,102 @@
+/*
+ * Guest routines on a drum controller, kept to their sandbox.
+ *
+ * The usual way: read a routine's bytes into words, rewrite the words into
+ * commands, check the commands, install the policy, then run, as often as the
+ * routine needs. Only checking makes a command list trustworthy: check every
+ * list, wherever it comes from, and keep it unchanged from then on.
+ *
+ * Buffers. Each pointer comes with the number of its elements, and no call
+ * reaches past it. The buffers of one call must not overlap, nor overlap the
+ * layout, machine or answer arrays. No call keeps a pointer. A pointer to an
+ * empty buffer is not followed, but must not be null.
+ *
+ * layout[7], in this order:
+ *   U   memory cells, 1 to 4096
+ *   SL  first cell of the sandbox
+ *   SH  last cell of the sandbox
+ *   M   cell of the policy's state
+ *   P   first cell of the policy's table, 16 cells per state
+ *   S   policy states, 1 to 16
+ *   B   address of the first command, at most 65535
+ * It is right when U, S and B are in these ranges; SL <= SH < U, M < U and
+ * P + 16 * S <= U; SH - SL + 1 is a power of two and SL a multiple of it; and
+ * sandbox, state cell and table share no cell.
+ *
+ * machine[11]: r0 to r8, pc, status. Status is 0 running, 1 ended, 2 stopped,
+ * 3 faulted; any number above 3 counts as faulted.
+ *
+ * answer[2]: the number, then the place. Number 0 is success, and the place
+ * then is the count of words, bytes or commands written (0 for check and
+ * install). Any other number is a refusal, and the place is that of the
+ * instruction (1 to 4, 8) or bundle (11) at fault, else 0:
+ *   1 short weight     bytes end early
+ *   2 foreign matter   a field that should be absent or zero, a stray bit
+ *   3 unknown variety  kind above 12
+ *   4 off grade        register, condition, shift or event out of range
+ *   5 oversize         more than 1023 instructions
+ *   6 overweight       bytes after the last instruction
+ *   7 bad layout       layout not right, or memory not of U cells
+ *   8 bad landing      jump past the end of the routine
+ *   9 small hopper     output too short
+ *  10 bad policy       policy that cannot be installed on this layout
+ *  11 bad bundle       commands of no allowed shape, or no HALT at the end
+ *  12 bad count        not 4, 8, 16, ... 4096 commands
+ *  13 bad base         B no multiple of the number of commands
+ *
+ * A refusal leaves every buffer as it was, and so a run's machine record; a
+ * refused installation yields a record of zeros with status 3. A success
+ * leaves the output past its result as it was.
+ */
+#ifndef HEMDROAS_H
+#define HEMDROAS_H
+
+#include <stddef.h>
+#include <stdint.h>
+
+#ifdef __cplusplus
+extern "C" {
+#endif
+
+/* Reads a routine of n bytes into words; 1023 words are always room enough. */
+void hemdroas_read   (const uint8_t *bytes, size_t n, uint64_t *words, size_t room, uint32_t answer[2]);
+
+/* Writes n words as a routine's bytes, the inverse of reading. */
+void hemdroas_write  (const uint64_t *words, size_t n, uint8_t *bytes, size_t room, uint32_t answer[2]);
+
+/* Rewrites n words into commands, 4 for each of 1, 2, 4, ... 1024 bundles: the
+ * smallest such count above n. B must be a multiple of the commands' number.
+ * 4096 commands are always room enough. */
+void hemdroas_rewrite(const uint32_t layout[7], const uint64_t *words, size_t n, uint64_t *commands, size_t room, uint32_t answer[2]);
+
+/* Checks that n commands, run under this layout, keep to sandbox and policy. */
+void hemdroas_check  (const uint32_t layout[7], const uint64_t *commands, size_t n, uint32_t answer[2]);
+
+/* Writes the start state to cell M and the policy's table from cell P on, and
+ * yields a machine at the first command. states must be the layout's S, len
+ * 16 times that; table[16 * s + e] is the state after event e in state s, or
+ * 255 where event e is not allowed. */
+void hemdroas_install(const uint32_t layout[7], uint32_t states, uint32_t start, const uint8_t *table, size_t len,
+                      uint32_t *memory, size_t cells, uint32_t machine[11], uint32_t answer[2]);
+
+/* Runs until the routine ends, pauses or has done budget steps. Each event
+ * takes two cells of the log, from cell 0 on: its number (0 to 7 orders, 8 to
+ * 15 readings) and its value. Readings are taken from cell 0 on.
+ *
+ * answer[4]: ending, steps done, pairs logged, readings used.
+ *   20 ended         the routine came to its end
+ *   21 no arrow      the policy stopped it
+ *   22 fault         never on a list that check passed, run as installed
+ *   23 log full      pause: go on with an empty log
+ *   24 probe silent  pause: go on with new readings
+ *   25 spent         pause: go on with a new budget
+ *    7 bad layout    refused, and nothing done; three zeros follow
+ * After a pause, lend the same machine and memory again. */
+void hemdroas_run    (const uint32_t layout[7], const uint64_t *commands, size_t n, uint32_t machine[11], uint32_t *memory, size_t cells,
+                      uint32_t budget, const uint32_t *readings, size_t r, uint32_t *log, size_t g, uint32_t answer[4]);
+
+#ifdef __cplusplus
+}
+#endif
+
+#endif
