@@ -1,0 +1,275 @@
+//! The C library and the model side by side, on the same inputs in one run.
+//!
+//! `cargo run --release --features native --example bench`
+//!
+//! Each figure is taken over many rounds; a round times a batch of calls of
+//! one and then of the other, turn about, so that a change of the machine's
+//! pace meets both. The ratio is the library's time over the model's: below 1,
+//! the library is faster.
+
+use hemdroas::model::words::{guest, pack, GUEST_GRADE, LONGEST};
+use hemdroas::{model, native, Answer, Ending, Layout, Machine, Policy, RunAnswer};
+use std::hint::black_box;
+use std::time::{Duration, Instant};
+
+const ROUNDS: usize = 500;
+const BATCH: Duration = Duration::from_micros(300);
+
+const LAYOUT: Layout = Layout {
+    cells: 4096,
+    sandbox_low: 2048,
+    sandbox_high: 4095,
+    state_cell: 0,
+    table: 16,
+    states: 16,
+    code_base: 4096,
+};
+const BUDGET: u32 = 20_000;
+
+fn time(calls: u32, call: &mut dyn FnMut()) -> f64 {
+    let start = Instant::now();
+    for _ in 0..calls {
+        call();
+    }
+    start.elapsed().as_nanos() as f64 / f64::from(calls)
+}
+
+fn minimum_and_median(times: &mut [f64]) -> (f64, f64) {
+    times.sort_by(f64::total_cmp);
+    (times[0], times[times.len() / 2])
+}
+
+/// Times both, and prints a row of the table.
+fn figure(
+    name: &str,
+    units: usize,
+    unit: &str,
+    library: &mut dyn FnMut(),
+    model: &mut dyn FnMut(),
+) {
+    let mut calls = 1;
+    while time(calls, library).max(time(calls, model)) * f64::from(calls) < BATCH.as_nanos() as f64
+    {
+        calls *= 2;
+    }
+    let (mut library_times, mut model_times) = (Vec::new(), Vec::new());
+    for round in 0..ROUNDS {
+        if round % 2 == 0 {
+            library_times.push(time(calls, library));
+            model_times.push(time(calls, model));
+        } else {
+            model_times.push(time(calls, model));
+            library_times.push(time(calls, library));
+        }
+    }
+    let (library_least, library_middle) = minimum_and_median(&mut library_times);
+    let (model_least, model_middle) = minimum_and_median(&mut model_times);
+    let each = |time: f64| time / units as f64;
+    println!(
+        "| {name} | {units} {unit}s | {:.2} | {:.2} | {:.2} | {:.2} | {:.2} | {:.2} |",
+        each(library_least),
+        each(model_least),
+        library_least / model_least,
+        each(library_middle),
+        each(model_middle),
+        library_middle / model_middle,
+    );
+}
+
+/// A routine of the full length, of all kinds in turn with fields that differ.
+fn full_length() -> Vec<u64> {
+    let mut state = 7_u64;
+    (0..LONGEST)
+        .map(|at| {
+            state = state
+                .wrapping_mul(6_364_136_223_846_793_005)
+                .wrapping_add(1);
+            let random = state >> 16;
+            let kind = 1 + at as u64 % 12;
+            let v = match kind {
+                guest::GOIF => random as u32 % LONGEST as u32,
+                _ => random as u32,
+            };
+            let fields = pack(0, random, random >> 4, random >> 8, random >> 12, 0);
+            (fields & 0xff_ff00 | kind | u64::from(v) << 32) & GUEST_GRADE[kind as usize]
+        })
+        .collect()
+}
+
+/// Adds 1 to each cell of the sandbox, with some arithmetic beside it.
+fn cell_loop() -> Vec<u64> {
+    vec![
+        pack(guest::SET, 2, 0, 0, 0, 1),
+        pack(guest::LOAD, 3, 1, 0, 0, 0),
+        pack(guest::ADD, 3, 3, 2, 0, 0),
+        pack(guest::STORE, 0, 1, 3, 0, 0),
+        pack(guest::ADD, 1, 1, 2, 0, 0),
+        pack(guest::AND, 4, 3, 1, 0, 0),
+        pack(guest::SUB, 5, 4, 3, 0, 0),
+        pack(guest::OR, 6, 5, 2, 0, 0),
+        pack(guest::SAR, 5, 6, 0, 0, 3),
+        pack(guest::GOIF, 0, 0, 0, 0, 1),
+    ]
+}
+
+/// Orders and readings without end.
+fn event_loop() -> Vec<u64> {
+    vec![
+        pack(guest::EVENT, 0, 0, 0, 0, 0),
+        pack(guest::EVENT, 0, 0, 0, 0, 9),
+        pack(guest::EVENT, 0, 0, 0, 0, 3),
+        pack(guest::EVENT, 0, 0, 0, 0, 12),
+        pack(guest::GOIF, 0, 0, 0, 0, 0),
+    ]
+}
+
+fn rewritten(words: &[u64]) -> Vec<u64> {
+    let mut list = vec![0; 4 * model::bundle_count(words.len())];
+    let size = list.len() as u32;
+    assert_eq!(
+        model::rewrite(&LAYOUT, words, &mut list),
+        Answer::Taken(size)
+    );
+    assert_eq!(native::check(&LAYOUT, &list), Answer::Taken(0));
+    list
+}
+
+type Run = fn(&Layout, &[u64], &mut Machine, &mut [u32], u32, &[u32], &mut [u32]) -> RunAnswer;
+
+/// A routine in a machine of its own, started anew by each call.
+fn runner<'a>(run: Run, list: &'a [u64], table: &'a [u8]) -> impl FnMut() -> RunAnswer + 'a {
+    let mut memory = vec![0; LAYOUT.cells as usize];
+    let policy = Policy {
+        states: 16,
+        start: 0,
+        table,
+    };
+    let (answer, installed) = model::install(&LAYOUT, &policy, &mut memory);
+    assert_eq!(answer, Answer::Taken(0));
+    let readings: Vec<u32> = (0..BUDGET).collect();
+    let mut log = vec![0; 2 * BUDGET as usize];
+    move || {
+        let mut machine = installed;
+        memory[LAYOUT.state_cell as usize] = 0;
+        let answer = run(
+            &LAYOUT,
+            black_box(list),
+            &mut machine,
+            &mut memory,
+            BUDGET,
+            &readings,
+            &mut log,
+        );
+        black_box((machine, &memory, &log));
+        answer
+    }
+}
+
+fn running(name: &str, words: &[u64], table: &[u8]) {
+    let list = rewritten(words);
+    let mut library = runner(native::run, &list, table);
+    let mut model = runner(model::run, &list, table);
+    let (answer, expected) = (library(), model());
+    assert_eq!(answer, expected);
+    assert_eq!((answer.ending, answer.steps), (Ending::Spent, BUDGET));
+    let steps = BUDGET as usize;
+    figure(
+        name,
+        steps,
+        "step",
+        &mut || _ = black_box(library()),
+        &mut || _ = black_box(model()),
+    );
+}
+
+fn main() {
+    println!(
+        "Nanoseconds per unit, over {ROUNDS} rounds of at least {} microseconds each.\n",
+        BATCH.as_micros()
+    );
+    println!("| figure | one call | library, min | model, min | ratio, min | library, median | model, median | ratio, median |");
+    println!("|---|---|---|---|---|---|---|---|");
+
+    // Each event leads on to the next of sixteen states.
+    let table: Vec<u8> = (0..256).map(|at| (at / 16 + 1) as u8 % 16).collect();
+    running("run: loads, stores, arithmetic", &cell_loop(), &table);
+    running("run: events", &event_loop(), &table);
+
+    let words = full_length();
+    let list = rewritten(&words);
+    let (mut ours, mut theirs) = (list.clone(), vec![0; list.len()]);
+    let size = Answer::Taken(list.len() as u32);
+    assert_eq!(native::rewrite(&LAYOUT, &words, &mut theirs), size);
+    assert_eq!(theirs, ours);
+    figure(
+        "rewrite",
+        LONGEST,
+        "instruction",
+        &mut || {
+            _ = black_box(native::rewrite(
+                &LAYOUT,
+                black_box(&words),
+                black_box(&mut theirs),
+            ))
+        },
+        &mut || {
+            _ = black_box(model::rewrite(
+                &LAYOUT,
+                black_box(&words),
+                black_box(&mut ours),
+            ))
+        },
+    );
+    figure(
+        "check",
+        LONGEST + 1,
+        "bundle",
+        &mut || _ = black_box(native::check(&LAYOUT, black_box(&list))),
+        &mut || _ = black_box(model::check(&LAYOUT, black_box(&list))),
+    );
+
+    let mut bytes = vec![0; 2 + 10 * LONGEST];
+    let Answer::Taken(size) = model::write(&words, &mut bytes) else {
+        panic!("a full-length routine is written");
+    };
+    bytes.truncate(size as usize);
+    let (mut ours, mut theirs) = (vec![0; LONGEST], vec![0; LONGEST]);
+    let count = Answer::Taken(LONGEST as u32);
+    assert_eq!(model::read(&bytes, &mut ours), count);
+    assert_eq!(native::read(&bytes, &mut theirs), count);
+    assert_eq!((&ours, &theirs), (&words, &words));
+    figure(
+        "read",
+        LONGEST,
+        "instruction",
+        &mut || _ = black_box(native::read(black_box(&bytes), black_box(&mut theirs))),
+        &mut || _ = black_box(model::read(black_box(&bytes), black_box(&mut ours))),
+    );
+    let (mut ours, mut theirs) = (vec![0; bytes.len()], vec![0; bytes.len()]);
+    assert_eq!(native::write(&words, &mut theirs), Answer::Taken(size));
+    assert_eq!(theirs, bytes);
+    figure(
+        "write",
+        LONGEST,
+        "instruction",
+        &mut || _ = black_box(native::write(black_box(&words), black_box(&mut theirs))),
+        &mut || _ = black_box(model::write(black_box(&words), black_box(&mut ours))),
+    );
+
+    let policy = Policy {
+        states: 16,
+        start: 3,
+        table: &table,
+    };
+    let (mut ours, mut theirs) = (vec![0; 4096], vec![0; 4096]);
+    let expected = model::install(&LAYOUT, &policy, &mut ours);
+    assert_eq!(native::install(&LAYOUT, &policy, &mut theirs), expected);
+    assert_eq!(theirs, ours);
+    figure(
+        "install, 16 states",
+        257,
+        "cell",
+        &mut || _ = black_box(native::install(&LAYOUT, black_box(&policy), &mut theirs)),
+        &mut || _ = black_box(model::install(&LAYOUT, black_box(&policy), &mut ours)),
+    );
+}

@@ -1,0 +1,16 @@
+//! Guest routines on a drum controller, kept to their sandbox by rewriting and
+//! checking.
+//!
+//! [`native`] (feature `native`) wraps the C library that firmware links.
+//! [`model`] is a second implementation of the same rules in plain Rust,
+//! written from the rules alone, so that tests can hold the library against
+//! it. Both speak the types of this module, and their answers compare directly.
+
+#![deny(missing_docs)]
+
+pub mod model;
+#[cfg(feature = "native")]
+pub mod native;
+mod types;
+
+pub use types::{Answer, Ending, Layout, Machine, Policy, Record, Refusal, RunAnswer, Status};

@@ -1,0 +1,12 @@
+//! The rules in plain Rust, written from the rules alone.
+
+mod bundles;
+mod bytes;
+mod layout;
+mod machine;
+pub mod words;
+
+pub use bundles::{bundle_count, check, rewrite};
+pub use bytes::{read, write};
+pub use layout::{is_right, mask};
+pub use machine::{install, install_record, run, run_record};

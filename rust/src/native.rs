@@ -1,0 +1,224 @@
+//! Safe wrappers of the C library (`include/hemdroas.h`).
+//!
+//! A number that the header does not define makes a wrapper panic: a library
+//! that answers so is not the one this package was written for.
+
+use crate::{Answer, Ending, Layout, Machine, Policy, Record, Refusal, RunAnswer};
+
+extern "C" {
+    fn hemdroas_read(
+        bytes: *const u8,
+        n: usize,
+        words: *mut u64,
+        room: usize,
+        answer: *mut [u32; 2],
+    );
+    fn hemdroas_write(
+        words: *const u64,
+        n: usize,
+        bytes: *mut u8,
+        room: usize,
+        answer: *mut [u32; 2],
+    );
+    fn hemdroas_rewrite(
+        layout: *const [u32; 7],
+        words: *const u64,
+        n: usize,
+        commands: *mut u64,
+        room: usize,
+        answer: *mut [u32; 2],
+    );
+    fn hemdroas_check(
+        layout: *const [u32; 7],
+        commands: *const u64,
+        n: usize,
+        answer: *mut [u32; 2],
+    );
+    fn hemdroas_install(
+        layout: *const [u32; 7],
+        states: u32,
+        start: u32,
+        table: *const u8,
+        len: usize,
+        memory: *mut u32,
+        cells: usize,
+        machine: *mut [u32; 11],
+        answer: *mut [u32; 2],
+    );
+    fn hemdroas_run(
+        layout: *const [u32; 7],
+        commands: *const u64,
+        n: usize,
+        machine: *mut [u32; 11],
+        memory: *mut u32,
+        cells: usize,
+        budget: u32,
+        readings: *const u32,
+        r: usize,
+        log: *mut u32,
+        g: usize,
+        answer: *mut [u32; 4],
+    );
+}
+
+fn answer([number, place]: [u32; 2]) -> Answer {
+    if number == 0 {
+        return Answer::Taken(place);
+    }
+    match Refusal::from_number(number) {
+        Some(refusal) => Answer::Refused { refusal, place },
+        None => panic!("the library answered {number}, which is no refusal"),
+    }
+}
+
+// In each call below, the pointers come from live slices and arrays of the
+// lengths given beside them, and Rust's borrowing keeps those that the library
+// writes apart from all others.
+
+/// Reads a routine's bytes into words.
+pub fn read(bytes: &[u8], words: &mut [u64]) -> Answer {
+    let mut pair = [0; 2];
+    unsafe {
+        hemdroas_read(
+            bytes.as_ptr(),
+            bytes.len(),
+            words.as_mut_ptr(),
+            words.len(),
+            &mut pair,
+        );
+    }
+    answer(pair)
+}
+
+/// Writes words as a routine's bytes.
+pub fn write(words: &[u64], bytes: &mut [u8]) -> Answer {
+    let mut pair = [0; 2];
+    unsafe {
+        hemdroas_write(
+            words.as_ptr(),
+            words.len(),
+            bytes.as_mut_ptr(),
+            bytes.len(),
+            &mut pair,
+        );
+    }
+    answer(pair)
+}
+
+/// Rewrites a routine's words into commands that keep to the layout.
+pub fn rewrite(layout: &Layout, words: &[u64], commands: &mut [u64]) -> Answer {
+    let mut pair = [0; 2];
+    unsafe {
+        hemdroas_rewrite(
+            &layout.to_array(),
+            words.as_ptr(),
+            words.len(),
+            commands.as_mut_ptr(),
+            commands.len(),
+            &mut pair,
+        );
+    }
+    answer(pair)
+}
+
+/// Checks a command list, from whatever producer.
+pub fn check(layout: &Layout, commands: &[u64]) -> Answer {
+    let mut pair = [0; 2];
+    unsafe {
+        hemdroas_check(
+            &layout.to_array(),
+            commands.as_ptr(),
+            commands.len(),
+            &mut pair,
+        );
+    }
+    answer(pair)
+}
+
+/// Writes the policy into memory and yields a machine at the first command;
+/// after a refusal, [`Machine::REFUSED`].
+pub fn install(layout: &Layout, policy: &Policy, memory: &mut [u32]) -> (Answer, Machine) {
+    let mut record = Machine::REFUSED.to_record();
+    let answer = install_record(layout, policy, memory, &mut record);
+    (answer, record.to_machine())
+}
+
+/// [`install`] into a record of the C interface.
+pub fn install_record(
+    layout: &Layout,
+    policy: &Policy,
+    memory: &mut [u32],
+    record: &mut Record,
+) -> Answer {
+    let mut pair = [0; 2];
+    unsafe {
+        hemdroas_install(
+            &layout.to_array(),
+            policy.states,
+            policy.start,
+            policy.table.as_ptr(),
+            policy.table.len(),
+            memory.as_mut_ptr(),
+            memory.len(),
+            &mut record.0,
+            &mut pair,
+        );
+    }
+    answer(pair)
+}
+
+/// Runs a machine until it ends, pauses or has used up its budget of steps.
+pub fn run(
+    layout: &Layout,
+    commands: &[u64],
+    machine: &mut Machine,
+    memory: &mut [u32],
+    budget: u32,
+    readings: &[u32],
+    log: &mut [u32],
+) -> RunAnswer {
+    let mut record = machine.to_record();
+    let answer = run_record(layout, commands, &mut record, memory, budget, readings, log);
+    *machine = record.to_machine();
+    answer
+}
+
+/// [`run`] on a record of the C interface, whose status may be any number:
+/// above 3 counts as faulted and comes back as 3, unless the run is refused.
+pub fn run_record(
+    layout: &Layout,
+    commands: &[u64],
+    record: &mut Record,
+    memory: &mut [u32],
+    budget: u32,
+    readings: &[u32],
+    log: &mut [u32],
+) -> RunAnswer {
+    let mut four = [0; 4];
+    unsafe {
+        hemdroas_run(
+            &layout.to_array(),
+            commands.as_ptr(),
+            commands.len(),
+            &mut record.0,
+            memory.as_mut_ptr(),
+            memory.len(),
+            budget,
+            readings.as_ptr(),
+            readings.len(),
+            log.as_mut_ptr(),
+            log.len(),
+            &mut four,
+        );
+    }
+    let [number, steps, pairs, readings] = four;
+    match Ending::from_number(number) {
+        Some(ending) => RunAnswer {
+            ending,
+            steps,
+            pairs,
+            readings,
+        },
+        None => panic!("the library answered {number}, which is no ending"),
+    }
+}

@@ -1,0 +1,864 @@
+//! The C library against the model, on random and damaged inputs. A case is
+//! one call of each on the same input; it passes when the answers and the
+//! whole final content of everything lent are the same.
+
+mod common;
+
+use common::*;
+use hemdroas::model::words::{command, guest, pack, LONGEST};
+use hemdroas::model::{self, bundle_count};
+use hemdroas::{native, Answer, Ending, Layout, Policy, Record, RunAnswer};
+
+/// The operations, and the numbers that each can answer.
+const OPERATIONS: [(&str, &[usize]); 6] = [
+    ("read", &[0, 1, 2, 3, 4, 5, 6, 9]),
+    ("write", &[0, 2, 3, 4, 5, 9]),
+    ("rewrite", &[0, 2, 3, 4, 5, 7, 8, 9, 13]),
+    ("check", &[0, 7, 11, 12, 13]),
+    ("install", &[0, 7, 10]),
+    ("run", &[7, 20, 21, 22, 23, 24, 25]),
+];
+const READ: usize = 0;
+const WRITE: usize = 1;
+const REWRITE: usize = 2;
+const CHECK: usize = 3;
+const INSTALL: usize = 4;
+const RUN: usize = 5;
+
+/// Each number of each operation must be seen at least so often.
+const LEAST: u64 = 200;
+const LEAST_CASES: u64 = 100_000;
+
+/// How often each number was answered.
+#[derive(Default)]
+struct Tally {
+    seen: [[u64; 26]; 6],
+    /// Runs whose record came in with a status above 3.
+    strange_status: u64,
+    /// Layouts with a code base beyond 16 bits.
+    far_base: u64,
+    /// Steps, pairs and readings over all runs.
+    steps: u64,
+    pairs: u64,
+    readings: u64,
+}
+
+impl Tally {
+    fn count(&mut self, operation: usize, number: u32) {
+        self.seen[operation][number as usize] += 1;
+    }
+
+    fn cases(&self) -> u64 {
+        self.seen.iter().flatten().sum()
+    }
+}
+
+/// Reads with both, and compares.
+fn read(tally: &mut Tally, bytes: &[u8], words: &[u64]) -> Answer {
+    let (mut ours, mut theirs) = (words.to_vec(), words.to_vec());
+    let expected = model::read(bytes, &mut ours);
+    let answer = native::read(bytes, &mut theirs);
+    assert_eq!(answer, expected, "reading {bytes:02x?}");
+    assert_eq!(theirs, ours, "words of {bytes:02x?}");
+    assert_untouched(answer, words, &theirs);
+    tally.count(READ, answer.number());
+    answer
+}
+
+fn write(tally: &mut Tally, words: &[u64], bytes: &[u8]) -> Answer {
+    let (mut ours, mut theirs) = (bytes.to_vec(), bytes.to_vec());
+    let expected = model::write(words, &mut ours);
+    let answer = native::write(words, &mut theirs);
+    assert_eq!(answer, expected, "writing {words:x?}");
+    assert_eq!(theirs, ours, "bytes of {words:x?}");
+    assert_untouched(answer, bytes, &theirs);
+    tally.count(WRITE, answer.number());
+    answer
+}
+
+fn rewrite(tally: &mut Tally, layout: &Layout, words: &[u64], commands: &[u64]) -> Answer {
+    let (mut ours, mut theirs) = (commands.to_vec(), commands.to_vec());
+    let expected = model::rewrite(layout, words, &mut ours);
+    let answer = native::rewrite(layout, words, &mut theirs);
+    assert_eq!(answer, expected, "rewriting {words:x?} under {layout:?}");
+    assert_eq!(theirs, ours, "commands of {words:x?} under {layout:?}");
+    assert_untouched(answer, commands, &theirs);
+    note_layout(tally, layout, answer.number());
+    tally.count(REWRITE, answer.number());
+    answer
+}
+
+fn check(tally: &mut Tally, layout: &Layout, commands: &[u64]) -> Answer {
+    let expected = model::check(layout, commands);
+    let answer = native::check(layout, commands);
+    assert_eq!(answer, expected, "checking {commands:x?} under {layout:?}");
+    note_layout(tally, layout, answer.number());
+    tally.count(CHECK, answer.number());
+    answer
+}
+
+/// Installs into the memory given, and yields the record.
+fn install(
+    tally: &mut Tally,
+    layout: &Layout,
+    policy: &Policy,
+    memory: &mut Vec<u32>,
+    record: Record,
+) -> (Answer, Record) {
+    let before = memory.clone();
+    let (mut ours, mut our_record) = (before.clone(), record);
+    let mut their_record = record;
+    let expected = model::install_record(layout, policy, &mut ours, &mut our_record);
+    let answer = native::install_record(layout, policy, memory, &mut their_record);
+    assert_eq!(answer, expected, "installing {policy:?} under {layout:?}");
+    assert_eq!(their_record, our_record, "record of {policy:?}, {layout:?}");
+    assert_eq!(*memory, ours, "memory of {policy:?} under {layout:?}");
+    if answer != Answer::Taken(0) {
+        assert_eq!(*memory, before);
+    }
+    note_layout(tally, layout, answer.number());
+    tally.count(INSTALL, answer.number());
+    (answer, their_record)
+}
+
+/// What a run is lent beside its list.
+#[derive(Clone, Debug, PartialEq)]
+struct Lent {
+    record: Record,
+    memory: Vec<u32>,
+    log: Vec<u32>,
+}
+
+fn run(
+    tally: &mut Tally,
+    layout: &Layout,
+    commands: &[u64],
+    lent: &mut Lent,
+    budget: u32,
+    readings: &[u32],
+) -> RunAnswer {
+    let before = lent.clone();
+    let mut ours = lent.clone();
+    let expected = model::run_record(
+        layout,
+        commands,
+        &mut ours.record,
+        &mut ours.memory,
+        budget,
+        readings,
+        &mut ours.log,
+    );
+    let answer = native::run_record(
+        layout,
+        commands,
+        &mut lent.record,
+        &mut lent.memory,
+        budget,
+        readings,
+        &mut lent.log,
+    );
+    let input = || {
+        format!(
+            "{commands:x?} from {:?} under {layout:?}, budget {budget}, readings {readings:?}",
+            before.record
+        )
+    };
+    assert_eq!(answer, expected, "running {}", input());
+    assert_eq!(*lent, ours, "what was lent to {}", input());
+    if answer.ending == Ending::BadLayout {
+        assert_eq!(*lent, before, "a refused run alters nothing");
+    }
+    if before.record.0[10] > 3 {
+        tally.strange_status += 1;
+    }
+    note_layout(tally, layout, answer.ending.number());
+    tally.count(RUN, answer.ending.number());
+    tally.steps += u64::from(answer.steps);
+    tally.pairs += u64::from(answer.pairs);
+    tally.readings += u64::from(answer.readings);
+    answer
+}
+
+/// A refusal leaves the output as it was, and a success what is past it.
+fn assert_untouched<T: PartialEq + std::fmt::Debug>(answer: Answer, before: &[T], after: &[T]) {
+    let from = match answer {
+        Answer::Taken(written) => written as usize,
+        Answer::Refused { .. } => 0,
+    };
+    assert_eq!(before[from..], after[from..]);
+}
+
+fn note_layout(tally: &mut Tally, layout: &Layout, number: u32) {
+    if layout.code_base > 65_535 {
+        assert_eq!(number, 7, "{layout:?}");
+        tally.far_base += 1;
+    }
+}
+
+/// An output whose cells all differ from what anyone would write.
+fn hopper(rng: &mut Rng, room: usize) -> Vec<u64> {
+    let mark = rng.next() | 0xff;
+    vec![mark; room]
+}
+
+/// Room for `needed`, or now and then too little or some to spare.
+fn room(rng: &mut Rng, needed: usize) -> usize {
+    match rng.below(20) {
+        0 => needed.saturating_sub(1),
+        1 => rng.between(0, needed),
+        2 | 3 => needed + rng.between(1, 9),
+        _ => needed,
+    }
+}
+
+/// A routine, now and then with spoiled words or too long.
+fn spoiled_routine(rng: &mut Rng, layout: &Layout, n: usize) -> Vec<u64> {
+    let mut words = routine(rng, layout, n);
+    if n > 0 && rng.chance(60) {
+        for _ in 0..rng.between(1, 3) {
+            let at = rng.below(n);
+            words[at] = match rng.below(6) {
+                0 => pack(guest::GOIF, 0, 1, 2, 3, (n + rng.below(3)) as u32),
+                _ => damage_word(rng, words[at]),
+            };
+        }
+    }
+    if rng.chance(3) {
+        words.resize(LONGEST + rng.between(1, 3), 0);
+    }
+    words
+}
+
+/// The bytes of one instruction, most of them right and some nearly so.
+fn loose_instruction(rng: &mut Rng, bytes: &mut Vec<u8>) {
+    let word = instruction(rng, &TRIAL, 20);
+    let mut fields = [
+        word as u8,
+        (word >> 8 & 15) as u8,
+        (word >> 12 & 15) as u8,
+        (word >> 16 & 15) as u8,
+        (word >> 20 & 15) as u8,
+    ];
+    let mut v = (word >> 32) as u32;
+    let mut map = 0;
+    for (bit, &field) in fields.iter().enumerate() {
+        map |= u8::from(field != 0) << bit;
+    }
+    map |= u8::from(v != 0) << 5;
+    match rng.below(30) {
+        0 => map ^= 1 << rng.below(6),
+        1 => map = rng.next() as u8,
+        2 => {
+            let at = rng.below(5);
+            map |= 1 << at;
+            fields[at] = rng.below(18) as u8;
+        }
+        3 => fields[rng.below(5)] = rng.next() as u8,
+        4 => {
+            map |= 32;
+            v = rng.below(40) as u32;
+        }
+        _ => {}
+    }
+    bytes.push(map);
+    for (bit, &field) in fields.iter().enumerate() {
+        if map >> bit & 1 == 1 {
+            bytes.push(field);
+        }
+    }
+    if map >> 5 & 1 == 1 {
+        bytes.extend(v.to_le_bytes());
+    }
+}
+
+/// Bytes by the writer or by hand, whole or damaged.
+fn some_bytes(rng: &mut Rng) -> Vec<u8> {
+    let mut bytes = match rng.below(10) {
+        0..=3 => {
+            let n = length(rng);
+            let words = routine(rng, &TRIAL, n);
+            let mut bytes = vec![0; 2 + 10 * n];
+            let Answer::Taken(size) = model::write(&words, &mut bytes) else {
+                panic!("a right routine is written");
+            };
+            bytes.truncate(size as usize);
+            bytes
+        }
+        4..=8 => {
+            let n = length(rng);
+            let mut bytes = (n as u16).to_le_bytes().to_vec();
+            for _ in 0..n {
+                loose_instruction(rng, &mut bytes);
+            }
+            bytes
+        }
+        _ => {
+            let size = rng.below(24);
+            (0..size).map(|_| rng.next() as u8 & 0x3f).collect()
+        }
+    };
+    if rng.chance(45) {
+        for _ in 0..rng.between(1, 2) {
+            let size = bytes.len();
+            match rng.below(6) {
+                0 | 1 => bytes.truncate(rng.below(size + 1)),
+                2 => bytes.extend((0..rng.between(1, 4)).map(|at| at as u8)),
+                3 if size > 0 => bytes[rng.below(size)] = rng.next() as u8,
+                4 if size > 0 => bytes[rng.below(size)] ^= 1 << rng.below(8),
+                5 if size > 1 => {
+                    let count = rng.pick(&[0, 1, 1022, 1023, 1024, 1025, 4000, 65_535]);
+                    bytes[..2].copy_from_slice(&u16::to_le_bytes(count));
+                }
+                _ => {}
+            }
+        }
+    }
+    bytes
+}
+
+fn reading(tally: &mut Tally, rng: &mut Rng) {
+    for _ in 0..30_000 {
+        let bytes = some_bytes(rng);
+        let count = match bytes[..] {
+            [low, high, ..] => usize::from(u16::from_le_bytes([low, high])),
+            _ => 3,
+        };
+        let needed = count.min(LONGEST + 2);
+        let room = room(rng, needed);
+        let words = hopper(rng, room);
+        if let Answer::Taken(count) = read(tally, &bytes, &words) {
+            // What reading takes is written again as the same bytes.
+            let mut words = vec![0; count as usize];
+            let taken = native::read(&bytes, &mut words);
+            assert_eq!(taken, Answer::Taken(count));
+            let mut again = vec![0; bytes.len()];
+            let size = native::write(&words, &mut again);
+            assert_eq!((size, &again), (Answer::Taken(bytes.len() as u32), &bytes));
+        }
+    }
+}
+
+fn writing(tally: &mut Tally, rng: &mut Rng) {
+    for _ in 0..20_000 {
+        let n = length(rng);
+        let words = spoiled_routine(rng, &TRIAL, n);
+        let mut large = vec![0; 2 + 10 * words.len()];
+        let needed = match model::write(&words, &mut large) {
+            Answer::Taken(size) => size as usize,
+            _ => rng.below(large.len()),
+        };
+        let room = room(rng, needed);
+        let mark = rng.next() as u8;
+        if let Answer::Taken(size) = write(tally, &words, &vec![mark; room]) {
+            // What writing takes is read again as the same words.
+            let mut bytes = vec![0; size as usize];
+            assert_eq!(native::write(&words, &mut bytes), Answer::Taken(size));
+            let mut again = vec![0; words.len()];
+            let count = native::read(&bytes, &mut again);
+            assert_eq!((count, &again), (Answer::Taken(words.len() as u32), &words));
+        }
+    }
+}
+
+/// Every instruction kind with each single bit of its word turned, and with
+/// each pair of a bit and a register of 15.
+fn each_bit_of_an_instruction(tally: &mut Tally, rng: &mut Rng) {
+    let layout = right_layout(rng, 4);
+    for kind in 0..256 {
+        let mut words = [0, pack(kind, 0, 0, 0, 0, 0), 0];
+        let _ = write(tally, &words, &[0x5a; 40]);
+        let _ = rewrite(tally, &layout, &words, &[!0; 17]);
+        if kind > 13 {
+            continue;
+        }
+        let bare = words[1];
+        for bit in 8..64 {
+            for more in [0, 0x0_0f00, 0x0_f000, 0xf_0000, 0x3f << 32] {
+                words[1] = bare ^ 1 << bit ^ more;
+                let _ = write(tally, &words, &[0x5a; 40]);
+                let _ = rewrite(tally, &layout, &words, &[!0; 17]);
+            }
+        }
+    }
+}
+
+fn rewriting(tally: &mut Tally, rng: &mut Rng) {
+    for _ in 0..20_000 {
+        let n = length(rng);
+        let mut layout = right_layout(rng, bundle_count(n));
+        let words = spoiled_routine(rng, &layout, n);
+        match rng.below(12) {
+            0 => layout = senseless_layout(rng, &layout),
+            1 => layout.code_base ^= 1 << rng.below(13),
+            _ => {}
+        }
+        let room = room(rng, 4 * bundle_count(n));
+        let commands = hopper(rng, room);
+        if let Answer::Taken(size) = rewrite(tally, &layout, &words, &commands) {
+            let mut commands = vec![0; size as usize];
+            let answer = native::rewrite(&layout, &words, &mut commands);
+            assert_eq!(answer, Answer::Taken(size));
+            assert_eq!(check(tally, &layout, &commands), Answer::Taken(0));
+        }
+    }
+}
+
+/// Every layout number at and beside its bounds, the others right.
+fn layouts(tally: &mut Tally, rng: &mut Rng) {
+    let list = [1, 0, 0, 0];
+    for _ in 0..15_000 {
+        let right = right_layout(rng, 1);
+        let layout = senseless_layout(rng, &right);
+        let _ = check(tally, &layout, &list);
+    }
+    // All small layouts with one state, about and inside 18 to 20 cells.
+    for cells in 17..=20 {
+        for low in 0..=20 {
+            for size in [0, 1, 2, 3, 4] {
+                for state_cell in 0..=20 {
+                    for table in 0..=4 {
+                        let sandbox_high = u32::wrapping_add(low, size).wrapping_sub(1);
+                        let layout = Layout {
+                            cells,
+                            sandbox_low: low,
+                            sandbox_high,
+                            state_cell,
+                            table,
+                            states: 1,
+                            code_base: 0,
+                        };
+                        let _ = check(tally, &layout, &list);
+                    }
+                }
+            }
+        }
+    }
+}
+
+/// Each shape with each single bit of its four words turned.
+fn each_bit_of_a_bundle(tally: &mut Tally, rng: &mut Rng) {
+    for _ in 0..150 {
+        let bundles = 1 << rng.between(1, 4);
+        let layout = right_layout(rng, bundles);
+        let mut list = shaped_list(rng, &layout, bundles);
+        assert_eq!(check(tally, &layout, &list), Answer::Taken(0));
+        let from = 4 * rng.below(bundles);
+        for word in from..from + 4 {
+            for bit in 0..64 {
+                list[word] ^= 1 << bit;
+                let _ = check(tally, &layout, &list);
+                list[word] ^= 1 << bit;
+            }
+        }
+    }
+}
+
+fn checking(tally: &mut Tally, rng: &mut Rng) {
+    for _ in 0..25_000 {
+        let bundles = if rng.chance(1) {
+            1 << rng.between(6, 10)
+        } else {
+            1 << rng.below(6)
+        };
+        let mut layout = right_layout(rng, bundles);
+        let mut list = shaped_list(rng, &layout, bundles);
+        for _ in 0..rng.below(3) {
+            let size = list.len();
+            if size == 0 {
+                continue;
+            }
+            let (x, y) = (rng.below(size), rng.below(size));
+            match rng.below(10) {
+                0 | 1 => list[x] = damage_word(rng, list[x]),
+                2 => list.swap(x, y),
+                3 => list[x] = list[y],
+                4 => list[x] = any_command(rng, &layout, size),
+                5 => {
+                    let other = right_layout(rng, bundles);
+                    let bundle = shaped_bundle(rng, &other, bundles);
+                    let from = x & !3;
+                    if from + 4 <= size {
+                        list[from..from + 4].copy_from_slice(&bundle);
+                    }
+                }
+                6 => {
+                    let bundle = shaped_bundle(rng, &layout, bundles);
+                    let from = size.saturating_sub(4);
+                    if from + 4 <= size {
+                        list[from..from + 4].copy_from_slice(&bundle);
+                    }
+                }
+                7 => list.truncate(x),
+                8 => list.extend(vec![
+                    0;
+                    rng.pick(&[1, 4, size, 3 * size, 8192 - size % 8192])
+                ]),
+                _ => match rng.below(3) {
+                    0 => layout = senseless_layout(rng, &layout),
+                    1 => layout.code_base ^= 1 << rng.below(13),
+                    _ => layout.code_base = base_for(rng, bundles),
+                },
+            }
+        }
+        let _ = check(tally, &layout, &list);
+    }
+}
+
+fn some_record(rng: &mut Rng) -> Record {
+    Record(std::array::from_fn(|_| rng.word()))
+}
+
+fn installing(tally: &mut Tally, rng: &mut Rng) {
+    for _ in 0..15_000 {
+        let mut layout = right_layout(rng, 1);
+        let (mut start, mut table) = policy(rng, layout.states, 80);
+        let mut states = layout.states;
+        let mut cells = layout.cells as usize;
+        for _ in 0..rng.below(3) {
+            match rng.below(9) {
+                0 => {
+                    start = rng.pick(&[
+                        states.wrapping_sub(1),
+                        states,
+                        states.wrapping_add(1),
+                        255,
+                        u32::MAX,
+                    ])
+                }
+                1 => {
+                    states = rng.pick(&[
+                        states.wrapping_sub(1),
+                        states.wrapping_add(1),
+                        0,
+                        16,
+                        u32::MAX,
+                    ])
+                }
+                2 => table.truncate(rng.below(table.len() + 1)),
+                3 => table.resize(table.len() + rng.between(1, 17), 0),
+                4 if !table.is_empty() => {
+                    let at = rng.below(table.len());
+                    let near = layout.states as u8;
+                    table[at] = rng.pick(&[near.wrapping_sub(1), near, 254, 255, 16, 17]);
+                }
+                5 if !table.is_empty() => {
+                    let last = table.len() - 1;
+                    table[last] = rng.next() as u8;
+                }
+                6 => layout = senseless_layout(rng, &layout),
+                7 => cells = rng.pick(&[cells.saturating_sub(1), cells + 1, 0, 4096]),
+                _ => {}
+            }
+        }
+        let policy = Policy {
+            states,
+            start,
+            table: &table,
+        };
+        let mut memory = rng.cells(cells);
+        let record = some_record(rng);
+        let _ = install(tally, &layout, &policy, &mut memory, record);
+    }
+}
+
+fn some_budget(rng: &mut Rng) -> u32 {
+    match rng.below(10) {
+        0 => 0,
+        1 => 1,
+        2..=4 => rng.between(2, 12) as u32,
+        5..=8 => rng.between(13, 400) as u32,
+        _ => rng.between(401, 3000) as u32,
+    }
+}
+
+fn some_log(rng: &mut Rng) -> Vec<u32> {
+    let length = match rng.below(6) {
+        0 => rng.below(4),
+        1 | 2 => rng.between(2, 12),
+        _ => rng.between(12, 200),
+    };
+    let mark = rng.word();
+    vec![mark; length]
+}
+
+fn some_readings(rng: &mut Rng) -> Vec<u32> {
+    let length = match rng.below(6) {
+        0 => rng.below(3),
+        1 | 2 => rng.between(1, 8),
+        _ => rng.between(8, 100),
+    };
+    rng.cells(length)
+}
+
+/// One step of each kind of command with each single bit of its word turned,
+/// and each pause at its bound.
+fn each_bit_of_a_command(tally: &mut Tally, rng: &mut Rng) {
+    let layout = right_layout(rng, 1);
+    let lent = |rng: &mut Rng, log: usize| {
+        let mut memory = rng.cells(layout.cells as usize);
+        memory[layout.state_cell as usize] = rng.below(layout.states as usize) as u32;
+        let mut record = [0; 11];
+        for register in &mut record[..9] {
+            *register = match rng.below(4) {
+                0 => number(rng, &layout),
+                _ => rng.below(layout.cells as usize) as u32,
+            };
+        }
+        record[9] = layout.code_base;
+        Lent {
+            record: Record(record),
+            memory,
+            log: vec![7; log],
+        }
+    };
+    for kind in 0..256 {
+        for bit in 8..64 {
+            // With field v at its bounds too.
+            for v in [0, 15, 31, u32::MAX] {
+                let word = pack(kind, 0, 0, 0, 0, v) ^ 1 << bit;
+                let mut lent = lent(rng, 4);
+                let _ = run(tally, &layout, &[word], &mut lent, 1, &[70]);
+                if kind > 20 {
+                    break;
+                }
+            }
+        }
+    }
+    for event in 0..17 {
+        for log in 0..6 {
+            for readings in 0..3 {
+                for budget in 0..4 {
+                    let list = [pack(command::EVENT, 0, 0, 0, 0, event); 3];
+                    let mut lent = lent(rng, log);
+                    let readings = &[1800, 1950][..readings];
+                    let _ = run(tally, &layout, &list, &mut lent, budget, readings);
+                }
+            }
+        }
+    }
+    // LOOK at the last cell, past it, and where 32 bits would wrap.
+    for state in 0..600_u32 {
+        for turn in [0, 1 << 28, 1 << 31] {
+            let mut lent = lent(rng, 0);
+            lent.memory[layout.state_cell as usize] = state.wrapping_add(turn);
+            let list = [pack(command::LOOK, 3, 0, 0, 0, rng.below(16) as u32)];
+            let _ = run(tally, &layout, &list, &mut lent, 1, &[]);
+        }
+    }
+}
+
+/// Runs of lists, records and memories made by hand.
+fn hand_made_runs(tally: &mut Tally, rng: &mut Rng) {
+    for _ in 0..40_000 {
+        let length = match rng.below(12) {
+            0 => rng.below(3),
+            11 => rng.between(40, 300),
+            _ => rng.between(3, 40),
+        };
+        let mut layout = right_layout(rng, 1);
+        let mut list: Vec<u64> = (0..length)
+            .map(|_| any_command(rng, &layout, length))
+            .collect();
+        if length > 0 && rng.chance(20) {
+            let at = rng.below(length);
+            list[at] = damage_word(rng, list[at]);
+        }
+        let mut memory = rng.cells(layout.cells as usize);
+        // A state that LOOK can use, as it is on every installed layout.
+        if rng.chance(70) {
+            memory[layout.state_cell as usize] = rng.below(layout.states as usize + 1) as u32;
+        }
+        let mut record = [0; 11];
+        for register in &mut record[..9] {
+            *register = match rng.below(8) {
+                0 => number(rng, &layout),
+                1 => layout.code_base + rng.below(length + 1) as u32,
+                _ => rng.below(layout.cells as usize) as u32,
+            };
+        }
+        record[9] = match rng.below(20) {
+            0 => number(rng, &layout),
+            1 => layout.code_base.wrapping_sub(1),
+            2 => layout.code_base + length as u32,
+            3 => u32::MAX - rng.below(2) as u32,
+            _ => layout.code_base + rng.below(length.max(1)) as u32,
+        };
+        record[10] = match rng.below(20) {
+            0 => rng.between(1, 3) as u32,
+            1 => rng.pick(&[3, 4, 5, 255, 256, 1 << 16, 1 << 31, u32::MAX]),
+            _ => 0,
+        };
+        match rng.below(30) {
+            0 => layout = senseless_layout(rng, &layout),
+            1 => {
+                let cells = memory.len();
+                memory.resize(rng.pick(&[cells - 1, cells + 1, 0, 2 * cells]), 0);
+            }
+            _ => {}
+        }
+        let mut lent = Lent {
+            record: Record(record),
+            memory,
+            log: some_log(rng),
+        };
+        // Again from where the last one left off.
+        for _ in 0..rng.between(1, 2) {
+            let budget = some_budget(rng);
+            let readings = some_readings(rng);
+            let _ = run(tally, &layout, &list, &mut lent, budget, &readings);
+        }
+    }
+}
+
+/// Passed lists, installed and run several times, with the host writing free
+/// cells in between.
+fn runs_in_a_row(tally: &mut Tally, rng: &mut Rng) {
+    for _ in 0..12_000 {
+        let (layout, list) = if rng.chance(70) {
+            let (layout, words) = layout_and_routine(rng);
+            let size = 4 * bundle_count(words.len());
+            let mut list = vec![0; size];
+            let answer = native::rewrite(&layout, &words, &mut list);
+            assert_eq!(answer, Answer::Taken(size as u32));
+            (layout, list)
+        } else {
+            let bundles = 1 << rng.below(6);
+            let layout = right_layout(rng, bundles);
+            let list = shaped_list(rng, &layout, bundles);
+            (layout, list)
+        };
+        assert_eq!(check(tally, &layout, &list), Answer::Taken(0));
+        let arrows = rng.between(60, 100);
+        let start_and_table = policy(rng, layout.states, arrows);
+        let installed = as_policy(&layout, &start_and_table);
+        let mut memory = rng.cells(layout.cells as usize);
+        let record = some_record(rng);
+        let (answer, record) = install(tally, &layout, &installed, &mut memory, record);
+        assert_eq!(answer, Answer::Taken(0));
+        let mut lent = Lent {
+            record,
+            memory,
+            log: Vec::new(),
+        };
+        for _ in 0..rng.between(1, 6) {
+            lent.log = some_log(rng);
+            let budget = some_budget(rng);
+            let readings = some_readings(rng);
+            let answer = run(tally, &layout, &list, &mut lent, budget, &readings);
+            assert_ne!(answer.ending, Ending::Fault, "a passed list never faults");
+            for _ in 0..rng.below(4) {
+                let cell = rng.below(layout.cells as usize);
+                if is_free(&layout, cell as u32) {
+                    lent.memory[cell] = rng.word();
+                }
+            }
+        }
+    }
+}
+
+fn is_free(layout: &Layout, cell: u32) -> bool {
+    let sandbox = layout.sandbox_low..=layout.sandbox_high;
+    let table = layout.table..layout.table + 16 * layout.states;
+    !sandbox.contains(&cell) && !table.contains(&cell) && cell != layout.state_cell
+}
+
+/// `trial`'s sample through the wrappers for users.
+fn sample() {
+    let mut words = [0; 4];
+    assert_eq!(native::read(&SAMPLE, &mut words), Answer::Taken(4));
+    let mut commands = [0; 32];
+    let answer = native::rewrite(&TRIAL, &words, &mut commands);
+    assert_eq!(answer, Answer::Taken(32));
+    assert_eq!(native::check(&TRIAL, &commands), Answer::Taken(0));
+    let table = trial_table();
+    let policy = Policy {
+        states: 2,
+        start: 0,
+        table: &table,
+    };
+    let mut memory = [0; 1024];
+    let (answer, mut machine) = native::install(&TRIAL, &policy, &mut memory);
+    assert_eq!(answer, Answer::Taken(0));
+    let mut log = [0; 64];
+    let answer = native::run(
+        &TRIAL,
+        &commands,
+        &mut machine,
+        &mut memory,
+        1000,
+        &TRIAL_READINGS,
+        &mut log,
+    );
+    let expected = RunAnswer {
+        ending: Ending::NoArrow,
+        steps: 14,
+        pairs: 2,
+        readings: 0,
+    };
+    assert_eq!(answer, expected);
+    assert_eq!((log[..4].to_vec(), memory[0]), (vec![0, 70, 2, 70], 1));
+}
+
+#[test]
+fn the_library_does_what_the_model_does() {
+    sample();
+    type Part = fn(&mut Tally, &mut Rng);
+    let parts: [(&str, Part); 11] = [
+        ("reading", reading),
+        ("writing", writing),
+        ("each bit of an instruction", each_bit_of_an_instruction),
+        ("rewriting", rewriting),
+        ("layouts", layouts),
+        ("each bit of a bundle", each_bit_of_a_bundle),
+        ("checking", checking),
+        ("installing", installing),
+        ("each bit of a command", each_bit_of_a_command),
+        ("hand-made runs", hand_made_runs),
+        ("runs in a row", runs_in_a_row),
+    ];
+    let mut tally = Tally::default();
+    for (at, (name, part)) in parts.into_iter().enumerate() {
+        let seed = seed(2).wrapping_add(1000 * at as u64);
+        say(&format!("compare: {name}, seed {seed}"));
+        let before = tally.cases();
+        part(&mut tally, &mut Rng::new(seed));
+        say(&format!("  {} cases", tally.cases() - before));
+    }
+
+    for ((name, numbers), seen) in OPERATIONS.iter().zip(&tally.seen) {
+        let counts: Vec<String> = numbers
+            .iter()
+            .map(|&n| format!("{n}: {}", seen[n]))
+            .collect();
+        say(&format!("{name}: {}", counts.join(", ")));
+    }
+    let mut sums = [0; 26];
+    for seen in &tally.seen {
+        for (sum, count) in sums.iter_mut().zip(seen) {
+            *sum += count;
+        }
+    }
+    let numbers = (0..=13).chain(20..=25);
+    let sums: Vec<String> = numbers.map(|n| format!("{n}: {}", sums[n])).collect();
+    say(&format!("all: {}", sums.join(", ")));
+    say(&format!(
+        "{} cases; {} steps, {} pairs, {} readings; {} records with a status above 3, {} bases above 65,535",
+        tally.cases(), tally.steps, tally.pairs, tally.readings, tally.strange_status, tally.far_base
+    ));
+
+    for ((name, numbers), seen) in OPERATIONS.iter().zip(&tally.seen) {
+        for (number, &count) in seen.iter().enumerate() {
+            if numbers.contains(&number) {
+                assert!(
+                    count >= LEAST,
+                    "{name} answered {number} only {count} times"
+                );
+            } else {
+                assert_eq!(count, 0, "{name} answered {number}, which it never does");
+            }
+        }
+    }
+    assert!(tally.cases() >= LEAST_CASES);
+    assert!(tally.strange_status >= LEAST && tally.far_base >= LEAST);
+    assert!(tally.pairs >= 10_000 && tally.readings >= 10_000);
+}

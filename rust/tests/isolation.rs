@@ -1,0 +1,323 @@
+//! Isolation by running: whatever a passed list does in a row of runs, the
+//! cells outside its sandbox stay as the host has them, the table stays as
+//! installed, the state cell follows the policy, and nothing that the list
+//! does depends on the free cells or on what the logs held before.
+
+mod common;
+
+use common::*;
+use hemdroas::model::bundle_count;
+use hemdroas::model::words::{command, kind, v};
+use hemdroas::native::{check, install, rewrite, run};
+use hemdroas::{Answer, Ending, Layout, Machine, RunAnswer, Status};
+
+#[derive(PartialEq, Eq, Clone, Copy)]
+enum Zone {
+    Sandbox,
+    State,
+    Table,
+    Free,
+}
+
+fn zone(layout: &Layout, cell: usize) -> Zone {
+    let cell = cell as u32;
+    let table = layout.table..layout.table + 16 * layout.states;
+    if (layout.sandbox_low..=layout.sandbox_high).contains(&cell) {
+        Zone::Sandbox
+    } else if cell == layout.state_cell {
+        Zone::State
+    } else if table.contains(&cell) {
+        Zone::Table
+    } else {
+        Zone::Free
+    }
+}
+
+/// What one run is given; budgets, readings and log lengths are the same in
+/// both worlds.
+struct Given {
+    budget: u32,
+    readings: Vec<u32>,
+    log: usize,
+}
+
+/// What may be seen of one run.
+#[derive(Debug, PartialEq)]
+struct Seen {
+    answer: RunAnswer,
+    pairs: Vec<u32>,
+    machine: Machine,
+    state: u32,
+    sandbox: Vec<u32>,
+}
+
+#[derive(Default)]
+struct Tally {
+    lists: u64,
+    runs: u64,
+    steps: u64,
+    pairs: u64,
+    stores: u64,
+    between_keep_and_event: u64,
+    endings: [u64; 26],
+}
+
+/// Installs and runs a list in a world of its own canaries, and checks the
+/// protection of every cell on the way.
+fn world(
+    rng: &mut Rng,
+    tally: &mut Tally,
+    layout: &Layout,
+    list: &[u64],
+    start_and_table: &(u32, Vec<u8>),
+    sandbox: &[u32],
+    given: &[Given],
+) -> Vec<Seen> {
+    let inside = layout.sandbox_low as usize..=layout.sandbox_high as usize;
+    let mut memory: Vec<u32> = (0..layout.cells).map(|_| rng.word()).collect();
+    memory[inside.clone()].copy_from_slice(sandbox);
+    let mut canaries = memory.clone();
+
+    let policy = as_policy(layout, start_and_table);
+    let (answer, mut machine) = install(layout, &policy, &mut memory);
+    assert_eq!(answer, Answer::Taken(0));
+    let (start, table) = start_and_table;
+    canaries[layout.state_cell as usize] = *start;
+    for (at, &to) in table.iter().enumerate() {
+        canaries[layout.table as usize + at] = u32::from(to);
+    }
+    assert_eq!(memory, canaries, "installing writes nothing else");
+
+    let mut events = Vec::new();
+    let mut seen = Vec::new();
+    for given in given {
+        let old: Vec<u32> = (0..given.log).map(|_| rng.word()).collect();
+        let mut log = old.clone();
+        let before = memory[inside.clone()].to_vec();
+        let answer = run(
+            layout,
+            list,
+            &mut machine,
+            &mut memory,
+            given.budget,
+            &given.readings,
+            &mut log,
+        );
+        let written = 2 * answer.pairs as usize;
+        assert_eq!(log[written..], old[written..], "the log past its pairs");
+        for (cell, (&is, &was)) in memory.iter().zip(&canaries).enumerate() {
+            if matches!(zone(layout, cell), Zone::Free | Zone::Table) {
+                assert_eq!(is, was, "cell {cell} under {layout:?}, list {list:x?}");
+            }
+        }
+        assert_ne!(answer.ending, Ending::Fault, "a passed list never faults");
+
+        // The recorded events are allowed, and the state cell is where they
+        // lead; between KEEP and EVENT it is one event ahead.
+        events.extend(log[..written].chunks_exact(2).map(|pair| pair[0]));
+        let mut state = *start;
+        let mut follow = |event: u32| {
+            let to = table[(16 * state + event) as usize];
+            assert_ne!(to, 255, "event {event} without an arrow in state {state}");
+            state = u32::from(to);
+        };
+        events.iter().for_each(|&event| follow(event));
+        if machine.status == Status::Running {
+            let word = list[(machine.pc - layout.code_base) as usize];
+            if kind(word) == command::EVENT {
+                follow(v(word));
+                tally.between_keep_and_event += 1;
+            }
+        }
+        assert_eq!(memory[layout.state_cell as usize], state, "state cell");
+
+        tally.runs += 1;
+        tally.steps += u64::from(answer.steps);
+        tally.pairs += u64::from(answer.pairs);
+        tally.endings[answer.ending.number() as usize] += 1;
+        let after = &memory[inside.clone()];
+        tally.stores += before.iter().zip(after).filter(|(x, y)| x != y).count() as u64;
+        seen.push(Seen {
+            answer,
+            pairs: log[..written].to_vec(),
+            machine,
+            state,
+            sandbox: memory[inside.clone()].to_vec(),
+        });
+
+        // The host writes free cells, in each world others.
+        for _ in 0..rng.below(8) {
+            let cell = rng.below(layout.cells as usize);
+            if zone(layout, cell) == Zone::Free {
+                memory[cell] = rng.word();
+                canaries[cell] = memory[cell];
+            }
+        }
+    }
+    seen
+}
+
+/// Runs a passed list in two worlds that differ in free cells and old logs.
+fn two_worlds(rng: &mut Rng, tally: &mut Tally, layout: &Layout, list: &[u64]) {
+    let arrows = rng.between(75, 100);
+    let start_and_table = policy(rng, layout.states, arrows);
+    let length = (layout.sandbox_high - layout.sandbox_low + 1) as usize;
+    let sandbox = rng.cells(length);
+    let given: Vec<Given> = (0..rng.between(2, 7))
+        .map(|_| {
+            let budget = match rng.below(5) {
+                0 => rng.below(8),
+                1 => rng.between(300, 2000),
+                _ => rng.between(8, 300),
+            };
+            let readings = rng.pick(&[0, 1, 5, 60]);
+            Given {
+                budget: budget as u32,
+                readings: rng.cells(readings),
+                log: rng.pick(&[0, 1, 2, 5, 40, 300]),
+            }
+        })
+        .collect();
+    let mut enter = || world(rng, tally, layout, list, &start_and_table, &sandbox, &given);
+    let (one, other) = (enter(), enter());
+    assert_eq!(one, other, "two worlds under {layout:?}, list {list:x?}");
+    tally.lists += 1;
+}
+
+impl Tally {
+    fn conclude(&self, name: &str, seed: u64) {
+        let endings: Vec<String> = (20..=25)
+            .map(|n| format!("{n}: {}", self.endings[n]))
+            .collect();
+        say(&format!(
+            "isolation, {name}: seed {seed}, {} lists, {} runs, {} steps, {} pairs, {} cells altered, \
+             {} runs paused between KEEP and EVENT; {}",
+            self.lists,
+            self.runs,
+            self.steps,
+            self.pairs,
+            self.stores,
+            self.between_keep_and_event,
+            endings.join(", ")
+        ));
+        // Lists that do nothing would be isolated too.
+        assert!(self.lists >= 1000 && self.steps >= 100_000);
+        assert!(self.pairs >= 5000 && self.stores >= 5000);
+        assert!(self.between_keep_and_event >= 100);
+        for ending in [20, 21, 23, 24, 25] {
+            assert!(self.endings[ending] >= 100, "ending {ending}");
+        }
+    }
+}
+
+fn rewritten(layout: &Layout, words: &[u64]) -> Vec<u64> {
+    let mut list = vec![0; 4 * bundle_count(words.len())];
+    let size = list.len() as u32;
+    assert_eq!(rewrite(layout, words, &mut list), Answer::Taken(size));
+    list
+}
+
+#[test]
+fn rewritten_routines_are_isolated() {
+    let seed = seed(3);
+    let mut rng = Rng::new(seed);
+    let mut tally = Tally::default();
+    for _ in 0..12_000 {
+        let (layout, words) = layout_and_routine(&mut rng);
+        let list = rewritten(&layout, &words);
+        assert_eq!(check(&layout, &list), Answer::Taken(0));
+        two_worlds(&mut rng, &mut tally, &layout, &list);
+    }
+    tally.conclude("rewritten routines", seed);
+}
+
+#[test]
+fn whatever_layout_is_taken_isolates() {
+    let seed = seed(5);
+    let mut rng = Rng::new(seed);
+    let mut tally = Tally::default();
+    let (mut tried, mut taken) = (0, 0);
+    while tally.lists < 8000 {
+        let (right, words) = layout_and_routine(&mut rng);
+        let layout = senseless_layout(&mut rng, &right);
+        if layout == right {
+            continue;
+        }
+        tried += 1;
+        let mut list = vec![0; 4 * bundle_count(words.len())];
+        if rewrite(&layout, &words, &mut list).is_taken() {
+            taken += 1;
+            assert_eq!(check(&layout, &list), Answer::Taken(0));
+            two_worlds(&mut rng, &mut tally, &layout, &list);
+        }
+    }
+    say(&format!("isolation: {tried} layouts tried, {taken} taken"));
+    assert!(tried - taken >= 10_000);
+    tally.conclude("altered layouts", seed);
+}
+
+/// Alters a list somewhere, in ways that a checker might overlook.
+fn mutate(rng: &mut Rng, layout: &Layout, list: &mut [u64]) {
+    let size = list.len();
+    let (x, y) = (rng.below(size), rng.below(size));
+    match rng.below(12) {
+        0 | 1 => list[x] ^= 1 << rng.below(64),
+        2 | 3 => list[x] ^= 1 << rng.between(8, 23),
+        4 => list[x] ^= 1 << rng.between(32, 44),
+        5 => list[x] = damage_word(rng, list[x]),
+        6 => list[x] = any_command(rng, layout, size),
+        7 => list.swap(x, y),
+        8 => list[x] = list[y],
+        9 => {
+            // The first command of one bundle before the rest of another.
+            list[x & !3] = list[y & !3];
+        }
+        10 => {
+            let target = layout.code_base + rng.below(size + 2) as u32;
+            list[x] = list[x] & 0xffff_ffff | u64::from(target) << 32;
+        }
+        _ => {
+            let bundle = shaped_bundle(rng, layout, size / 4);
+            let from = x & !3;
+            list[from..from + 4].copy_from_slice(&bundle);
+        }
+    }
+}
+
+#[test]
+fn mutated_lists_that_pass_are_isolated() {
+    let seed = seed(4);
+    let mut rng = Rng::new(seed);
+    let mut tally = Tally::default();
+    let (mut tried, mut kept) = (0, 0);
+    for _ in 0..12_000 {
+        let (layout, words) = layout_and_routine(&mut rng);
+        let mut list = if rng.chance(70) {
+            rewritten(&layout, &words)
+        } else {
+            shaped_list(&mut rng, &layout, bundle_count(words.len()))
+        };
+        let original = list.clone();
+        for _ in 0..60 {
+            let before = list.clone();
+            mutate(&mut rng, &layout, &mut list);
+            if list == before {
+                continue;
+            }
+            tried += 1;
+            if check(&layout, &list).is_taken() {
+                kept += 1;
+            } else {
+                list = before;
+            }
+        }
+        if list != original {
+            two_worlds(&mut rng, &mut tally, &layout, &list);
+        }
+    }
+    say(&format!(
+        "isolation: {tried} mutations tried, {kept} passed"
+    ));
+    assert!(kept >= 10_000 && tried - kept >= 10_000);
+    tally.conclude("mutated lists", seed);
+}

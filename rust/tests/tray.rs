@@ -1,0 +1,352 @@
+//! The sample tray and the `trial` sample of the rules, on the model.
+
+mod common;
+
+use common::{trial_table, SAMPLE, TRIAL, TRIAL_READINGS};
+use hemdroas::model::words::{command, guest, pack};
+use hemdroas::model::{bundle_count, check, install, is_right, mask, read, rewrite, run, write};
+use hemdroas::{Answer, Ending, Layout, Policy, Refusal, Status};
+
+fn sandbox(low: u32, high: u32) -> Layout {
+    Layout {
+        cells: 1024,
+        sandbox_low: low,
+        sandbox_high: high,
+        state_cell: 0,
+        table: 16,
+        states: 1,
+        code_base: 0,
+    }
+}
+
+fn refused(refusal: Refusal, place: u32) -> Answer {
+    Answer::Refused { refusal, place }
+}
+
+#[test]
+fn addresses_mask_into_the_sandbox() {
+    let layout = sandbox(256, 511);
+    for (address, masked) in [(5, 261), (416, 416), (768, 256), (u32::MAX, 511)] {
+        assert_eq!(mask(&layout, address), masked);
+    }
+    assert_eq!(mask(&sandbox(7, 7), 0), 7);
+}
+
+#[test]
+fn a_sandbox_is_one_aligned_power_of_two() {
+    let crooked = sandbox(6, 9);
+    assert_eq!(mask(&crooked, 9), 15);
+    assert_eq!(check(&crooked, &[]), refused(Refusal::BadLayout, 0));
+    let fitting = Layout {
+        cells: 64,
+        ..sandbox(8, 15)
+    };
+    assert!(is_right(&fitting));
+    assert!(!is_right(&Layout {
+        sandbox_high: 13,
+        ..fitting
+    }));
+}
+
+#[test]
+fn a_layout_is_right_up_to_each_of_its_bounds() {
+    let right = Layout {
+        cells: 18,
+        sandbox_low: 17,
+        sandbox_high: 17,
+        state_cell: 16,
+        table: 0,
+        states: 1,
+        code_base: 65_535,
+    };
+    assert!(is_right(&right));
+    let wrong = [
+        Layout { cells: 17, ..right },
+        Layout {
+            cells: 4097,
+            ..right
+        },
+        Layout { states: 0, ..right },
+        Layout {
+            cells: 4096,
+            table: 100,
+            states: 17,
+            ..right
+        },
+        Layout {
+            state_cell: 17,
+            ..right
+        },
+        Layout {
+            state_cell: 15,
+            ..right
+        },
+        Layout {
+            state_cell: 18,
+            ..right
+        },
+        Layout { table: 1, ..right },
+        Layout {
+            table: u32::MAX - 15,
+            ..right
+        },
+        Layout {
+            sandbox_low: 18,
+            ..right
+        },
+        Layout {
+            sandbox_low: 0,
+            sandbox_high: u32::MAX,
+            ..right
+        },
+        Layout {
+            code_base: 65_536,
+            ..right
+        },
+    ];
+    for layout in wrong {
+        assert!(!is_right(&layout), "{layout:?}");
+    }
+    // The largest of all.
+    assert!(is_right(&Layout {
+        cells: 4096,
+        sandbox_low: 2048,
+        sandbox_high: 4095,
+        state_cell: 256,
+        table: 0,
+        states: 16,
+        code_base: 0,
+    }));
+}
+
+/// Rewrites, checks, installs and runs words under a layout, and gives the
+/// registers and the run's answer.
+fn perform(layout: &Layout, words: &[u64], budget: u32) -> ([u32; 9], u32, hemdroas::RunAnswer) {
+    let mut commands = vec![0; 4 * bundle_count(words.len())];
+    assert_eq!(
+        rewrite(layout, words, &mut commands),
+        Answer::Taken(commands.len() as u32)
+    );
+    assert_eq!(check(layout, &commands), Answer::Taken(0));
+    let table = vec![0; 16 * layout.states as usize];
+    let policy = Policy {
+        states: layout.states,
+        start: 0,
+        table: &table,
+    };
+    let mut memory = vec![0; layout.cells as usize];
+    let (answer, mut machine) = install(layout, &policy, &mut memory);
+    assert_eq!(answer, Answer::Taken(0));
+    let answer = run(
+        layout,
+        &commands,
+        &mut machine,
+        &mut memory,
+        budget,
+        &[],
+        &mut [],
+    );
+    (machine.registers, machine.pc, answer)
+}
+
+#[test]
+fn a_jump_through_a_register_reaches_the_first_command_of_a_bundle() {
+    let layout = Layout {
+        code_base: 32,
+        ..sandbox(256, 511)
+    };
+    for target in [3, 11, 0x4000_0003] {
+        let words = [
+            pack(guest::SET, 1, 0, 0, 0, target),
+            pack(guest::GOX, 1, 0, 0, 0, 0),
+            0,
+            0,
+        ];
+        // One command and its filling, then the four of the jump.
+        let (_, pc, answer) = perform(&layout, &words, 8);
+        assert_eq!((pc, answer.ending), (44, Ending::Spent));
+    }
+    let base = Layout {
+        code_base: 16,
+        ..layout
+    };
+    assert_eq!(
+        rewrite(&base, &[0; 4], &mut [0; 32]),
+        refused(Refusal::BadBase, 0)
+    );
+    assert_eq!(check(&base, &[0; 32]), refused(Refusal::BadBase, 0));
+}
+
+#[test]
+fn shifts_and_comparisons_know_the_sign() {
+    let layout = sandbox(256, 511);
+    let shift = |value: i32, by: u32| {
+        let words = [
+            pack(guest::SET, 1, 0, 0, 0, value as u32),
+            pack(guest::SAR, 2, 1, 0, 0, by),
+        ];
+        let (registers, _, answer) = perform(&layout, &words, 100);
+        assert_eq!(answer.ending, Ending::Ended);
+        registers[2] as i32
+    };
+    assert_eq!(shift(-7, 1), -4);
+    assert_eq!(shift(i32::MIN, 31), -1);
+
+    let holds = |condition: u64| {
+        let words = [
+            pack(guest::SET, 1, 0, 0, 0, u32::MAX),
+            pack(guest::GOIF, 0, 1, 0, condition, 3),
+            pack(guest::SET, 2, 0, 0, 0, 1),
+        ];
+        perform(&layout, &words, 100).0[2] == 0
+    };
+    assert!(holds(3), "-1 is less than 0");
+    assert!(!holds(2), "-1 is not below 0");
+    assert!(!holds(1));
+    assert!(holds(0));
+}
+
+#[test]
+fn a_field_that_is_zero_is_absent() {
+    let set_200: [u8; 9] = [1, 0, 0x23, 0x01, 0x01, 0xc8, 0, 0, 0];
+    let mut words = [0; 1];
+    assert_eq!(read(&set_200, &mut words), Answer::Taken(1));
+    assert_eq!(words, [pack(guest::SET, 1, 0, 0, 0, 200)]);
+    let mut bytes = [0; 9];
+    assert_eq!(write(&words, &mut bytes), Answer::Taken(9));
+    assert_eq!(bytes, set_200);
+
+    let mut bytes = [0; 9];
+    let set_0 = [pack(guest::SET, 0, 0, 0, 0, 0)];
+    assert_eq!(write(&set_0, &mut bytes), Answer::Taken(4));
+    assert_eq!(bytes[..4], [1, 0, 0x01, 0x01]);
+    assert_eq!(read(&bytes[..4], &mut words), Answer::Taken(1));
+    assert_eq!(words, set_0);
+
+    let padded = [1, 0, 0x23, 0x01, 0x01, 0, 0, 0, 0];
+    assert_eq!(
+        read(&padded, &mut words),
+        refused(Refusal::ForeignMatter, 0)
+    );
+}
+
+#[test]
+fn bundles_are_the_smallest_power_of_two_above() {
+    assert_eq!([0, 255, 256, 1023].map(bundle_count), [1, 256, 512, 1024]);
+    let mut commands = [7; 5];
+    assert_eq!(
+        rewrite(&sandbox(256, 511), &[], &mut commands),
+        Answer::Taken(4)
+    );
+    assert_eq!(commands, [command::HALT, 0, 0, 0, 7]);
+}
+
+#[test]
+fn the_longest_routine_has_1023_instructions() {
+    // Every HALT is a single map byte.
+    let bytes = |n: u16| {
+        let mut bytes = n.to_le_bytes().to_vec();
+        bytes.resize(2 + usize::from(n), 0);
+        bytes
+    };
+    let mut words = [9; 1024];
+    assert_eq!(
+        read(&bytes(1024), &mut words),
+        refused(Refusal::Oversize, 0)
+    );
+    assert_eq!(words, [9; 1024]);
+    assert_eq!(read(&bytes(1023), &mut words), Answer::Taken(1023));
+    assert_eq!(words[..1023], [0; 1023]);
+    assert_eq!(words[1023], 9);
+
+    let layout = sandbox(256, 511);
+    let mut commands = vec![0; 4096];
+    assert_eq!(
+        rewrite(&layout, &words[..1023], &mut commands),
+        Answer::Taken(4096)
+    );
+    assert_eq!(
+        rewrite(&layout, &words, &mut commands),
+        refused(Refusal::Oversize, 0)
+    );
+    assert_eq!(write(&words, &mut []), refused(Refusal::Oversize, 0));
+}
+
+/// What `trial` prints of a routine, with the model beneath.
+fn trial(bytes: &[u8]) -> String {
+    let rejected = |answer: Answer| format!("answer {}\n", answer.number());
+    let mut words = [0; 1023];
+    let count = match read(bytes, &mut words) {
+        Answer::Taken(count) => count as usize,
+        answer => return rejected(answer),
+    };
+    let mut commands = [0; 4096];
+    let size = match rewrite(&TRIAL, &words[..count], &mut commands) {
+        Answer::Taken(size) => size as usize,
+        answer => return rejected(answer),
+    };
+    let commands = &commands[..size];
+    let answer = check(&TRIAL, commands);
+    if !answer.is_taken() {
+        return rejected(answer);
+    }
+    let mut memory = [0; 1024];
+    let table = trial_table();
+    let policy = Policy {
+        states: 2,
+        start: 0,
+        table: &table,
+    };
+    let (answer, mut machine) = install(&TRIAL, &policy, &mut memory);
+    if !answer.is_taken() {
+        return rejected(answer);
+    }
+    let mut log = [0; 64];
+    let answer = run(
+        &TRIAL,
+        commands,
+        &mut machine,
+        &mut memory,
+        1000,
+        &TRIAL_READINGS,
+        &mut log,
+    );
+    let mut text = "answer 0\n".to_string();
+    for pair in log.chunks_exact(2).take(answer.pairs as usize) {
+        text += &format!("event {} {}\n", pair[0], pair[1]);
+    }
+    let (ending, steps, state) = (answer.ending.number(), answer.steps, memory[0]);
+    text + &format!("end {ending} steps {steps} state {state}\n")
+}
+
+#[test]
+fn trial_prints_the_sample() {
+    assert_eq!(
+        trial(&SAMPLE),
+        "answer 0\nevent 0 70\nevent 2 70\nend 21 steps 14 state 1\n"
+    );
+    assert_eq!(trial(&SAMPLE[..17]), "answer 1\n");
+    assert_eq!(trial(&[0, 0]), "answer 0\nend 20 steps 1 state 0\n");
+    // 1,023 instructions ask for a code base that is a multiple of 4,096.
+    let mut longest = vec![0xff, 0x03];
+    longest.resize(1025, 0);
+    assert_eq!(trial(&longest), "answer 0\nend 20 steps 1 state 0\n");
+}
+
+#[test]
+fn a_refused_installation_yields_a_faulted_machine() {
+    let mut memory = [5; 1024];
+    let table = [0; 32];
+    let policy = Policy {
+        states: 2,
+        start: 2,
+        table: &table,
+    };
+    let (answer, machine) = install(&TRIAL, &policy, &mut memory);
+    assert_eq!(answer, refused(Refusal::BadPolicy, 0));
+    assert_eq!(memory, [5; 1024]);
+    assert_eq!(
+        (machine.registers, machine.pc, machine.status),
+        ([0; 9], 0, Status::Faulted)
+    );
+}
