@@ -1,0 +1,112 @@
+/*
+ * ns a step of the proved machine and of machine.c, one beside the other in one
+ * run, medians of interleaved rounds. Every round also compares what they leave.
+ */
+#include "hemdroas.h"
+
+#include <stdio.h>
+#include <stdlib.h>
+#include <string.h>
+#include <time.h>
+
+typedef void Run(const uint32_t layout[7], const uint64_t *, size_t, uint32_t machine[11], uint32_t *, size_t, uint32_t,
+                 const uint32_t *, size_t, uint32_t *, size_t, uint32_t answer[4]);
+Run run_O2, run_O3;
+enum { KINDS = 3, MOST_ROUNDS = 1001 };
+static Run *const RUNS[KINDS] = {hemdroas_run, run_O2, run_O3};
+
+enum { U = 1024, SL = 256, SH = 511, M = 0, P = 16, S = 2, B = 4096, LOG = 800000, READINGS = 400000, BUNDLES = 8 };
+static const uint32_t layout[7] = {U, SL, SH, M, P, S, B};
+
+/* The word of a command. */
+static uint64_t word(uint64_t k, uint64_t d, uint64_t a, uint64_t b, uint64_t c, uint64_t v) {
+    return k | d << 8 | a << 12 | b << 16 | c << 20 | v << 32;
+}
+
+static uint64_t code[4 * BUNDLES];
+static uint32_t machine[KINDS][11], answer[KINDS][4], memory[KINDS][U], records[KINDS][LOG], readings[READINGS];
+static double times[KINDS][MOST_ROUNDS], ratios[KINDS][MOST_ROUNDS];
+
+static double now(void) {
+    struct timespec t;
+    clock_gettime(CLOCK_MONOTONIC, &t);
+    return t.tv_sec * 1e9 + t.tv_nsec;
+}
+static int order(const void *a, const void *b) {
+    double x = *(const double *)a, y = *(const double *)b;
+    return x < y ? -1 : x > y;
+}
+static double median(double *x, int n) {
+    qsort(x, n, sizeof *x, order);
+    return x[n / 2];
+}
+
+static void same(const char *name, size_t cells) {
+    for (int i = 1; i < KINDS; i++)
+        if (memcmp(machine[0], machine[i], sizeof machine[0]) || memcmp(answer[0], answer[i], sizeof answer[0])
+            || memcmp(memory[0], memory[i], sizeof memory[0]) || memcmp(records[0], records[i], cells * sizeof records[0][0])) {
+            printf("%s: the proved machine and C differ\n", name);
+            exit(1);
+        }
+}
+
+/* All cells 0: in state 0 every event leads to state 0. */
+static void fresh(int i) {
+    memset(memory[i], 0, sizeof memory[i]);
+    memset(machine[i], 0, sizeof machine[i]);
+    machine[i][9] = B;
+}
+
+static void measure(const char *name, size_t cells, size_t count, int rounds) {
+    for (int q = 0; q < rounds; q++) {
+        for (int i = 0; i < KINDS; i++) {
+            int j = (i + q) % KINDS;
+            fresh(j);
+            double t = now();
+            RUNS[j](layout, code, 4 * BUNDLES, machine[j], memory[j], U, 4000000000u, readings, count, records[j], cells, answer[j]);
+            times[j][q] = (now() - t) / (double)answer[j][1];
+        }
+        same(name, cells);
+        for (int i = 1; i < KINDS; i++) ratios[i][q] = times[0][q] / times[i][q];
+    }
+    printf("%-8s %8u steps, ending %u | ns/step: proved %.2f, gcc -O2 %.2f, gcc -O3 %.2f | ratio to -O2 %.2f, to -O3 %.2f\n", name,
+           answer[0][1], answer[0][0], median(times[0], rounds), median(times[1], rounds), median(times[2], rounds),
+           median(ratios[1], rounds), median(ratios[2], rounds));
+}
+
+/* r1 counts from 0 to 100,000 by r2 = 1; the turn's bundles start at 1, the jump back is the bundle `last`, HALT follows. */
+static void counted(int last) {
+    memset(code, 0, sizeof code);
+    code[0] = word(2, 1, 0, 0, 0, 0), code[1] = word(2, 2, 0, 0, 0, 1), code[2] = word(2, 3, 0, 0, 0, 100000);
+    code[4 * last - 4] = word(4, 1, 1, 2, 0, 0);
+    code[4 * last] = word(14, 0, 1, 3, 2, B + 4);
+    code[4 * last + 4] = 1;
+}
+
+static void mask(int g) {
+    code[4 * g] = word(9, 8, 1, 0, 0, SH), code[4 * g + 1] = word(10, 8, 8, 0, 0, SL);
+}
+
+static void event(int g, int n) {
+    code[4 * g] = word(16, 8, 0, 0, 0, n), code[4 * g + 1] = word(17, 8, 0, 0, 0, 0);
+    code[4 * g + 2] = word(18, 8, 0, 0, 0, 0), code[4 * g + 3] = word(19, 0, 0, 0, 0, n);
+}
+
+int main(int argc, char **argv) {
+    int rounds = argc > 1 ? atoi(argv[1]) : 101;
+    if (rounds < 1 || rounds > MOST_ROUNDS) rounds = 101;
+    for (uint32_t i = 0; i < READINGS; i++) readings[i] = i * 2654435761u;
+
+    /* a store, a load and two adds in each turn */
+    counted(5);
+    mask(1), code[6] = word(13, 0, 8, 1, 0, 0);
+    mask(2), code[10] = word(12, 4, 8, 0, 0, 0);
+    code[12] = word(4, 5, 5, 4, 0, 0);
+    measure("arith", 64, 0, rounds);
+
+    /* an order and a reading in each turn */
+    counted(4);
+    event(1, 1), event(2, 9);
+    measure("events", LOG, READINGS, rounds);
+    return 0;
+}
