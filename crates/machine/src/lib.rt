@@ -24,17 +24,18 @@ ghost use Rattle.rules.specs.declared.Effect.the-variants.{Go, Put, Cell, End};
 ghost use Rattle.rules.specs.Names.{registers, events, noArrow, answer};
 ghost use Rattle.rules.specs.Policies.{policyOf, entriesRight, rightPolicy};
 ghost use Rattle.rules.specs.Commands.{isCommand, commandOf, holdsOf, fetchOf};
-ghost use Rattle.rules.specs.Machines.{machineOf, machineRefused, viewOf, effectOf, eventEffect, stateOf, applyOf, withPair, endingOf, outcomeOf, ranOf, runFrom, runOf, installOf, installMemory};
+ghost use Rattle.rules.specs.Machines.{machineOf, machineRefused, onward, viewOf, effectOf, eventEffect, stateOf, applyOf, withPair, endingOf, outcomeOf, ranOf, runFrom, runOf, installOf, installMemory};
 
 // ---- what a command would do
 
-fn target(c: u64, x: u32, y: u32, to: u32, next: u32) -> Effect
-    ensures { λ r. ⌜ r ≡ Go (cond (holdsOf c x y) to next) ⌝ }
+// The next pc is formed only in the arms that need it, which keeps a register free across the match.
+fn target(c: u64, x: u32, y: u32, to: u32, pc: u32) -> Effect
+    ensures { λ r. ⌜ r ≡ Go (cond (holdsOf c x y) to (onward pc)) ⌝ }
 {
     if arith::holds(c, x, y) {
         return Effect::Go(to);
     }
-    Effect::Go(next)
+    Effect::Go(arith::add(pc, 1))
 }
 
 fn load(d: usize, at: u32, memory: &[u32]) -> Effect
@@ -72,13 +73,13 @@ fn look(d: usize, cell: u32, table: u32, v: u32, memory: &[u32]) -> Effect
     Effect::End(Status::Faulted)
 }
 
-fn stop_if(x: u32, next: u32) -> Effect
-    ensures { λ r. ⌜ r ≡ cond (eqb x noArrow) (End Stopped) (Go next) ⌝ }
+fn stop_if(x: u32, pc: u32) -> Effect
+    ensures { λ r. ⌜ r ≡ cond (eqb x noArrow) (End Stopped) (Go (onward pc)) ⌝ }
 {
     if x == Policy::NO_ARROW {
         return Effect::End(Status::Stopped);
     }
-    Effect::Go(next)
+    Effect::Go(arith::add(pc, 1))
 }
 
 // An event, or the pause before it: the log comes before the readings.
@@ -119,9 +120,8 @@ fn act(
     let v = (w >> 32) as u32;
     let x = regs[a];
     let y = regs[b];
-    let next = arith::add(pc, 1);
     match k {
-        0 => Effect::Go(next),
+        0 => Effect::Go(arith::add(pc, 1)),
         1 => Effect::End(Status::Ended),
         2 => Effect::Put(d, v),
         3 => Effect::Put(d, x),
@@ -135,10 +135,10 @@ fn act(
         11 => Effect::Put(d, arith::shl(x, v)),
         12 => load(d, x, memory),
         13 => store(x, y, memory),
-        14 => target(c, x, y, v, next),
-        15 => target(c, x, y, regs[d], next),
+        14 => target(c, x, y, v, pc),
+        15 => target(c, x, y, regs[d], pc),
         16 => look(d, cell, table, v, memory),
-        17 => stop_if(regs[d], next),
+        17 => stop_if(regs[d], pc),
         18 => store(cell, regs[d], memory),
         19 => event(v, free, left),
         _ => Effect::End(Status::Faulted),

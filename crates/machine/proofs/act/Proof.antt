@@ -13,8 +13,8 @@ use Rattle.machine.proofs.act.Statement.{statement}
 use Rattle.machine.proofs.act.Tie as tie
 
 -- what the function requires, where the match begins
-ok : (c : tie.After-add) → isCommand (c .before .before .before .before .args .w) ≡ true
-ok c = c .before .before .before .before .pre
+ok : (c : tie.After-y) → isCommand (c .before .before .before .args .w) ≡ true
+ok c = c .before .before .before .pre
 
 pub act-spec : {M : Type 1} → statement M
 unfolding effectOf plainOf
@@ -45,7 +45,7 @@ act-spec =
     (λ c. let n = named-in _ (ok (c .before)) in omega arith)
     (λ c κs. search needs)
     (λ c κs. search needs)
-    (λ c. arm _ 0 _ _ (ok (c .before)) (c .match .keys1) (ap Go (c .before .add .ensures)))
+    (λ c. arm _ 0 _ _ (ok (c .before .before)) (c .before .match .keys1) (ap Go (c .add .ensures)))
     (λ c. arm _ 1 _ _ (ok (c .before)) (c .match .keys2) (refl))
     (λ c. arm _ 2 _ _ (ok (c .before)) (c .match .keys3) (refl))
     (λ c. arm _ 3 _ _ (ok (c .before)) (c .match .keys4) (refl))
@@ -59,10 +59,10 @@ act-spec =
     (λ c. arm _ 11 _ _ (ok (c .before .before)) (c .before .match .keys12) (rw (c .shl .ensures)))
     (λ c. arm _ 12 _ _ (ok (c .before .before)) (c .before .match .keys13) (c .load .ensures))
     (λ c. arm _ 13 _ _ (ok (c .before .before)) (c .before .match .keys14) (c .store .ensures))
-    (λ c. arm _ 14 _ _ (ok (c .before .before)) (c .before .match .keys15) (rw (← c .before .before .add .ensures) (c .target .ensures)))
-    (λ c. arm _ 15 _ _ (ok (c .before .before .before)) (c .before .before .match .keys16) (rw (← c .before .before .before .add .ensures) (c .target2 .ensures)))
+    (λ c. arm _ 14 _ _ (ok (c .before .before)) (c .before .match .keys15) (c .target .ensures))
+    (λ c. arm _ 15 _ _ (ok (c .before .before .before)) (c .before .before .match .keys16) (c .target2 .ensures))
     (λ c. arm _ 16 _ _ (ok (c .before .before)) (c .before .match .keys17) (c .look .ensures))
-    (λ c. arm _ 17 _ _ (ok (c .before .before .before)) (c .before .before .match .keys18) (rw (← c .before .before .before .add .ensures) (c .stop-if .ensures)))
+    (λ c. arm _ 17 _ _ (ok (c .before .before .before)) (c .before .before .match .keys18) (c .stop-if .ensures))
     (λ c. arm _ 18 _ _ (ok (c .before .before .before)) (c .before .before .match .keys19) (c .store2 .ensures))
     (λ c. arm _ 19 _ _ (ok (c .before .before)) (c .before .match .keys20) (c .event .ensures))
-    (λ c. let w = c .before .before .before .before .before .args .w in let h : 20 ≤ kindOf w = past Unit (kindOf w) 0 20 zero-le (c .match .rest) in let i : kindOf w < 20 = kind-in w (ok (c .before)) in absurd (omega arith)))
+    (λ c. let w = c .before .before .before .before .args .w in let h : 20 ≤ kindOf w = past Unit (kindOf w) 0 20 zero-le (c .match .rest) in let i : kindOf w < 20 = kind-in w (ok (c .before)) in absurd (omega arith)))
