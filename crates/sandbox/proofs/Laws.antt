@@ -1,11 +1,11 @@
 -- Laws of loading, one for each way out of the code.
-use Prim.Native.Nat.{ℕ, zero, suc, _+_, _-_, _≤_, _<_}
+use Prim.Native.Nat.{ℕ, _+_, _-_, _≤_, _<_}
 use mathlib.Core.Path.{_≡_, refl, sym, ap, _∙_}
 use mathlib.Core.Bool.{Bool, true, false, cond}
 use mathlib.Core.Logic.{⊎-elim}
 use mathlib.Core.List.{List, [], _∷_, _++_}
 use native.Mathlib.Omega.{arith}
-use lib.ListN.{length, take, drop, length-append, length-drop, length-take}
+use lib.ListN.{length, take, drop, length-append}
 use lib.Seq.{take-at, length-take-le}
 use lib.Dec.{eqb, ltb}
 use borrow.Author.Tests.{eq-eqb, ne-eqb, eqb-true, eqb-false, lt-ltb, le-ltb, ltb-false}
@@ -18,7 +18,7 @@ use Rattle.rules.specs.Names.{mostInstructions, answer, refusal}
 use Rattle.rules.specs.Layouts.{rightLayout}
 use Rattle.rules.specs.Policies.{Policy}
 use Rattle.rules.specs.Words.{judgeAt, bundlesFor}
-use Rattle.rules.specs.Bytes.{countOf, wordsOf, readAnswer, readOutput, roomFor}
+use Rattle.rules.specs.Bytes.{countOf, readAnswer, readOutput, roomFor}
 use Rattle.rules.specs.Bundles.{baseRight, commandsOf, commandCount, judgeFrom, placeAnswer, rewriteAnswer, rewriteOutput, checkAnswer}
 use Rattle.rules.specs.Machines.{machineRefused, installAnswer, installMemory, installMachine, installOf}
 use Rattle.rules.specs.Loading.{wordsIn, orElse, loadAnswer, loadCommands, loadMemory, loadMachine, loadOf}

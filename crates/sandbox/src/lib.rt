@@ -111,8 +111,8 @@ pub fn load(
 {
     let mut list = [0u64; 4096];
     let a = translate(layout, bytes, commands.len(), &mut list);
-    let refused = a.number;
-    if refused != Refusal::TAKEN {
+    let rejected = a.number;
+    if rejected != Refusal::TAKEN {
         return Installed {
             machine: Machine::refused(),
             answer: a,

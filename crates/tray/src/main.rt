@@ -2,7 +2,8 @@
 // damaged routines for each number by which reading and rewriting refuse. A line each: the case,
 // its answer's number and its place.
 use libc::STDOUT_FILENO;
-use rules::{Answer, Layout};
+use rules::Answer;
+use rules::Layout;
 
 fn print(text: &[u8], n: u64) {
     io::write_all(STDOUT_FILENO, text);
@@ -48,14 +49,20 @@ fn short() {
     reads(b"read half_a_count", b"\x01");
     reads(b"read no_instruction", b"\x01\x00");
     reads(b"read second_missing", b"\x02\x00\x00");
-    reads(b"read three_bytes_of_v", b"\x01\x00\x23\x01\x01\xc8\x00\x00");
+    reads(
+        b"read three_bytes_of_v",
+        b"\x01\x00\x23\x01\x01\xc8\x00\x00",
+    );
 }
 
 fn foreign() {
     reads(b"read map_64", b"\x01\x00\x40");
     reads(b"read present_0", b"\x01\x00\x23\x01\x01\x00\x00\x00\x00");
     reads(b"read halt_with_d", b"\x01\x00\x02\x01");
-    reads(b"read foreign_before_register_8", b"\x01\x00\x0b\x02\x08\x01");
+    reads(
+        b"read foreign_before_register_8",
+        b"\x01\x00\x0b\x02\x08\x01",
+    );
 }
 
 fn unknown() {
@@ -123,7 +130,11 @@ fn lists(layout: Layout) {
 }
 
 fn layouts() {
-    rewrites(b"rewrite sandbox_6_to_9", Layout::new(64, 6, 9, 0, 16, 1, 0), &[0xd]);
+    rewrites(
+        b"rewrite sandbox_6_to_9",
+        Layout::new(64, 6, 9, 0, 16, 1, 0),
+        &[0xd],
+    );
     rewrites(b"rewrite base_16_of_7", drum(16), &[0, 0, 0, 0, 0, 0, 0]);
     rewrites(b"rewrite base_32_of_7", drum(32), &[0, 0, 0, 0, 0, 0, 0]);
     rewrites_to_7(b"rewrite base_before_room", drum(4), &[0]);

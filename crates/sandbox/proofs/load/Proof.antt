@@ -9,12 +9,6 @@ use Rattle.sandbox.proofs.Laws.{not-translated, not-installed, loaded}
 use borrow.Author.Needs.{needs}
 use Rattle.sandbox.proofs.load.Statement.{statement}
 use Rattle.sandbox.proofs.load.Tie as tie
-use Rattle.sandbox.proofs.load.Reads as reads
-use Rattle.sandbox.proofs.load.Lts as lts
-use Rattle.machine.proofs.install.Reads as install-reads
-use Rattle.rules.proofs.Machine.refused.Reads as refused-reads
-use Rattle.sandbox.proofs.copy.Reads as copy-reads
-use Rattle.sandbox.proofs.translate.Reads as translate-reads
 
 slice-aggregate-translate : tie.Need-slice-aggregate-translate
 slice-aggregate-translate c = search needs

@@ -1,12 +1,8 @@
+-- `sandbox::translate` meets its contract: reading, rewriting and the room first, then the check.
 use borrow.Author.Needs.{needs}
 use Rattle.sandbox.proofs.Laws.{long, translated}
 use Rattle.sandbox.proofs.translate.Statement.{statement}
 use Rattle.sandbox.proofs.translate.Tie as tie
-use Rattle.sandbox.proofs.translate.Reads as reads
-use Rattle.sandbox.proofs.translate.Lts as lts
-use Rattle.sandbox.proofs.checked.Reads as checked-reads
-use Rattle.sandbox.proofs.in_room.Reads as in-room-reads
-use Rattle.sandbox.proofs.write_commands.Reads as write-commands-reads
 
 write-commands-requires : tie.Need-write-commands-requires
 write-commands-requires c κs = search needs

@@ -5,10 +5,6 @@ use lib.Seq.{length-take-le}
 use Rattle.sandbox.proofs.Laws.{not-read, read-length, rewrote}
 use Rattle.sandbox.proofs.write_commands.Statement.{statement}
 use Rattle.sandbox.proofs.write_commands.Tie as tie
-use Rattle.sandbox.proofs.write_commands.Reads as reads
-use Rattle.sandbox.proofs.write_commands.Lts as lts
-use Rattle.codec.proofs.read.Reads as read-reads
-use Rattle.rewriter.proofs.rewrite.Reads as rewrite-reads
 
 slice-aggregate-read : tie.Need-slice-aggregate-read
 slice-aggregate-read c = search needs
