@@ -200,7 +200,7 @@ pub extern "C" fn hemdroas_install(
     ensures memory { λ _. ⌜ now (memory .exit) ≡ installMemory (layoutFrom (now (layout .entry))) (policyOf states start (now (table .entry))) (now (memory .entry)) ⌝ }
 {
     let policy = Policy { states, start };
-    let done = machine::install(layout_of(*layout), policy, table, memory);
+    let done = installer::install(layout_of(*layout), policy, table, memory);
     *machine = record_of(done.machine);
     *answer = answer_of(done.answer);
 }

@@ -1,30 +1,26 @@
-// The stepping machine: a pure decision, what the word at pc would do, and its application; runs, steps and installing.
-use rules::Answer;
+// The stepping machine: a pure decision, what the word at pc would do, and its application; runs and steps, the record by value.
 use rules::Effect;
 use rules::Ending;
-use rules::Installed;
 use rules::Layout;
 use rules::Machine;
 use rules::Outcome;
 use rules::Policy;
-use rules::Refusal;
 use rules::RunAnswer;
 use rules::Status;
 use words::arith;
+use words::cells;
 use words::command;
 use words::layout;
 ghost use mathlib.Core.Path.{_≡_};
 ghost use mathlib.Core.Bool.{true, cond};
 ghost use Prim.Native.Nat.{_+_, _*_, _<_, _^_};
 ghost use lib.ListN.{length, getD, set};
-ghost use lib.Seq.{sets};
 ghost use lib.Dec.{ltb, eqb};
 ghost use Rattle.rules.specs.declared.Status.the-variants.{Running, Stopped, Faulted};
 ghost use Rattle.rules.specs.declared.Effect.the-variants.{Go, Put, Cell, End};
-ghost use Rattle.rules.specs.Names.{registers, events, noArrow, answer};
-ghost use Rattle.rules.specs.Policies.{policyOf, entriesRight, rightPolicy};
+ghost use Rattle.rules.specs.Names.{registers, events, noArrow};
 ghost use Rattle.rules.specs.Commands.{isCommand, commandOf, holdsOf, fetchOf};
-ghost use Rattle.rules.specs.Machines.{machineOf, machineRefused, onward, viewOf, effectOf, eventEffect, stateOf, applyOf, withPair, endingOf, outcomeOf, ranOf, runFrom, runOf, installOf, installMemory};
+ghost use Rattle.rules.specs.Machines.{machineOf, onward, viewOf, effectOf, eventEffect, stateOf, applyOf, withPair, endingOf, outcomeOf, ranOf, runFrom, runOf};
 
 // ---- what a command would do
 
@@ -198,22 +194,13 @@ fn put(regs: &mut [u32; 9], i: usize, x: u32)
     }
 }
 
-// A cell set; nothing where there is none.
-fn poke(cells: &mut [u32], at: usize, x: u32)
-    ensures { λ _. ⌜ now (cells .exit) ≡ set (now (cells .entry)) at x ⌝ }
-{
-    if at < cells.len() {
-        cells[at] = x;
-    }
-}
-
 // Pair n into the log.
 fn put_pair(log: &mut [u32], n: usize, e: u32, x: u32)
     requires { ⌜ n < 2 ^ 62 ⌝ }
     ensures { λ _. ⌜ now (log .exit) ≡ withPair (now (log .entry)) n e x ⌝ }
 {
-    poke(log, 2 * n, e);
-    poke(log, 2 * n + 1, x);
+    cells::poke(log, 2 * n, e);
+    cells::poke(log, 2 * n + 1, x);
 }
 
 // A reading; 0 where there is none.
@@ -266,7 +253,7 @@ fn apply(
             }
         }
         Effect::Cell(at, x) => {
-            poke(memory, at, x);
+            cells::poke(memory, at, x);
             Next {
                 pc: next,
                 status: Status::Running,
@@ -425,141 +412,4 @@ pub fn step_value(
     ensures { λ r. ⌜ ranOf r (now (memory .exit)) (now (log .exit)) ≡ runOf layout (now (commands .entry)) machine (now (memory .entry)) 1 (now (readings .entry)) (now (log .entry)) ⌝ }
 {
     run_value(layout, commands, machine, memory, 1, readings, log)
-}
-
-// ---- installing
-
-// Whether every byte of a table is a state or no arrow.
-fn entries_right(states: u32, table: &[u8]) -> bool
-    ensures { λ r. ⌜ r ≡ entriesRight states (now (table .entry)) ⌝ }
-{
-    let mut i: usize = 0;
-    while i < table.len() {
-        let b = table[i] as u32;
-        let known = (b < states) | (b == Policy::NO_ARROW);
-        if !known {
-            return false;
-        }
-        i = i + 1;
-    }
-    true
-}
-
-// The table's bytes into the cells from an address on.
-fn store_table(memory: &mut [u32], at: u32, table: &[u8])
-    ensures { λ _. ⌜ now (memory .exit) ≡ sets (now (memory .entry)) at (now (table .entry)) ⌝ }
-{
-    let first = at as usize;
-    let mut i: usize = 0;
-    while i < table.len() {
-        poke(memory, first + i, table[i] as u32);
-        i = i + 1;
-    }
-}
-
-// Whether a policy can be installed under a layout: 10's four conditions.
-fn policy_right(layout: Layout, policy: Policy, table: &[u8]) -> bool
-    ensures { λ r. ⌜ r ≡ rightPolicy layout (policyOf (policy .states) (policy .start) (now (table .entry))) ⌝ }
-{
-    let states = policy.states;
-    let entries = entries_right(states, table);
-    (states == layout.states)
-        & (table.len() == Policy::EVENTS as usize * states as usize)
-        & (policy.start < states)
-        & entries
-}
-
-fn refused(number: u8) -> Installed
-    ensures { λ r. ⌜ r ≡ record { machine = machineRefused; answer = answer number 0 } ⌝ }
-{
-    let machine = Machine::refused();
-    Installed {
-        machine,
-        answer: Answer { number, place: 0 },
-    }
-}
-
-// Installing a policy: the start state to the state cell and the table to its cells, nothing else.
-pub fn install(layout: Layout, policy: Policy, table: &[u8], memory: &mut [u32]) -> Installed
-    ensures { λ r. ⌜ r ≡ installOf layout (policyOf (policy .states) (policy .start) (now (table .entry))) (now (memory .entry)) ⌝ }
-    ensures leaves { λ _. ⌜ now (memory .exit) ≡ installMemory layout (policyOf (policy .states) (policy .start) (now (table .entry))) (now (memory .entry)) ⌝ }
-{
-    let fits = layout::right(layout) & (memory.len() == layout.size as usize);
-    if !fits {
-        return refused(Refusal::BAD_LAYOUT);
-    }
-    if !policy_right(layout, policy, table) {
-        return refused(Refusal::BAD_POLICY);
-    }
-    poke(memory, layout.cell as usize, policy.start);
-    store_table(memory, layout.table, table);
-    let machine = Machine::new(layout.base);
-    Installed {
-        machine,
-        answer: Answer {
-            number: Refusal::TAKEN,
-            place: 0,
-        },
-    }
-}
-
-// ---- the record lent
-
-// A run: the record is copied out, run by value, and stored back whole.
-pub fn run(
-    layout: Layout,
-    commands: &[u64],
-    machine: &mut Machine,
-    memory: &mut [u32],
-    budget: u32,
-    readings: &[u32],
-    log: &mut [u32],
-) -> RunAnswer
-    ensures answer { λ r. ⌜ r ≡ runOf layout (now (commands .entry)) (now (machine .entry)) (now (memory .entry)) budget (now (readings .entry)) (now (log .entry)) .outcome .answer ⌝ }
-    ensures machine { λ _. ⌜ now (machine .exit) ≡ runOf layout (now (commands .entry)) (now (machine .entry)) (now (memory .entry)) budget (now (readings .entry)) (now (log .entry)) .outcome .machine ⌝ }
-    ensures memory { λ _. ⌜ now (memory .exit) ≡ runOf layout (now (commands .entry)) (now (machine .entry)) (now (memory .entry)) budget (now (readings .entry)) (now (log .entry)) .mem ⌝ }
-    ensures log { λ _. ⌜ now (log .exit) ≡ runOf layout (now (commands .entry)) (now (machine .entry)) (now (memory .entry)) budget (now (readings .entry)) (now (log .entry)) .log ⌝ }
-{
-    let out = run_value(layout, commands, *machine, memory, budget, readings, log);
-    *machine = out.machine;
-    out.answer
-}
-
-// One step of a lent record.
-pub fn step(
-    layout: Layout,
-    commands: &[u64],
-    machine: &mut Machine,
-    memory: &mut [u32],
-    readings: &[u32],
-    log: &mut [u32],
-) -> RunAnswer
-    ensures answer { λ r. ⌜ r ≡ runOf layout (now (commands .entry)) (now (machine .entry)) (now (memory .entry)) 1 (now (readings .entry)) (now (log .entry)) .outcome .answer ⌝ }
-    ensures machine { λ _. ⌜ now (machine .exit) ≡ runOf layout (now (commands .entry)) (now (machine .entry)) (now (memory .entry)) 1 (now (readings .entry)) (now (log .entry)) .outcome .machine ⌝ }
-    ensures memory { λ _. ⌜ now (memory .exit) ≡ runOf layout (now (commands .entry)) (now (machine .entry)) (now (memory .entry)) 1 (now (readings .entry)) (now (log .entry)) .mem ⌝ }
-    ensures log { λ _. ⌜ now (log .exit) ≡ runOf layout (now (commands .entry)) (now (machine .entry)) (now (memory .entry)) 1 (now (readings .entry)) (now (log .entry)) .log ⌝ }
-{
-    let out = step_value(layout, commands, *machine, memory, readings, log);
-    *machine = out.machine;
-    out.answer
-}
-
-// A run by value through the lent form: the record stands in a local.
-pub fn run_lent(
-    layout: Layout,
-    commands: &[u64],
-    machine: Machine,
-    memory: &mut [u32],
-    budget: u32,
-    readings: &[u32],
-    log: &mut [u32],
-) -> Outcome
-    ensures { λ r. ⌜ ranOf r (now (memory .exit)) (now (log .exit)) ≡ runOf layout (now (commands .entry)) machine (now (memory .entry)) budget (now (readings .entry)) (now (log .entry)) ⌝ }
-{
-    let mut lent = machine;
-    let answer = run(layout, commands, &mut lent, memory, budget, readings, log);
-    Outcome {
-        machine: lent,
-        answer: answer,
-    }
 }

@@ -118,7 +118,7 @@ pub fn load(
             answer: a,
         };
     }
-    let i = machine::install(layout, policy, table, memory);
+    let i = installer::install(layout, policy, table, memory);
     let b = i.answer;
     let unfit = b.number;
     if unfit != Refusal::TAKEN {

@@ -1,4 +1,3 @@
-use native.Mathlib.Omega.{arith}
 use Rattle.capi.proofs.Hosting.{machine-of}
 use borrow.Author.Needs.{needs}
 use Rattle.capi.proofs.machine_of.Statement.{statement}

@@ -1,5 +1,4 @@
 use borrow.Author.Tests.{ne-eqb}
-use borrow.Author.Needs.{needs}
 use Rattle.capi.proofs.status_of.Statement.{statement}
 use Rattle.capi.proofs.status_of.Tie as tie
 

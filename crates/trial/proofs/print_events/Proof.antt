@@ -4,9 +4,6 @@ use native.Mathlib.Omega.{arith}
 use borrow.Author.Needs.{needs}
 use Rattle.trial.proofs.print_events.Statement.{statement}
 use Rattle.trial.proofs.print_events.Tie as tie
-use Rattle.trial.proofs.print_events.Reads as reads
-use Rattle.trial.proofs.print_events.Lts as lts
-use Rattle.trial.proofs.print_event.Reads as print-event-reads
 
 abbrev Inv-loop : tie.InvT-loop
 Inv-loop log pairs i₀ i = i ≤ pairs

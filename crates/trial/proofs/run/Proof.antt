@@ -12,7 +12,7 @@ use Rattle.trial.proofs.run.Statement.{statement}
 use Rattle.trial.proofs.run.Tie as tie
 use Rattle.trial.proofs.run.Reads as reads
 use Rattle.trial.proofs.run.Lts as lts
-use Rattle.machine.proofs.run_lent.Reads as run-lent-reads
+use Rattle.lent.proofs.run_lent.Reads as run-lent-reads
 use Rattle.sandbox.proofs.ending_number.Reads as ending-number-reads
 use Rattle.trial.proofs.print_end.Reads as print-end-reads
 use Rattle.trial.proofs.print_events.Reads as print-events-reads

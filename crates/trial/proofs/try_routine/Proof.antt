@@ -4,12 +4,6 @@ use lib.Seq.{length-take-le}
 use borrow.Author.Needs.{needs}
 use Rattle.trial.proofs.try_routine.Statement.{statement}
 use Rattle.trial.proofs.try_routine.Tie as tie
-use Rattle.trial.proofs.try_routine.Reads as reads
-use Rattle.trial.proofs.try_routine.Lts as lts
-use Rattle.rules.proofs.Layout.new.Reads as new-reads
-use Rattle.sandbox.proofs.load.Reads as load-reads
-use Rattle.trial.proofs.print_answer.Reads as print-answer-reads
-use Rattle.trial.proofs.run.Reads as run-reads
 
 new-requires : tie.Need-new-requires
 new-requires c κs = search needs

@@ -56,15 +56,15 @@ use Rattle.rules.proofs.RunAnswer as N
 use Rattle.rules.proofs.RunAnswer.Laws as N′
 use Rattle.rules.proofs.Outcome as O
 use Rattle.rules.proofs.Outcome.Laws as O′
-use Rattle.machine.proofs.Lent.{lends, back}
-use Rattle.machine.proofs.run as run
-use Rattle.machine.proofs.run.Symbol as run-def
-use Rattle.machine.proofs.run.Symbol.{name as #machine·run}
-use Rattle.machine.proofs.run.Met as run-thm
-use Rattle.machine.proofs.run_lent.Key.{name as #machine·run-lent}
-use Rattle.machine.proofs.run_lent as run-lent
-use Rattle.machine.proofs.run_lent.Statement as stated
-use Rattle.machine.proofs.run_lent.Code as code
+use Rattle.lent.proofs.Lent.{lends, back}
+use Rattle.lent.proofs.run as run
+use Rattle.lent.proofs.run.Symbol as run-def
+use Rattle.lent.proofs.run.Symbol.{name as #lent·run}
+use Rattle.lent.proofs.run.Met as run-thm
+use Rattle.lent.proofs.run_lent.Key.{name as #lent·run-lent}
+use Rattle.lent.proofs.run_lent as run-lent
+use Rattle.lent.proofs.run_lent.Statement as stated
+use Rattle.lent.proofs.run_lent.Code as code
 
 abbrev stayed : Stays (run-lent.ended .signature .params) (run-lent.ended .kept)
 stayed = (
@@ -175,7 +175,7 @@ module _ {M : Type 1} (𝓤 : URA M) (H : Heap 𝓤) (A : Atoms 𝓤) (W : Given
       owned ! T.the-row (Is T.the-row) (LL.makes T.the-type T′.the-plain 𝓤 H A) h _ h-is $ fjoin ! $ move ! (1 ∷ 0 ∷ []) $ fjoin ! $ owned ! L.the-row (Is L.the-row) (LL.makes L.the-type L′.the-plain 𝓤 H A) y _ y-is $ fjoin ! $
       owned ! O.the-row (Is O.the-row) (LL.makes O.the-type O′.the-plain 𝓤 H A) (out m r) _ is $ move ! (1 ∷ 0 ∷ []) $ done !
 
-  module _ (C : Calls 𝓤 H) (Λ : Loops 𝓤 H) (fm : FmC 𝓤 H (W .laws) C) (known : Triple 𝓤 (C #machine·run) (Run 𝓤 H A at-mem rn)) where
+  module _ (C : Calls 𝓤 H) (Λ : Loops 𝓤 H) (fm : FmC 𝓤 H (W .laws) C) (known : Triple 𝓤 (C #lent·run) (Run 𝓤 H A at-mem rn)) where
     walk : Room u64 (length (cs .now)) → Room u32 (length (ms .now)) → Room u32 (length (rs .now)) → Room u32 (length (gs .now))
         → ent 𝓤 (onEntry 𝓤 H A run-lent.signature κs qs a (vals (mach h))) (WpFn 𝓤 H C Λ code.function (lay y ∷ sl cs ∷ mach h ∷ sl ms ∷ vint w32 n ∷ sl rs ∷ sl gs ∷ []) Post)
     walk cs-room ms-room rs-room gs-room =
@@ -223,7 +223,7 @@ module _ {M : Type 1} (𝓤 : URA M) (H : Heap 𝓤) (A : Atoms 𝓤) (W : Given
         keep ! (2 ∷ 1 ∷ 7 ∷ 6 ∷ 8 ∷ 4 ∷ []) $ by ! (exits (zs .1 .1 .0) r (zs .1 .1 .1 .0) (zs .1 .1 .1 .1 .1 .1 .0) (out-is (zs .1 .1 .0) r _ g is) e₁ e₂ e₃ e₄ l l′)))))))))))))))))))))))))))))))
 
 module _ {M : Type 1} (𝓤 : URA M) (H : Heap 𝓤) (A : Atoms 𝓤) (W : Given 𝓤 H A) (at-mem : Memory → SProp 𝓤) (rn : Routine → Fun 𝓤) where
-  run-lent-walks : (C : Calls 𝓤 H) (Λ : Loops 𝓤 H) → FmC 𝓤 H (W .laws) C → Triple 𝓤 (C #machine·run) (Run 𝓤 H A at-mem rn) → Walks 𝓤 H A run-lent.ended stayed (WpFn 𝓤 H C Λ code.function) (run-lent.clauses 𝓤 H A at-mem rn)
+  run-lent-walks : (C : Calls 𝓤 H) (Λ : Loops 𝓤 H) → FmC 𝓤 H (W .laws) C → Triple 𝓤 (C #lent·run) (Run 𝓤 H A at-mem rn) → Walks 𝓤 H A run-lent.ended stayed (WpFn 𝓤 H C Λ code.function) (run-lent.clauses 𝓤 H A at-mem rn)
   run-lent-walks C Λ fm known = walked 𝓤 H A run-lent.ended stayed (run-lent.clauses 𝓤 H A at-mem rn) (WpFn 𝓤 H C Λ code.function)
       (λ κs. (LL.vals L.the-type L′.the-laws, (slice-vals, (LL.vals T.the-type T′.the-laws, (slice-vals, (uint-vals w32, (slice-vals, (slice-vals, tt))))))))
       (λ κs. (LL.tells L.the-type L′.the-laws, (shr-slice-tells (named 0) (κs .0) u64, (LL.tells T.the-type T′.the-laws, (mut-slice-tells (named 1) (κs .1 .0) u32, (uint-tells w32, (shr-slice-tells (named 2) (κs .1 .1 .0) u32, (mut-slice-tells (named 3) (κs .1 .1 .1 .0) u32, tt))))))))
@@ -245,7 +245,7 @@ module _ {M : Type 1} (𝓤 : URA M) (H : Heap 𝓤) (A : Atoms 𝓤) (W : Given
     ),
   )
 
-run-lent-meets : {M : Type 1} (𝓤 : URA M) (H : Heap 𝓤) (A : Atoms 𝓤) → Given 𝓤 H A → (at-mem : Memory → SProp 𝓤) (rn : Routine → Fun 𝓤) (𝓣 : Tables 𝓤 H) → Triple 𝓤 (𝓣 .C #machine·run) (Run 𝓤 H A at-mem rn)
+run-lent-meets : {M : Type 1} (𝓤 : URA M) (H : Heap 𝓤) (A : Atoms 𝓤) → Given 𝓤 H A → (at-mem : Memory → SProp 𝓤) (rn : Routine → Fun 𝓤) (𝓣 : Tables 𝓤 H) → Triple 𝓤 (𝓣 .C #lent·run) (Run 𝓤 H A at-mem rn)
     → Meets 𝓤 H A run-lent.signature (WpFn 𝓤 H (𝓣 .C) (𝓣 .Λ) code.function) (run-lent.spec 𝓤 H A at-mem rn)
 run-lent-meets 𝓤 H A W at-mem rn 𝓣 known =
     walk-meets 𝓤 H A run-lent.ended stayed W (all-go 𝓤 H A W at-mem rn) (run-lent.clauses 𝓤 H A at-mem rn)
@@ -255,6 +255,6 @@ pub run-lent-spec : {M : Type 1} → stated.statement M
 unfolding code.routine tablesOf
 run-lent-spec 𝓤 H 𝓜 𝓖 𝓡 =
     entered 𝓤 H (tripleOf 𝓤 H (𝓖 .A) run-lent.signature (run-lent.spec 𝓤 H (𝓖 .A) (𝓜 .mem) (𝓡 .run)))
-    (tables 𝓤 H 𝓜 𝓡 code.env .C) (tables 𝓤 H 𝓜 𝓡 code.env .Λ) #machine·run-lent code.function (code.unfolded 𝓤 H 𝓜 𝓡)
+    (tables 𝓤 H 𝓜 𝓡 code.env .C) (tables 𝓤 H 𝓜 𝓡 code.env .Λ) #lent·run-lent code.function (code.unfolded 𝓤 H 𝓜 𝓡)
     (run-lent-meets 𝓤 H (𝓖 .A) (givenOf 𝓤 H 𝓜 𝓖) (𝓜 .mem) (𝓡 .run) (tablesOf 𝓤 H 𝓜 (tables 𝓤 H 𝓜 𝓡 code.env))
-    (cited 𝓤 H (Run 𝓤 H (𝓖 .A) (𝓜 .mem) (𝓡 .run)) 𝓜 𝓡 code.env #machine·run run-def.routine code.calls-machine·run (run-thm.met 𝓤 H 𝓜 𝓖 𝓡)))
+    (cited 𝓤 H (Run 𝓤 H (𝓖 .A) (𝓜 .mem) (𝓡 .run)) 𝓜 𝓡 code.env #lent·run run-def.routine code.calls-lent·run (run-thm.met 𝓤 H 𝓜 𝓖 𝓡)))

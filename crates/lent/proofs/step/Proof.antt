@@ -54,15 +54,15 @@ use Rattle.rules.proofs.RunAnswer as N
 use Rattle.rules.proofs.RunAnswer.Laws as N′
 use Rattle.rules.proofs.Outcome as O
 use Rattle.rules.proofs.Outcome.Laws as O′
-use Rattle.machine.proofs.Facts.{says4}
+use Rattle.lent.proofs.Facts.{says4}
 use Rattle.machine.proofs.step_value as step-value
 use Rattle.machine.proofs.step_value.Symbol as step-value-def
 use Rattle.machine.proofs.step_value.Symbol.{name as #machine·step-value}
 use Rattle.machine.proofs.step_value.Met as step-value-thm
-use Rattle.machine.proofs.step.Key.{name as #machine·step}
-use Rattle.machine.proofs.step as step
-use Rattle.machine.proofs.step.Statement as stated
-use Rattle.machine.proofs.step.Code as code
+use Rattle.lent.proofs.step.Key.{name as #lent·step}
+use Rattle.lent.proofs.step as step
+use Rattle.lent.proofs.step.Statement as stated
+use Rattle.lent.proofs.step.Code as code
 
 abbrev stayed : Stays (step.ended .signature .params) (step.ended .kept)
 stayed = (
@@ -258,6 +258,6 @@ pub step-spec : {M : Type 1} → stated.statement M
 unfolding code.routine tablesOf
 step-spec 𝓤 H 𝓜 𝓖 𝓡 =
     entered 𝓤 H (tripleOf 𝓤 H (𝓖 .A) step.signature (step.spec 𝓤 H (𝓖 .A) (𝓜 .mem) (𝓡 .run)))
-    (tables 𝓤 H 𝓜 𝓡 code.env .C) (tables 𝓤 H 𝓜 𝓡 code.env .Λ) #machine·step code.function (code.unfolded 𝓤 H 𝓜 𝓡)
+    (tables 𝓤 H 𝓜 𝓡 code.env .C) (tables 𝓤 H 𝓜 𝓡 code.env .Λ) #lent·step code.function (code.unfolded 𝓤 H 𝓜 𝓡)
     (step-meets 𝓤 H (𝓖 .A) (givenOf 𝓤 H 𝓜 𝓖) (𝓜 .mem) (𝓡 .run) (tablesOf 𝓤 H 𝓜 (tables 𝓤 H 𝓜 𝓡 code.env))
     (cited 𝓤 H (Value 𝓤 H (𝓖 .A) (𝓜 .mem) (𝓡 .run)) 𝓜 𝓡 code.env #machine·step-value step-value-def.routine code.calls-machine·step-value (step-value-thm.met 𝓤 H 𝓜 𝓖 𝓡)))

@@ -6,9 +6,9 @@ use native.Mathlib.Omega.{arith}
 use borrow.Author.Needs.{needs}
 use lib.ListN.{length, drop, drop-of-length-le}
 use lib.Seq.{sets}
-use Rattle.machine.proofs.Installs.{stored}
-use Rattle.machine.proofs.store_table.Statement.{statement}
-use Rattle.machine.proofs.store_table.Tie as tie
+use Rattle.installer.proofs.Installs.{stored}
+use Rattle.installer.proofs.store_table.Statement.{statement}
+use Rattle.installer.proofs.store_table.Tie as tie
 
 -- storing what is left gives the whole
 abbrev Inv-loop : tie.InvT-loop

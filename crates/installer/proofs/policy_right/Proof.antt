@@ -1,7 +1,7 @@
 use borrow.Author.Needs.{needs}
 use Rattle.rules.specs.Policies.{rightPolicy}
-use Rattle.machine.proofs.policy_right.Statement.{statement}
-use Rattle.machine.proofs.policy_right.Tie as tie
+use Rattle.installer.proofs.policy_right.Statement.{statement}
+use Rattle.installer.proofs.policy_right.Tie as tie
 
 entries-right-requires : tie.Need-entries-right-requires
 entries-right-requires c κs = search needs

@@ -1,6 +1,6 @@
 use borrow.Author.Needs.{needs}
-use Rattle.machine.proofs.refused.Statement.{statement}
-use Rattle.machine.proofs.refused.Tie as tie
+use Rattle.installer.proofs.refused.Statement.{statement}
+use Rattle.installer.proofs.refused.Tie as tie
 
 refused-requires : tie.Need-refused-requires
 refused-requires c κs = search needs

@@ -3,9 +3,9 @@ use denote.Ref.{now}
 use borrow.Author.Needs.{needs}
 use borrow.Author.Tests.{not-true, not-false}
 use Rattle.rules.specs.Policies.{policyOf}
-use Rattle.machine.proofs.Installs.{no-layout, no-policy, laid}
-use Rattle.machine.proofs.install.Statement.{statement}
-use Rattle.machine.proofs.install.Tie as tie
+use Rattle.installer.proofs.Installs.{no-layout, no-policy, laid}
+use Rattle.installer.proofs.install.Statement.{statement}
+use Rattle.installer.proofs.install.Tie as tie
 
 pub install-spec : {M : Type 1} → statement M
 install-spec =

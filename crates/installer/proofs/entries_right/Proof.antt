@@ -7,9 +7,9 @@ use borrow.Author.Needs.{needs}
 use borrow.Author.Tests.{not-true, not-false}
 use lib.ListN.{length, drop, drop-of-length-le}
 use Rattle.rules.specs.Policies.{entriesRight}
-use Rattle.machine.proofs.Installs.{byte}
-use Rattle.machine.proofs.entries_right.Statement.{statement}
-use Rattle.machine.proofs.entries_right.Tie as tie
+use Rattle.installer.proofs.Installs.{byte}
+use Rattle.installer.proofs.entries_right.Statement.{statement}
+use Rattle.installer.proofs.entries_right.Tie as tie
 
 -- the bytes that are left decide
 abbrev Inv-loop : tie.InvT-loop
