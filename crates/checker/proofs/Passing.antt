@@ -1,7 +1,7 @@
 -- Laws of checking.
-use mathlib.Core.Path.{_≡_, sym, _∙_}
+use mathlib.Core.Path.{_≡_, sym, ap, _∙_}
 use mathlib.Core.Bool.{Bool, true, false, _&&_, _||_}
-use mathlib.Core.List.{List}
+use mathlib.Core.List.{List, [], _∷_}
 use Prim.Native.Nat.{ℕ, zero, suc, _+_, _-_, _*_, _/_, _%_, _≤_, _<_}
 use native.Mathlib.Omega.{arith}
 use lib.Count.{ones, ones-le}
@@ -18,6 +18,7 @@ use Rattle.rules.specs.Layouts.{rightLayout}
 use Rattle.rules.specs.Bundles.{bundleOf, valid, readOff, bundleAt, isBundle, shapedAt, isHalt, passesAt, checkFrom, baseRight, countRight, checkAnswer}
 use Rattle.rules.proofs.Bools.{both}
 use Rattle.words.specs.Packing.{Fits}
+use Rattle.checker.specs.Sameness.{sameWords}
 
 -- ---- one bundle
 
@@ -29,10 +30,14 @@ module _ (l : Layout) (n : ℕ) (i : Instr) (w x y z : ℕ) (t : Bool) (et : t �
   unfolding isBundle
   not-bundle h = rw (← et, h)
 
-  pub is-bundle : t ≡ true → (b : Bundle) → b ≡ bundleOf l n i
-      → (eqb w (getD (b .words) 0 0) && eqb x (getD (b .words) 1 0) && eqb y (getD (b .words) 2 0) && eqb z (getD (b .words) 3 0)) ≡ isBundle l n i w x y z
+  pub is-bundle : t ≡ true → (s : Bool) → s ≡ sameWords w x y z (bundleOf l n i .words) → s ≡ isBundle l n i w x y z
   unfolding isBundle
-  is-bundle h b eb = rw (← et, h, eb)
+  is-bundle h s es = es ∙ rw (← et, h)
+
+-- words compared with those that make a bundle
+pub same-words : (l : Layout) (n : ℕ) (i : Instr) (w x y z w′ x′ y′ z′ : ℕ) → record { words = w′ ∷ x′ ∷ y′ ∷ z′ ∷ [] } ≡ bundleOf l n i
+    → (eqb w w′ && eqb x x′ && eqb y y′ && eqb z z′) ≡ sameWords w x y z (bundleOf l n i .words)
+same-words l n i w x y z w′ x′ y′ z′ e = ap (λ (b : Bundle). sameWords w x y z (b .words)) e
 
 module _ (l : Layout) (n : ℕ) (ws : List ℕ) (h : ℕ) where
   pub passing : (i : Instr) → i ≡ readOff l (getD ws (bundleLength * h) 0) (getD ws (bundleLength * h + 2) 0) (getD ws (bundleLength * h + 3) 0)

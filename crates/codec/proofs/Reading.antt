@@ -1,12 +1,12 @@
 -- Laws of the loops that read, in the form in which the proofs of the functions cite them.
-use mathlib.Core.Path.{_≡_, sym, ap, _∙_}
-use mathlib.Core.List.{List}
-use Prim.Native.Nat.{ℕ, suc, _+_, _-_, _≤_, _<_}
+use mathlib.Core.Path.{_≡_, sym, ap, subst, _∙_}
+use mathlib.Core.List.{List, _++_}
+use Prim.Native.Nat.{ℕ, zero, suc, _+_, _-_, _*_, _^_, _≤_, _<_}
 use native.Mathlib.Omega.{arith}
-use native.Mathlib.Nat.{le-of-eq, zero-add}
+use native.Mathlib.Nat.{le-of-eq, zero-add, zero-mul, one-mul, mul-one}
 use native.Mathlib.Numerals.{add-one}
-use lib.ListN.{length, take, drop, set, length-drop}
-use lib.Seq.{sets as stores, sets-eq, take-all}
+use lib.ListN.{length, getD, take, drop, set, length-drop}
+use lib.Seq.{sets as stores, sets-eq, length-sets, take-all, drop-cons, take-append-seam}
 use borrow.Author.Tests.{eq-eqb, ne-eqb}
 use Rattle.rules.specs.declared.Fields.{Fields}
 use Rattle.rules.specs.declared.Answer.{Answer}
@@ -15,12 +15,34 @@ use Rattle.rules.specs.declared.One.the-variants.{Word, Bad}
 use Rattle.rules.specs.declared.Refusal.the-variants.{Taken, Trailing}
 use Rattle.rules.specs.Names.{mostInstructions, numberOf, answer, refusal}
 use Rattle.rules.specs.Words.{judgeOf, packFields}
-use Rattle.rules.specs.Bytes.{mapOf, sizeOf, gap, oneFields, oneOf, scanOf, wordsOf, countOf, readAnswer, readOutput}
+use Rattle.rules.specs.Bytes.{byteAt, mapOf, sizeOf, gap, oneFields, oneOf, scanOf, wordsOf, countOf, readAnswer, readOutput}
 use Rattle.rules.proofs.Bytes.{one-read, fields-word, read-scan, ReadOk, read-ok}
 use Rattle.words.specs.Packing.{cutOf}
 use Rattle.words.proofs.Judging.{uncut}
 
 -- ---- one instruction
+
+-- a field's byte without a branch: the place of its byte, or 0, and the byte, or 0
+pub place-fits : (at bit : ℕ) → bit ≤ 1 → at < 2 ^ 64 → at * bit < 2 ^ 64
+place-fits at zero h g = omega arith
+place-fits at (suc zero) h g = omega arith
+place-fits at (suc (suc b)) h g = absurd (omega arith)
+
+pub place-in : (at bit n : ℕ) → bit ≤ 1 → 1 ≤ n → at + bit ≤ n → at * bit < n
+place-in at zero n h g l = omega arith
+place-in at (suc zero) n h g l = omega arith
+place-in at (suc (suc b)) n h g l = absurd (omega arith)
+
+pub byte-fits : (bit x : ℕ) → bit ≤ 1 → x < 256 → bit * x < 2 ^ 64
+byte-fits zero x h g = omega arith
+byte-fits (suc zero) x h g = omega arith
+byte-fits (suc (suc b)) x h g = absurd (omega arith)
+
+pub byte-is : (s : List ℕ) (at bit x : ℕ) → bit ≤ 1 → x ≡ getD s (at * bit) 0 → bit * x ≡ byteAt bit s at
+unfolding byteAt
+byte-is s at zero x h e = zero-mul x
+byte-is s at (suc zero) x h e = one-mul x ∙ e ∙ rw (mul-one at)
+byte-is s at (suc (suc b)) x h e = absurd (omega arith)
 
 -- a judgement of 0 lets packing cut nothing off
 pub fields-good : (m : ℕ) (f : Fields) (n : ℕ) → n ≡ mapOf f → (g : ℕ) → g ≡ gap m n → (x : ℕ) → x ≡ judgeOf g f → x ≡ 0
@@ -77,18 +99,30 @@ module _ (n i : ℕ) (t : List ℕ) (h : n ≤ i) where
   unfolding wordsOf
   fill-done out z ez = sym (ez ∙ rw none-left)
 
+-- the words read aside, one by one
+module _ (n i : ℕ) (from out z : List ℕ) (ez : z ≡ stores out i (take (n - i) (drop i from))) where
+  pub copy-more : i < n → n ≤ length from → z ≡ stores (set out i (getD from i 0)) (i + 1) (take (n - (i + 1)) (drop (i + 1) from))
+  copy-more h l = let left : n - i ≡ suc (n - (i + 1)) = omega arith in let g : i < length from = omega arith in ez ∙ rw (left, drop-cons from i 0 g, add-one)
+
+  pub copy-done : n ≤ i → out ≡ z
+  copy-done h = let none : n - i ≡ 0 = omega arith in sym (ez ∙ rw none)
+
 -- ---- the whole
 
 pub read-rest : (s : List ℕ) (room : ℕ) → 2 ≤ length s → (n : ℕ) → n ≡ countOf s → n ≤ mostInstructions → n ≤ room
     → (a : Answer) → a ≡ scanOf n 0 (take (length s - 2) (drop 2 s)) → a ≡ readAnswer s room
 read-rest s room h n e g l a ea = read-scan s room h n e g l a (ea ∙ rw (rest 2 s h))
 
+pub aside-rest : (s : List ℕ) → 2 ≤ length s → (n : ℕ) → n ≡ countOf s → (out out′ : List ℕ) → out′ ≡ stores out 0 (wordsOf n (take (length s - 2) (drop 2 s)))
+    → out′ ≡ stores out 0 (wordsOf (countOf s) (drop 2 s))
+aside-rest s h n e out out′ eo = eo ∙ rw (rest 2 s h, e)
+
 module _ (s : List ℕ) (room : ℕ) (a : Answer) (e : a ≡ readAnswer s room) (z : a .number ≡ 0) where
   ok : ReadOk s room (a .place)
   ok = rw e (read-ok s room (rw e at z))
 
-  pub ok-two : 2 ≤ length s
-  ok-two = ok .two
+  pub ok-few : (y : List ℕ) → length y ≡ mostInstructions → a .place ≤ length y
+  ok-few y h = omega (arith, ok .count, ok .few)
 
   pub ok-fits : a .place ≤ room
   ok-fits = ok .fits
@@ -98,11 +132,16 @@ module _ (s out : List ℕ) (a : Answer) (e : a ≡ readAnswer s (length out)) w
   unfolding readOutput
   refused z = simp (← e, ne-eqb _ _ z)
 
-  pub filled : a .number ≡ 0 → (o : List ℕ) → o ≡ stores out 0 (wordsOf (a .place) (take (length s - 2) (drop 2 s))) → o ≡ readOutput s out
+  pub filled : a .number ≡ 0 → (x y : List ℕ) → length y ≡ mostInstructions → (a .number ≡ 0 → y ≡ stores x 0 (wordsOf (countOf s) (drop 2 s)))
+      → (o : List ℕ) → o ≡ stores out 0 (take (a .place) y) → o ≡ readOutput s out
   unfolding readOutput
-  filled z o eo =
+  filled z x y l f o eo =
       let k : ReadOk s (length out) (a .place) = ok s (length out) a e z in
       let n : ℕ = a .place in
       let ws : List ℕ = wordsOf n (drop 2 s) in
-      let f : 0 + length ws ≤ length out = omega (arith, k .words, k .fits) in
-      eo ∙ rw (rest 2 s (k .two), sets-eq ws out 0 f, zero-add, k .words) (simp (← e, eq-eqb _ _ z, ← (k .count)))
+      let lx : length y ≡ length x = ap length (f z) ∙ length-sets x 0 (wordsOf (countOf s) (drop 2 s)) in
+      let g : 0 + length ws ≤ length x = omega (arith, k .words, k .count, k .few) in
+      let h : 0 + length ws ≤ length out = omega (arith, k .words, k .fits) in
+      let ey : y ≡ ws ++ drop (0 + length ws) x = f z ∙ rw (← (k .count)) (sets-eq ws x 0 g) in
+      let et : take n y ≡ ws = rw ey (subst (λ (m : ℕ). take m (ws ++ drop (0 + length ws) x) ≡ ws) (k .words) (take-append-seam ws (drop (0 + length ws) x))) in
+      eo ∙ rw (et, sets-eq ws out 0 h, zero-add, k .words) (simp (← e, eq-eqb _ _ z, ← (k .count)))

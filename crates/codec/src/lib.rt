@@ -11,7 +11,7 @@ use words::guest::pack;
 ghost use mathlib.Core.Path.{_≡_};
 ghost use mathlib.Core.List.{_++_};
 ghost use Prim.Native.Nat.{_+_, _*_, _≤_, _<_};
-ghost use lib.ListN.{length, set};
+ghost use lib.ListN.{length, take, drop, set};
 ghost use lib.Seq.{sets as stores};
 ghost use Rattle.rules.specs.Names.{mostInstructions};
 ghost use Rattle.rules.specs.Words.{bitOf, fieldsOf};
@@ -78,15 +78,12 @@ fn gap_of(x: usize, y: usize) -> u64
     }
 }
 
-// A field of one byte, 0 where its bit is 0.
+// A field of one byte, 0 where its bit is 0. No branch: an absent field reads the map byte, times 0.
 fn byte(s: &[u8], at: usize, bit: usize) -> u64
-    requires { ⌜ at + bit ≤ length (now s) ⌝ }
+    requires { ⌜ (bit ≤ 1) × (1 ≤ length (now s)) × (at + bit ≤ length (now s)) ⌝ }
     ensures { λ r. ⌜ r ≡ byteAt bit (now (s .entry)) at ⌝ }
 {
-    if bit == 0 {
-        return 0;
-    }
-    wide(s[at])
+    bit as u64 * wide(s[at * bit])
 }
 
 // v in four bytes, low first, 0 where its bit is 0.
@@ -158,16 +155,19 @@ fn read_one(s: &[u8]) -> One
     one_fields(m, fields_of(s, m))
 }
 
-// What n instructions from s on answer.
-fn scan(s: &[u8], n: usize) -> Answer
-    ensures { λ r. ⌜ r ≡ scanOf n 0 (now (s .entry)) ⌝ }
+// What n instructions from s on answer; their words are stored, up to the first that is refused.
+fn scan(s: &[u8], n: usize, words: &mut [u64]) -> Answer
+    requires { ⌜ n ≤ length (now words) ⌝ }
+    ensures answer { λ r. ⌜ r ≡ scanOf n 0 (now (s .entry)) ⌝ }
+    ensures content { λ _. ⌜ now (words .exit) ≡ stores (now (words .entry)) 0 (wordsOf n (now (s .entry))) ⌝ }
 {
     let mut t = s;
     let mut i: usize = 0;
     while i < n {
         let o = read_one(t);
         match o {
-            One::Word(_, used) => {
+            One::Word(w, used) => {
+                words[i] = w;
                 t = &t[used..];
                 i += 1;
             }
@@ -192,25 +192,15 @@ fn scan(s: &[u8], n: usize) -> Answer
     }
 }
 
-// Stores the words of n instructions from s on.
-fn fill(s: &[u8], n: usize, words: &mut [u64])
-    requires { ⌜ n ≤ length (now words) ⌝ }
-    ensures { λ _. ⌜ now (words .exit) ≡ stores (now (words .entry)) 0 (wordsOf n (now (s .entry))) ⌝ }
+// Stores the first n of some words.
+fn copy(from: &[u64], n: usize, words: &mut [u64])
+    requires { ⌜ (n ≤ length (now from)) × (n ≤ length (now words)) ⌝ }
+    ensures { λ _. ⌜ now (words .exit) ≡ stores (now (words .entry)) 0 (take n (now (from .entry))) ⌝ }
 {
-    let mut t = s;
     let mut i: usize = 0;
     while i < n {
-        let o = read_one(t);
-        match o {
-            One::Word(w, used) => {
-                words[i] = w;
-                t = &t[used..];
-                i += 1;
-            }
-            One::Bad(_) => {
-                return;
-            }
-        }
+        words[i] = from[i];
+        i += 1;
     }
 }
 
@@ -222,9 +212,11 @@ fn count(s: &[u8]) -> usize
     index(s[0]) + 256 * index(s[1])
 }
 
-// What reading answers.
-fn read_check(bytes: &[u8], room: usize) -> Answer
-    ensures { λ r. ⌜ r ≡ readAnswer (now (bytes .entry)) room ⌝ }
+// What reading answers; the words are stored aside.
+fn read_check(bytes: &[u8], room: usize, aside: &mut [u64]) -> Answer
+    requires { ⌜ mostInstructions ≤ length (now aside) ⌝ }
+    ensures answer { λ r. ⌜ r ≡ readAnswer (now (bytes .entry)) room ⌝ }
+    ensures content { λ r. ⌜ (r .number ≡ 0 → now (aside .exit) ≡ stores (now (aside .entry)) 0 (wordsOf (countOf (now (bytes .entry))) (drop 2 (now (bytes .entry))))) ⌝ }
 {
     if bytes.len() < 2 {
         return Answer {
@@ -245,19 +237,20 @@ fn read_check(bytes: &[u8], room: usize) -> Answer
             place: 0,
         };
     }
-    scan(&bytes[2..], n)
+    scan(&bytes[2..], n, aside)
 }
 
-// Reads a routine: the words from the start of the output, which a refusal leaves as it was.
+// Reads a routine: the words from the start of the output, which a refusal leaves as it was; hence they are read aside,
+// so that one pass does.
 pub fn read(bytes: &[u8], words: &mut [u64]) -> Answer
     ensures answer { λ r. ⌜ r ≡ readAnswer (now (bytes .entry)) (length (now (words .entry))) ⌝ }
     ensures content { λ _. ⌜ now (words .exit) ≡ readOutput (now (bytes .entry)) (now (words .entry)) ⌝ }
 {
-    let a = read_check(bytes, words.len());
+    let mut aside = [0u64; Instr::MOST];
+    let a = read_check(bytes, words.len(), &mut aside);
     let refused = a.number;
     if refused == Refusal::TAKEN {
-        let n = a.place;
-        fill(&bytes[2..], n, words);
+        copy(&aside, a.place, words);
     }
     a
 }

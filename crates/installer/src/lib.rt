@@ -8,35 +8,36 @@ use rules::Refusal;
 use words::cells;
 use words::layout;
 ghost use mathlib.Core.Path.{_≡_};
+ghost use Prim.Native.Nat.{_+_, _≤_};
+ghost use lib.ListN.{length};
 ghost use lib.Seq.{sets};
 ghost use Rattle.rules.specs.Names.{answer};
 ghost use Rattle.rules.specs.Policies.{policyOf, entriesRight, rightPolicy};
 ghost use Rattle.rules.specs.Machines.{machineRefused, installOf, installMemory};
 
-// Whether every byte of a table is a state or no arrow.
+// Whether every byte of a table is a state or no arrow. No early exit, so that many are tested at once.
 fn entries_right(states: u32, table: &[u8]) -> bool
     ensures { λ r. ⌜ r ≡ entriesRight states (now (table .entry)) ⌝ }
 {
+    let mut ok = true;
     let mut i: usize = 0;
     while i < table.len() {
         let b = table[i] as u32;
-        let known = (b < states) | (b == Policy::NO_ARROW);
-        if !known {
-            return false;
-        }
+        ok = ok & ((b < states) | (b == Policy::NO_ARROW));
         i = i + 1;
     }
-    true
+    ok
 }
 
 // The table's bytes into the cells from an address on.
 fn store_table(memory: &mut [u32], at: u32, table: &[u8])
+    requires { ⌜ at + length (now table) ≤ length (now memory) ⌝ }
     ensures { λ _. ⌜ now (memory .exit) ≡ sets (now (memory .entry)) at (now (table .entry)) ⌝ }
 {
     let first = at as usize;
     let mut i: usize = 0;
     while i < table.len() {
-        cells::poke(memory, first + i, table[i] as u32);
+        memory[first + i] = table[i] as u32;
         i = i + 1;
     }
 }

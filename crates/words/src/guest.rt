@@ -5,11 +5,13 @@ use rules::Machine;
 use rules::Policy;
 use rules::Refusal;
 ghost use mathlib.Core.Path.{_≡_};
+ghost use mathlib.Core.Bool.{true};
 ghost use Prim.Native.Nat.{_-_, _≤_};
 ghost use lib.ListN.{getD};
 ghost use Rattle.rules.specs.Names.{topKind};
 ghost use Rattle.rules.specs.Words.{fieldsOf, packFields, fieldSets, numberTops, bitOf, strayFields, highFields, judgeOf, judgeWord, judgeAt, instrOf};
 ghost use Rattle.words.specs.Packing.{cutOf};
+ghost use Rattle.words.specs.Strays.{guestLimits, strayBits};
 
 // The greatest kind, the kind with a landing, the greatest guest register and the greatest condition.
 const TOP_KIND: u64 = 12;
@@ -26,26 +28,6 @@ pub const TOP_SHIFT: u64 = 31;
 const TOP_EVENT: u64 = Policy::EVENTS as u64 - 1;
 
 pub const TOP_WORD: u64 = 0xFFFF_FFFF;
-
-// The fields of each kind, as a map: bit 0 kind, 1 d, 2 a, 3 b, 4 c, 5 v.
-const FIELD_SETS: [u64; 13] = [1, 35, 7, 15, 15, 15, 15, 39, 7, 13, 61, 31, 33];
-
-// The greatest v of each kind.
-const NUMBER_TOPS: [u64; 13] = [
-    TOP_WORD,
-    TOP_WORD,
-    TOP_WORD,
-    TOP_WORD,
-    TOP_WORD,
-    TOP_WORD,
-    TOP_WORD,
-    TOP_SHIFT,
-    TOP_WORD,
-    TOP_WORD,
-    TOP_WORD,
-    TOP_WORD,
-    TOP_EVENT,
-];
 
 pub fn fields(w: u64) -> Fields
     ensures { λ r. ⌜ r ≡ fieldsOf w ⌝ }
@@ -72,18 +54,39 @@ pub fn pack(f: Fields) -> u64
         + ((f.v % 0x1_0000_0000) << 32)
 }
 
-fn set_of(k: usize) -> u64
+// The fields of each kind, as a map: bit 0 kind, 1 d, 2 a, 3 b, 4 c, 5 v. A match becomes a table in read-only data.
+fn set_of(k: u64) -> u64
     requires { ⌜ k ≤ topKind ⌝ }
     ensures { λ r. ⌜ r ≡ getD fieldSets k 0 ⌝ }
 {
-    FIELD_SETS[k]
+    match k {
+        0 => 1,
+        1 => 35,
+        2 => 7,
+        3 => 15,
+        4 => 15,
+        5 => 15,
+        6 => 15,
+        7 => 39,
+        8 => 7,
+        9 => 13,
+        10 => 61,
+        11 => 31,
+        12 => 33,
+        _ => 0,
+    }
 }
 
-fn top_of(k: usize) -> u64
+// The greatest v of each kind.
+fn top_of(k: u64) -> u64
     requires { ⌜ k ≤ topKind ⌝ }
     ensures { λ r. ⌜ r ≡ getD numberTops k 0 ⌝ }
 {
-    NUMBER_TOPS[k]
+    match k {
+        7 => TOP_SHIFT,
+        12 => TOP_EVENT,
+        _ => TOP_WORD,
+    }
 }
 
 // 1 of a field that stands where its kind's set has a 0.
@@ -132,20 +135,56 @@ pub fn judge(x: u64, f: Fields) -> u8
     if x != 0 {
         return Refusal::FOREIGN;
     }
-    let k = kind as usize;
-    if stray(set_of(k), f) != 0 {
+    if stray(set_of(kind), f) != 0 {
         return Refusal::FOREIGN;
     }
-    if high(top_of(k), f) == 0 {
+    if high(top_of(kind), f) == 0 {
         Refusal::TAKEN
     } else {
         Refusal::OFF_RANGE
     }
 }
 
+// The bits that no instruction of a kind has: those of the fields that it lacks, and those above their bounds.
+fn stray_bits(k: u64) -> u64
+    requires { ⌜ k ≤ topKind ⌝ }
+    ensures { λ r. ⌜ r ≡ strayBits (guestLimits k) ⌝ }
+{
+    match k {
+        0 => 0xFFFF_FFFF_FFFF_FF00,
+        1 => 0x0000_0000_FFFF_F800,
+        2 => 0xFFFF_FFFF_FFFF_8800,
+        3 => 0xFFFF_FFFF_FFF8_8800,
+        4 => 0xFFFF_FFFF_FFF8_8800,
+        5 => 0xFFFF_FFFF_FFF8_8800,
+        6 => 0xFFFF_FFFF_FFF8_8800,
+        7 => 0xFFFF_FFE0_FFFF_8800,
+        8 => 0xFFFF_FFFF_FFFF_8800,
+        9 => 0xFFFF_FFFF_FFF8_8F00,
+        10 => 0x0000_0000_FFC8_8F00,
+        11 => 0xFFFF_FFFF_FFC8_8800,
+        12 => 0xFFFF_FFF0_FFFF_FF00,
+        _ => 0,
+    }
+}
+
+// Whether one AND shows that a word is an instruction, which is the common case.
+fn clean(w: u64) -> bool
+    ensures { λ r. ⌜ (r ≡ true → judgeWord w ≡ 0) ⌝ }
+{
+    let k = w % 256;
+    if k > TOP_KIND {
+        return false;
+    }
+    w & stray_bits(k) == 0
+}
+
 pub fn judge_word(w: u64) -> u8
     ensures { λ r. ⌜ r ≡ judgeWord w ⌝ }
 {
+    if clean(w) {
+        return Refusal::TAKEN;
+    }
     judge((w >> 24) % 256, fields(w))
 }
 

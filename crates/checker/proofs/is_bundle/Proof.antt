@@ -11,8 +11,4 @@ is-bundle-spec =
     (λ c κs. search needs)
     (λ c. search (not-bundle, not-true, needs))
     (λ c κs. search (fits, not-false, needs))
-    (λ c. search needs)
-    (λ c. search needs)
-    (λ c. search needs)
-    (λ c. search needs)
     (λ c. search (is-bundle, not-false, needs)))

@@ -3,7 +3,7 @@ use denote.Ref.{now}
 use borrow.Author.Needs.{needs}
 use borrow.Author.Tests.{not-true, not-false}
 use Rattle.rules.specs.Policies.{policyOf}
-use Rattle.installer.proofs.Installs.{no-layout, no-policy, laid}
+use Rattle.installer.proofs.Installs.{no-layout, no-policy, table-fits, laid}
 use Rattle.installer.proofs.install.Statement.{statement}
 use Rattle.installer.proofs.install.Tie as tie
 
@@ -20,7 +20,7 @@ install-spec =
     (λ c. let a = c .before .before .before .before .before .before .before .before .args in let n = no-policy (a .layout) (policyOf (a .policy .states) (a .policy .start) (now (a .table))) (now (a .memory)) _ (c .before .before .before .before .before .right .ensures) (not-false _ (c .before .before .before .if1 .left)) _ (c .before .before .policy-right .ensures) (not-true _ (c .before .if2 .taken)) in (c .refused2 .ensures ∙ n .0, n .1))
     (λ c. search needs)
     (λ c κs. search needs)
-    (λ c κs. search needs)
+    (λ c κs. let a = c .before .before .before .before .before .before .before .before .before .before .before .before .before .args in table-fits (a .layout) (policyOf (a .policy .states) (a .policy .start) (now (a .table))) (now (a .memory)) _ (c .before .before .before .before .before .before .before .before .before .before .right .ensures) (not-false _ (c .before .before .before .before .before .before .before .before .if1 .left)) _ (c .before .before .before .before .before .before .before .policy-right .ensures) (not-false _ (c .before .before .before .before .before .before .if2 .left)) (c .before .before .before .poke .last .0) (c .before .before .before .poke .kept .0))
     (λ c κs. search needs)
     (λ c. search needs)
     (λ c. let a = c .before .before .before .before .before .before .before .before .before .before .before .before .before .before .before .before .before .args in laid (a .layout) (policyOf (a .policy .states) (a .policy .start) (now (a .table))) (now (a .memory)) _ (c .before .before .before .before .before .before .before .before .before .before .before .before .before .before .right .ensures) (not-false _ (c .before .before .before .before .before .before .before .before .before .before .before .before .if1 .left)) _ (c .before .before .before .before .before .before .before .before .before .before .before .policy-right .ensures) _ _ _ (not-false _ (c .before .before .before .before .before .before .before .before .before .before .if2 .left)) (c .new .ensures) (c .before .before .before .before .before .before .before .poke .ensures) (c .before .before .before .store-table .ensures)))

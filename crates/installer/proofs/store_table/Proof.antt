@@ -6,7 +6,7 @@ use native.Mathlib.Omega.{arith}
 use borrow.Author.Needs.{needs}
 use lib.ListN.{length, drop, drop-of-length-le}
 use lib.Seq.{sets}
-use Rattle.installer.proofs.Installs.{stored}
+use Rattle.installer.proofs.Installs.{store-more, store-done}
 use Rattle.installer.proofs.store_table.Statement.{statement}
 use Rattle.installer.proofs.store_table.Tie as tie
 
@@ -24,13 +24,14 @@ store-table-spec =
     (tie.spec
     Inv-loop
     μ-loop
-    (λ c. let a = c .before .before .args in let e : a .at + 0 ≡ a .at = omega arith in (rw e, zero-le, refl))
+    (λ c. let a = c .args in let e : a .at + 0 ≡ a .at = omega arith in (rw e, zero-le, refl))
+    (λ c. search needs)
+    (λ c. omega (arith, c .shared-slice-known .given (c .before .before .loop .i)))
     (λ c. search needs)
     (λ c. search needs)
-    (λ c. omega (arith, c .shared-slice-known2 .given (c .before .before .before .loop .i)))
-    (λ c κs. search needs)
     (λ c. search needs)
     (λ c. search needs)
-    (λ c. let a = c .before .before .before .before .before .before .before .before .before .args in let l = c .before .before .before .before .before .before .loop in let t = c .before .before .before .before .before .loop-test .taken in (ap (λ (m : List ℕ). sets m (a .at + (l .i + 1)) (drop (l .i + 1) (now (a .table)))) (c .before .before .poke .ensures) ∙ sym (stored (l .memory) (now (a .table)) (a .at) (l .i) t) ∙ l .inv .0, omega (arith, t), c .before .before .poke .kept .0 ∙ l .inv .2))
     (λ c. search needs)
-    (λ c. let a = c .before .before .before .before .args in let l = c .before .loop in sym (ap (sets (l .memory) (a .at + l .i)) (drop-of-length-le (now (a .table)) (c .loop-test .left))) ∙ l .inv .0))
+    (λ c. (search (store-more, needs), search needs, search needs))
+    (λ c. search needs)
+    (λ c. search (store-done, needs)))

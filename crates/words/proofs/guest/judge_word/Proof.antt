@@ -1,5 +1,5 @@
 use borrow.Author.Needs.{needs}
-use Rattle.words.proofs.Judging.{word-judged}
+use Rattle.words.proofs.Judging.{word-judged, clean-judged}
 use Rattle.words.proofs.guest.judge_word.Statement.{statement}
 use Rattle.words.proofs.guest.judge_word.Tie as tie
 
@@ -7,6 +7,8 @@ pub judge-word-spec : {M : Type 1} → statement M
 judge-word-spec =
     tie.close
     (tie.spec
+    (λ c κs. search needs)
+    (λ c. search (clean-judged, needs))
     (λ c κs. search needs)
     (λ c κs. search needs)
     (λ c. search (word-judged, needs)))
