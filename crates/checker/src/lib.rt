@@ -10,15 +10,17 @@ use words::bundle::base_right;
 use words::bundle::count_right;
 use words::bundle::read_off;
 use words::bundle::valid;
+use words::guest::judge_at;
 use words::guest::pack;
 use words::layout::right;
 ghost use mathlib.Core.Path.{_≡_};
+ghost use mathlib.Core.Bool.{true};
 ghost use Prim.Native.Nat.{_+_, _*_, _≤_, _<_};
 ghost use lib.ListN.{length};
 ghost use Rattle.rules.specs.Names.{mostBundles, bundleLength};
 ghost use Rattle.rules.specs.Bundles.{bundleOf, isBundle, isHalt, passesAt, checkFrom, checkAnswer};
 ghost use Rattle.words.specs.Packing.{cutWord, Fits};
-ghost use Rattle.checker.specs.Sameness.{sameWords};
+ghost use Rattle.checker.specs.Sameness.{sameWords, PlainWord};
 
 // The hidden register.
 const HIDDEN: u64 = Machine::HIDDEN as u64;
@@ -115,7 +117,21 @@ fn is_halt(i: Instr) -> bool
     }
 }
 
-// Whether bundle h of n has a shape, and is a HALT if it is the last.
+// Whether a word is a plain command on the guest's registers: the instruction of the kind before it, judged by one AND.
+fn is_plain(n: usize, w: u64) -> bool
+    ensures { λ r. ⌜ (r ≡ true → PlainWord n w) ⌝ }
+{
+    let kind = w % 256;
+    if kind < 2 {
+        return false;
+    }
+    if kind > 8 {
+        return false;
+    }
+    (judge_at(n, w - 1) == 0) & ((w >> 20) % 4096 == 0)
+}
+
+// Whether bundle h of n has a shape, and is a HALT if it is the last. The plain ones, which are most, come first.
 fn passes(l: Layout, n: usize, commands: &[u64], h: usize) -> bool
     requires { ⌜ (0 < n) × (n ≤ mostBundles) × (h < n) × (bundleLength * n ≤ length (now commands)) ⌝ }
     ensures { λ r. ⌜ r ≡ passesAt l n (now (commands .entry)) h ⌝ }
@@ -125,6 +141,9 @@ fn passes(l: Layout, n: usize, commands: &[u64], h: usize) -> bool
     let x = commands[at + 1];
     let y = commands[at + 2];
     let z = commands[at + 3];
+    if is_plain(n, w) & (x == 0) & (y == 0) & (z == 0) & (h + 1 < n) {
+        return true;
+    }
     let i = read_off(l, w, y, z);
     let shaped = is_bundle(l, n, i, w, x, y, z);
     let last = is_halt(i);

@@ -1,22 +1,26 @@
 -- Laws of the loops that read, in the form in which the proofs of the functions cite them.
 use mathlib.Core.Path.{_≡_, sym, ap, subst, _∙_}
+use mathlib.Core.Bool.{true, _&&_}
 use mathlib.Core.List.{List, _++_}
 use Prim.Native.Nat.{ℕ, zero, suc, _+_, _-_, _*_, _^_, _≤_, _<_}
 use native.Mathlib.Omega.{arith}
-use native.Mathlib.Nat.{le-of-eq, zero-add, zero-mul, one-mul, mul-one}
+use native.Mathlib.Nat.{mod-eq-of-lt, le-of-eq, zero-add, zero-mul, one-mul, mul-one}
 use native.Mathlib.Numerals.{add-one}
 use lib.ListN.{length, getD, take, drop, set, length-drop}
 use lib.Seq.{sets as stores, sets-eq, length-sets, take-all, drop-cons, take-append-seam}
-use borrow.Author.Tests.{eq-eqb, ne-eqb}
+use lib.Dec.{ltb, eqb}
+use borrow.Author.Tests.{eq-eqb, ne-eqb, eqb-true, ltb-true}
 use Rattle.rules.specs.declared.Fields.{Fields}
 use Rattle.rules.specs.declared.Answer.{Answer}
 use Rattle.rules.specs.declared.One.{One}
 use Rattle.rules.specs.declared.One.the-variants.{Word, Bad}
 use Rattle.rules.specs.declared.Refusal.the-variants.{Taken, Trailing}
 use Rattle.rules.specs.Names.{mostInstructions, numberOf, answer, refusal}
-use Rattle.rules.specs.Words.{judgeOf, packFields}
+use Rattle.rules.specs.Words.{judgeOf, judgeWord, fieldsOf, zeroOf, packFields}
 use Rattle.rules.specs.Bytes.{byteAt, mapOf, sizeOf, gap, oneFields, oneOf, scanOf, wordsOf, countOf, readAnswer, readOutput}
 use Rattle.rules.proofs.Bytes.{one-read, fields-word, read-scan, ReadOk, read-ok}
+use Rattle.rules.proofs.Bools.{both}
+use Rattle.rules.proofs.Packing.{InBits, pack-kind, pack-d, pack-a, pack-b, pack-c, pack-v, pack-zero}
 use Rattle.words.specs.Packing.{cutOf}
 use Rattle.words.proofs.Judging.{uncut}
 
@@ -49,6 +53,43 @@ pub fields-good : (m : ℕ) (f : Fields) (n : ℕ) → n ≡ mapOf f → (g : �
     → (p u : ℕ) → p ≡ packFields (cutOf f) → u ≡ sizeOf m → Word p u ≡ oneFields m f
 fields-good m f n en g eg x ex z p u ep eu =
     fields-word m f n en g eg x ex z p u (ep ∙ ap packFields (uncut g f (sym ex ∙ z))) eu
+
+no-gap : (m n : ℕ) → m ≡ n → 0 ≡ gap m n
+no-gap m n e = omega arith
+
+-- fields that fit a word, judged in their word
+pub whole-good : (m : ℕ) (f : Fields) (n : ℕ) → n ≡ mapOf f → (w : ℕ) → w ≡ packFields (cutOf f) → (x : ℕ) → x ≡ judgeWord w
+    → ((eqb m n && ltb (f .kind) 256 && ltb (f .d) 16 && ltb (f .a) 16 && ltb (f .b) 16 && ltb (f .c) 16 && ltb (f .v) 4294967296) && eqb x 0) ≡ true
+    → (u : ℕ) → u ≡ sizeOf m → Word w u ≡ oneFields m f
+whole-good m f n en w ew x ex t u eu =
+    let t7 = both (eqb m n && ltb (f .kind) 256 && ltb (f .d) 16 && ltb (f .a) 16 && ltb (f .b) 16 && ltb (f .c) 16 && ltb (f .v) 4294967296) (eqb x 0) t in
+    let t6 = both _ _ (t7 .0) in
+    let t5 = both _ _ (t6 .0) in
+    let t4 = both _ _ (t5 .0) in
+    let t3 = both _ _ (t4 .0) in
+    let t2 = both _ _ (t3 .0) in
+    let t1 = both _ _ (t2 .0) in
+    let em : m ≡ n = eqb-true m n (t1 .0) in
+    let hk : f .kind < 2 ^ 8 = ltb-true (f .kind) 256 (t1 .1) in
+    let hd : f .d < 2 ^ 4 = ltb-true (f .d) 16 (t2 .1) in
+    let ha : f .a < 2 ^ 4 = ltb-true (f .a) 16 (t3 .1) in
+    let hb : f .b < 2 ^ 4 = ltb-true (f .b) 16 (t4 .1) in
+    let hc : f .c < 2 ^ 4 = ltb-true (f .c) 16 (t5 .1) in
+    let hv : f .v < 2 ^ 32 = ltb-true (f .v) 4294967296 (t6 .1) in
+    let z : x ≡ 0 = eqb-true x 0 (t7 .1) in
+    let h : InBits (f .kind) (f .d) (f .a) (f .b) (f .c) = (hk, hd, ha, hb, hc) in
+    let ep : w ≡ packFields f =
+    ew ∙ rw (mod-eq-of-lt hk, mod-eq-of-lt hd, mod-eq-of-lt ha, mod-eq-of-lt hb, mod-eq-of-lt hc, mod-eq-of-lt hv) in
+    let k = pack-kind _ _ _ _ _ (f .v) h in
+    let d = pack-d _ _ _ _ _ (f .v) h in
+    let a = pack-a _ _ _ _ _ (f .v) h in
+    let b = pack-b _ _ _ _ _ (f .v) h in
+    let c = pack-c _ _ _ _ _ (f .v) h in
+    let v = pack-v _ _ _ _ _ (f .v) h in
+    let ef : fieldsOf (packFields f) ≡ f = λ i. record { kind = k i; d = d i; a = a i; b = b i; c = c i; v = v i } in
+    let e0 : zeroOf (packFields f) ≡ 0 = pack-zero _ _ _ _ _ (f .v) h in
+    let ej : x ≡ judgeOf 0 f = ex ∙ ap judgeWord ep ∙ ap (λ (q : ℕ). judgeOf q (fieldsOf (packFields f))) e0 ∙ ap (judgeOf 0) ef in
+    fields-word m f n en 0 (no-gap m n em) x ej z w u ep eu
 
 -- ---- the loops
 

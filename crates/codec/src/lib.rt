@@ -124,7 +124,7 @@ fn fields_of(s: &[u8], m: usize) -> Fields
 }
 
 // A field that stands and is 0 makes the map another than the fields', which is foreign.
-fn one_fields(m: usize, f: Fields) -> One
+fn judge_fields(m: usize, f: Fields) -> One
     requires { ⌜ m < 64 ⌝ }
     ensures { λ r. ⌜ r ≡ oneFields m f ⌝ }
 {
@@ -135,6 +135,25 @@ fn one_fields(m: usize, f: Fields) -> One
     } else {
         One::Bad(judged)
     }
+}
+
+// The common case first: fields that fit a word, whose map is theirs, are judged in their word.
+fn one_fields(m: usize, f: Fields) -> One
+    requires { ⌜ m < 64 ⌝ }
+    ensures { λ r. ⌜ r ≡ oneFields m f ⌝ }
+{
+    let w = pack(f);
+    let whole = (m == map_of(f))
+        & (f.kind < 256)
+        & (f.d < 16)
+        & (f.a < 16)
+        & (f.b < 16)
+        & (f.c < 16)
+        & (f.v < 0x1_0000_0000);
+    if whole & (judge_word(w) == Refusal::TAKEN) {
+        return One::Word(w, size_of(m));
+    }
+    judge_fields(m, f)
 }
 
 // The instruction at the front of s: its word and its bytes, or the refusal.
