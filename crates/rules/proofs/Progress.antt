@@ -24,7 +24,7 @@ use Rattle.rules.specs.Names.{orders, noArrow, bundleLength, hidden}
 use Rattle.rules.specs.Policies.{Policy}
 use Rattle.rules.specs.Commands.{fetchOf, holdsOf}
 use Rattle.rules.specs.Bundles.{addressOf, shapeOf, bundleAt}
-use Rattle.rules.specs.Machines.{State, View, regAt, entryOf, onward, effectOf, applyOf, seen, nextOf, stepOf, unlessWait, runFrom, startOf, runOf, fits, installMemory}
+use Rattle.rules.specs.Machines.{State, View, regAt, ifCell, entryOf, onward, effectOf, applyOf, seen, nextOf, stepOf, unlessWait, runFrom, startOf, runOf, fits, installMemory}
 use Rattle.rules.specs.Guests.{Pair, Guest, rOf, guestStart}
 use Rattle.rules.specs.Runs.{firstOf, begunFrom, runOn, afterTaken, afterRun, after, eventIn}
 use Rattle.rules.specs.Claims.{Stands, Progress}
@@ -134,6 +134,10 @@ module _ (lay : Layout) (rd : List ℕ) (s : State) where
   faults : Moves lay rd s (End Faulted)
   faults = moves-end Faulted (λ x. no (cc))
 
+  -- at a cell, where there is none it faults
+  moves-at : (i : ℕ) (e : Effect) → Moves lay rd s e → Moves lay rd s (ifCell (seen lay rd s) i e)
+  moves-at i e m = cond-ind (Moves lay rd s) (ltb i (length (s .mem))) (λ _. m) (λ _. faults)
+
   moves-event : (v : ℕ) → Moves lay rd s (effectOf (Event v) (seen lay rd s))
   unfolding effectOf applyOf
   moves-event v =
@@ -149,23 +153,21 @@ module _ (lay : Layout) (rd : List ℕ) (s : State) where
   start-moves n (STORE a b) = moves-put hidden _
   start-moves n (GOIF a b c v) = jumps lay rd s (holdsOf c (getD (s .regs) a 0) (getD (s .regs) b 0)) v (addressOf lay v) refl
   start-moves n (GOX d a b c) = moves-put hidden _
-  start-moves n (EVENT e) =
-      cond-ind (Moves lay rd s) (ltb (lay .cell) (length (s .mem)))
-      (λ _. cond-ind (Moves lay rd s) (ltb (entryOf (seen lay rd s) e) (length (s .mem))) (λ _. moves-put hidden _) (λ _. faults)) (λ _. faults)
+  start-moves n (EVENT e) = moves-at _ _ (moves-at _ _ (moves-put hidden _))
 
   mid-moves : (pol : Policy) (n : ℕ) (g : Guest) (h k b : ℕ) (i : Instr) (p : ℕ) → Mid lay pol n g h k b (getD (s .regs) hidden 0) (getD (s .mem) (lay .cell) 0) i p → Moves lay rd s (effectOf (shapeOf lay n i p) (seen lay rd s))
   unfolding effectOf shapeOf
   mid-moves pol n g h k b i p (start at bk q) = start-moves n i
   mid-moves pol n g h k b i p (rest low nop lt at bk q) = rw (nop p (omega arith)) moves-on
   mid-moves pol n g h k b i p (load1 at bk q e) = moves-put hidden _
-  mid-moves pol n g h k b i p (load2 {d = d} at bk q e) = cond-ind (Moves lay rd s) (ltb (getD (s .regs) hidden 0) (length (s .mem))) (λ _. moves-put d _) (λ _. faults)
+  mid-moves pol n g h k b i p (load2 {d = d} at bk q e) = moves-at _ _ (moves-put d _)
   mid-moves pol n g h k b i p (store1 at bk q e) = moves-put hidden _
-  mid-moves pol n g h k b i p (store2 at bk q e) = cond-ind (Moves lay rd s) (ltb (getD (s .regs) hidden 0) (length (s .mem))) (λ _. moves-cell _ _) (λ _. faults)
+  mid-moves pol n g h k b i p (store2 at bk q e) = moves-at _ _ (moves-cell _ _)
   mid-moves pol n g h k b i p (gox1 at bk q e) = moves-put hidden _
   mid-moves pol n g h k b i p (gox2 at bk q e) = moves-put hidden _
   mid-moves pol n g h k b i p (gox3 {d = d} {a = x} {b′ = y} {t = c} at bk q e) = jumps lay rd s (holdsOf c (getD (s .regs) x 0) (getD (s .regs) y 0)) (rOf g d % n) _ e
   mid-moves pol n g h k b i p (event1 at bk q e) = cond-ind (Moves lay rd s) (eqb (getD (s .regs) hidden 0) noArrow) (λ _. moves-end Stopped (λ x. no (cc))) (λ _. moves-on)
-  mid-moves pol n g h k b i p (event2 at bk q e some) = cond-ind (Moves lay rd s) (ltb (lay .cell) (length (s .mem))) (λ _. moves-cell (lay .cell) _) (λ _. faults)
+  mid-moves pol n g h k b i p (event2 at bk q e some) = moves-at _ _ (moves-cell (lay .cell) _)
   mid-moves pol n g h k b i p (event3 {e = x} at bk q some) = moves-event x
 
 -- ---- one step of a run

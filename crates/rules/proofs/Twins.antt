@@ -214,6 +214,7 @@ module _ (lay : Layout) (ws : List ℕ) (In : List ℕ → State → Type 0) (Ou
   unfolding runOn runOf afterRun afterTaken
   onward c c′ g g′ true f a lent lent′ w k =
       let f′ : fits lay (g′ .memory) ≡ true = rw (← a .memory) f in
+      let same : g .readings ≡ g′ .readings = a .readings in
       let l = eqb-true _ _ (both (rightLayout lay) (eqb (length (g .memory)) (lay .size)) f .1) in
       let l′ = sym (a .memory) ∙ l in
       let t : Twin lay (startOf (c .machine) (g .memory) (g .log)) (startOf (c .machine) (g′ .memory) (g′ .log)) =
@@ -226,10 +227,10 @@ module _ (lay : Layout) (ws : List ℕ) (In : List ℕ → State → Type 0) (Ou
       } in
       let r = run-alike (g .readings) (g .budget) 0 (startOf (c .machine) (g .memory) (g .log)) (g′ .memory) (g′ .log) (known .enter c g l lent w) t in
       record {
-        outcome = rw (f, f′, ← a .readings, ← a .budget, ← k .machine) (r .outcome);
-        logged = rw (f, f′, ← a .readings, ← a .budget, ← k .machine) (r .logged);
-        machine = rw (f, f′, ← a .readings, ← a .budget, ← k .machine) (ap (λ (o : Outcome). o .machine) (r .outcome));
-        seen = rw (f, f′, ← a .readings, ← a .budget, ← k .machine) (r .seen);
+        outcome = rw (f, f′, ← same, ← a .budget, ← k .machine) (r .outcome);
+        logged = rw (f, f′, ← same, ← a .budget, ← k .machine) (r .logged);
+        machine = rw (f, f′, ← same, ← a .budget, ← k .machine) (ap (λ (o : Outcome). o .machine) (r .outcome));
+        seen = rw (f, f′, ← same, ← a .budget, ← k .machine) (r .seen);
       }
   onward c c′ g g′ false f a lent lent′ w k =
       let f′ : fits lay (g′ .memory) ≡ false = rw (← a .memory) f in
@@ -268,7 +269,7 @@ unfolding shapeOf
 mid-safe lay pol n regs mem g h k b i p ok v l (start at bk q) = start-safe lay n regs mem i v (rw q l)
 mid-safe lay pol n regs mem g h k b i p ok v l (rest low nop lt at bk q) = rw (nop p (omega arith)) tt
 mid-safe lay pol n regs mem g h k b i p ok v l (load1 at bk q e) = tt
-mid-safe lay pol n regs mem g h k b i p ok v l (load2 {a = x} at bk q e) = rw e (ok .mask (rOf g x))
+mid-safe lay pol n regs mem g h k b i p ok v l (load2 {a = x} at bk q e) = ap (inBox lay) e ∙ ok .mask (rOf g x)
 mid-safe lay pol n regs mem g h k b i p ok v l (store1 at bk q e) = tt
 mid-safe lay pol n regs mem g h k b i p ok v l (store2 at bk q e) = tt
 mid-safe lay pol n regs mem g h k b i p ok v l (gox1 at bk q e) = tt
