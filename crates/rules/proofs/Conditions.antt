@@ -162,7 +162,7 @@ module _ (lay : Layout) (ws : List ℕ) (n : ℕ) (passed : Passed lay ws n) whe
   module _ (h : ℕ) (lh : h < n) where
     shaped : shapedAt lay n ws h ≡ true
     unfolding passesAt
-    shaped = both _ _ (passed .each h lh) .0
+    shaped = both (shapedAt lay n ws h) _ (passed .each h lh) .0
 
     pub passed-valid : Valid n (bundleAt lay ws h)
     unfolding shapedAt
