@@ -1,10 +1,8 @@
 // The C interface: the sandbox's parts over numbers, arrays and slices.
 use rules::Answer;
-use rules::Ending;
 use rules::Layout;
 use rules::Machine;
 use rules::Policy;
-use rules::Refusal;
 use rules::RunAnswer;
 use rules::Status;
 use words::layout::right;
@@ -12,7 +10,6 @@ ghost use mathlib.Core.Path.{_≡_};
 ghost use mathlib.Core.Bool.{cond};
 ghost use Prim.Native.Nat.{_<_, _^_};
 ghost use lib.ListN.{length};
-ghost use Rattle.rules.specs.Names.{endingNumber};
 ghost use Rattle.rules.specs.Policies.{policyOf};
 ghost use Rattle.rules.specs.Bytes.{readAnswer, readOutput, writeAnswer, writeOutput};
 ghost use Rattle.rules.specs.Bundles.{rewriteAnswer, rewriteOutput, checkAnswer};
@@ -119,26 +116,12 @@ fn answer_of(a: Answer) -> [u32; 2]
     [a.number as u32, a.place as u32]
 }
 
-fn ending_number(e: Ending) -> u32
-    ensures { λ r. ⌜ r ≡ endingNumber e ⌝ }
-{
-    match e {
-        Ending::Done => 20,
-        Ending::NoArrow => 21,
-        Ending::Fault => 22,
-        Ending::LogFull => 23,
-        Ending::Silent => 24,
-        Ending::Spent => 25,
-        Ending::Refused => Refusal::BAD_LAYOUT as u32,
-    }
-}
-
 fn run_answer_of(a: RunAnswer) -> [u32; 4]
     requires { ⌜ (a .pairs < 2 ^ 32) × (a .used < 2 ^ 32) ⌝ }
     ensures { λ r. ⌜ r ≡ runAnswerTo a ⌝ }
 {
     let e = a.ending;
-    let ending = ending_number(e);
+    let ending = sandbox::ending_number(e);
     [ending, a.steps, a.pairs as u32, a.used as u32]
 }
 

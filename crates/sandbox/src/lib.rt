@@ -144,6 +144,6 @@ pub fn ending_number(e: Ending) -> u32
         Ending::LogFull => 23,
         Ending::Silent => 24,
         Ending::Spent => 25,
-        Ending::Refused => 7,
+        Ending::Refused => Refusal::BAD_LAYOUT as u32,
     }
 }
