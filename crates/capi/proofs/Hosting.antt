@@ -16,12 +16,14 @@ use Rattle.rules.specs.declared.Outcome.{Outcome}
 use Rattle.rules.specs.declared.Installed.{Installed}
 use Rattle.rules.specs.declared.Ending.the-variants.{Refused}
 use Rattle.rules.specs.declared.Refusal.the-variants.{BadLayout}
-use Rattle.rules.specs.Names.{registers, baseBound, refusal}
+use Rattle.rules.specs.Names.{mostInstructions, registers, baseBound, refusal}
 use Rattle.rules.specs.Layouts.{layoutOf, rightLayout}
 use Rattle.rules.specs.Policies.{Policy}
+use Rattle.rules.specs.Bytes.{readAnswer}
 use Rattle.rules.specs.Bundles.{rewriteAnswer, rewriteOutput, checkAnswer}
 use Rattle.rules.specs.Machines.{machineOf, machineRefused, fits, installAnswer, installMachine, installMemory, installOf, Ran, ranOf, outcomeOf, runOf}
-use Rattle.rules.specs.Loading.{layoutFrom, statusFrom, machineFrom, machineTo, statusNumber, answerTo, runAnswerTo, recordAfter}
+use Rattle.rules.specs.Loading.{orElse, loadAnswer, loadCommands, loadMemory, loadMachine, loadOf, layoutFrom, statusFrom, machineFrom, machineTo, statusNumber, answerTo, runAnswerTo, recordAfter}
+use Rattle.rules.proofs.Bools.{cond-ind}
 use Rattle.rules.proofs.Layouts.{layout-facts}
 use Rattle.rules.proofs.Counts.{Bounded, RunCounts, run-counts}
 use Rattle.capi.specs.Hosts.{layoutHeld, runFor}
@@ -88,6 +90,22 @@ counts l ws mem rd log mem′ log′ budget m o q h =
     let b = subst (RunCounts log budget) (sym q) (run-counts l ws m mem budget rd log) in
     (omega (arith, b .pairs), omega (arith, b .used))
 
+-- loading reads before it looks at the layout: under one that is not right, bytes that reading refuses have reading's refusal, all others 7
+abbrev unlaid : List ℕ → Answer
+unlaid s = orElse (readAnswer s mostInstructions) (refusal BadLayout 0)
+
+module _ (pol : Policy) (s mem : List ℕ) (room : ℕ) (l : Layout) (f : rightLayout l ≡ false) where
+  unlaid-answer : loadAnswer l pol s room mem ≡ unlaid s
+  unfolding loadAnswer rewriteAnswer
+  unlaid-answer = rw f
+
+  unlaid-refused : eqb (loadAnswer l pol s room mem .number) 0 ≡ false
+  unlaid-refused = rw unlaid-answer (cond-ind (λ (a : Answer). eqb (a .number) 0 ≡ false) (eqb (readAnswer s mostInstructions .number) 0) (λ _. refl) (λ q. q))
+
+  unlaid-load : loadOf l pol s room mem ≡ record { machine = machineRefused; answer = unlaid s }
+  unfolding loadMachine
+  unlaid-load = rw (unlaid-refused, unlaid-answer)
+
 -- an answer and an output of a layout that is right or refused
 module _ (xs : List ℕ) (l : Layout) (e : l ≡ layoutHeld xs) where
   pub rewritten : (ws out left ns : List ℕ) (a : Answer) → a ≡ rewriteAnswer l ws (length out) → left ≡ rewriteOutput l ws out → ns ≡ answerTo a
@@ -106,6 +124,23 @@ module _ (xs : List ℕ) (l : Layout) (e : l ≡ layoutHeld xs) where
   installed pol mem left ms ns i p q r s =
       let h = p ∙ held (λ (k : Layout). installOf k pol mem) (record { machine = machineRefused; answer = refusal BadLayout 0 }) (λ k f. rw f) xs l e in
       (s ∙ ap (λ (x : Installed). answerTo (x .answer)) h, (r ∙ ap (λ (x : Installed). machineTo (x .machine)) h, q ∙ held (λ (k : Layout). installMemory k pol mem) mem (λ k f. rw f) xs l e))
+
+  pub loaded : (pol : Policy) (s out mem out′ mem′ ms ns : List ℕ) (i : Installed) → i ≡ loadOf l pol s (length out) mem → out′ ≡ loadCommands l pol s out mem → mem′ ≡ loadMemory l pol s (length out) mem → ms ≡ machineTo (i .machine) → ns ≡ answerTo (i .answer)
+      → (ns ≡ answerTo (loadAnswer (layoutFrom xs) pol s (length out) mem)) × ((ms ≡ machineTo (loadMachine (layoutFrom xs) pol s (length out) mem))
+      × ((out′ ≡ loadCommands (layoutFrom xs) pol s out mem) × (mem′ ≡ loadMemory (layoutFrom xs) pol s (length out) mem)))
+  unfolding loadCommands loadMemory
+  loaded pol s out mem out′ mem′ ms ns i p q r t u =
+      let room = length out in
+      let h = p ∙ held (λ (k : Layout). loadOf k pol s room mem) (record { machine = machineRefused; answer = unlaid s }) (unlaid-load pol s mem room) xs l e in (
+        u ∙ ap (λ (x : Installed). answerTo (x .answer)) h,
+        (
+          t ∙ ap (λ (x : Installed). machineTo (x .machine)) h,
+          (
+            q ∙ held (λ (k : Layout). loadCommands k pol s out mem) out (λ k f. rw (unlaid-refused pol s mem room k f)) xs l e,
+            r ∙ held (λ (k : Layout). loadMemory k pol s room mem) mem (λ k f. rw (unlaid-refused pol s mem room k f)) xs l e,
+          ),
+        ),
+      )
 
   module _ (ws ms mem rd log mem′ log′ : List ℕ) (budget : ℕ) (m : Machine) (o : Outcome) (p : m ≡ machineFrom ms) (q : ranOf o mem′ log′ ≡ runOf l ws m mem budget rd log) where
     ran : ranOf o mem′ log′ ≡ runFor xs ws ms mem budget rd log

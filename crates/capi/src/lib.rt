@@ -14,7 +14,7 @@ ghost use Rattle.rules.specs.Policies.{policyOf};
 ghost use Rattle.rules.specs.Bytes.{readAnswer, readOutput, writeAnswer, writeOutput};
 ghost use Rattle.rules.specs.Bundles.{rewriteAnswer, rewriteOutput, checkAnswer};
 ghost use Rattle.rules.specs.Machines.{installAnswer, installMachine, installMemory};
-ghost use Rattle.rules.specs.Loading.{layoutFrom, statusFrom, statusNumber, machineFrom, machineTo, answerTo, runAnswerTo, recordAfter};
+ghost use Rattle.rules.specs.Loading.{loadAnswer, loadMachine, loadCommands, loadMemory, layoutFrom, statusFrom, statusNumber, machineFrom, machineTo, answerTo, runAnswerTo, recordAfter};
 ghost use Rattle.capi.specs.Hosts.{layoutHeld, runFor};
 
 // The greatest B.
@@ -184,6 +184,30 @@ pub extern "C" fn hemdroas_install(
 {
     let policy = Policy { states, start };
     let done = installer::install(layout_of(*layout), policy, table, memory);
+    *machine = record_of(done.machine);
+    *answer = answer_of(done.answer);
+}
+
+// Loads a routine: all that comes before a run, in one call.
+#[no_mangle]
+pub extern "C" fn hemdroas_load(
+    layout: &[u32; 7],
+    states: u32,
+    start: u32,
+    table: &[u8],
+    bytes: &[u8],
+    commands: &mut [u64],
+    memory: &mut [u32],
+    machine: &mut [u32; 11],
+    answer: &mut [u32; 2],
+)
+    ensures answer { λ _. ⌜ now (answer .exit) ≡ answerTo (loadAnswer (layoutFrom (now (layout .entry))) (policyOf states start (now (table .entry))) (now (bytes .entry)) (length (now (commands .entry))) (now (memory .entry))) ⌝ }
+    ensures machine { λ _. ⌜ now (machine .exit) ≡ machineTo (loadMachine (layoutFrom (now (layout .entry))) (policyOf states start (now (table .entry))) (now (bytes .entry)) (length (now (commands .entry))) (now (memory .entry))) ⌝ }
+    ensures commands { λ _. ⌜ now (commands .exit) ≡ loadCommands (layoutFrom (now (layout .entry))) (policyOf states start (now (table .entry))) (now (bytes .entry)) (now (commands .entry)) (now (memory .entry)) ⌝ }
+    ensures memory { λ _. ⌜ now (memory .exit) ≡ loadMemory (layoutFrom (now (layout .entry))) (policyOf states start (now (table .entry))) (now (bytes .entry)) (length (now (commands .entry))) (now (memory .entry)) ⌝ }
+{
+    let policy = Policy { states, start };
+    let done = sandbox::load(layout_of(*layout), policy, table, bytes, commands, memory);
     *machine = record_of(done.machine);
     *answer = answer_of(done.answer);
 }
