@@ -11,7 +11,7 @@
 #include <stdio.h>
 #include <string.h>
 
-enum { CELLS = 1024, STATE_CELL = 0, STATES = 2, MOST_WORDS = 1023, MOST_COMMANDS = 4096, LOG = 64 };
+enum { CELLS = 1024, STATE_CELL = 0, STATES = 2, MOST_COMMANDS = 4096, LOG = 64 };
 enum { GAS = 0, DOOR = 2, NO_ARROW = 255 };
 
 /* U, SL, SH, M, P, S, B */
@@ -26,39 +26,12 @@ static const uint8_t routine[] = {0x04, 0x00,
 
 static const uint32_t readings[] = {1800, 1950, 2100};
 
-/* Too large for a small stack. */
-static uint64_t words[MOST_WORDS];
+/* The commands of the routine, and the memory of the drum. */
 static uint64_t commands[MOST_COMMANDS];
 static uint32_t memory[CELLS];
 
-/* Whether a step of the way was taken; if not, says why. */
-static int taken(const char *step, const uint32_t answer[2])
-{
-    if (answer[0] == 0)
-        return 1;
-    printf("answer %" PRIu32 "\n", answer[0]);
-    fprintf(stderr, "%s: refused at %" PRIu32 "\n", step, answer[1]);
-    return 0;
-}
-
 int main(void)
 {
-    uint32_t answer[2];
-
-    hemdroas_read(routine, sizeof routine, words, MOST_WORDS, answer);
-    if (!taken("reading", answer))
-        return 1;
-    size_t instructions = answer[1];
-
-    hemdroas_rewrite(layout, words, instructions, commands, MOST_COMMANDS, answer);
-    if (!taken("rewriting", answer))
-        return 1;
-    size_t count = answer[1];
-
-    hemdroas_check(layout, commands, count, answer);
-    if (!taken("checking", answer))
-        return 1;
-
     /* Everything is allowed while the door is shut; once it is open, gas is
      * not. No event shuts it. */
     uint8_t table[16 * STATES];
@@ -68,14 +41,18 @@ int main(void)
     table[16 + GAS] = NO_ARROW;
 
     uint32_t machine[11];
-    hemdroas_install(layout, STATES, 0, table, sizeof table, memory, CELLS, machine, answer);
-    if (!taken("installing", answer))
+    uint32_t answer[2]; /* number, and place or count of commands */
+    hemdroas_load(layout, STATES, 0, table, sizeof table, routine, sizeof routine,
+                  commands, MOST_COMMANDS, memory, CELLS, machine, answer);
+    printf("answer %" PRIu32 "\n", answer[0]);
+    if (answer[0] != 0) {
+        fprintf(stderr, "loading: refused at %" PRIu32 "\n", answer[1]);
         return 1;
-    puts("answer 0");
+    }
 
     uint32_t log[LOG];
     uint32_t end[4]; /* ending, steps, pairs, readings used */
-    hemdroas_run(layout, commands, count, machine, memory, CELLS, 1000,
+    hemdroas_run(layout, commands, answer[1], machine, memory, CELLS, 1000,
                  readings, sizeof readings / sizeof readings[0], log, LOG, end);
     if (end[0] == 7) {
         fputs("running: refused\n", stderr);

@@ -1,10 +1,12 @@
 /*
  * Guest routines on a drum controller, kept to their sandbox.
  *
- * The usual way: read a routine's bytes into words, rewrite the words into
- * commands, check the commands, install the policy, then run, as often as the
- * routine needs. Only checking makes a command list trustworthy: check every
- * list, wherever it comes from, and keep it unchanged from then on.
+ * The usual way: load a routine's bytes, then run, as often as the routine
+ * needs. Loading is four steps in one call, and each can be called alone: read
+ * the bytes into words, rewrite the words into commands, check the commands,
+ * install the policy. Only checking makes a command list trustworthy: check
+ * every list that was not loaded, wherever it comes from, and keep the list
+ * unchanged from then on.
  *
  * Buffers. Each pointer comes with the number of its elements, and no call
  * reaches past it. The buffers of one call must not overlap, nor overlap the
@@ -45,8 +47,8 @@
  *  13 bad base         B no multiple of the number of commands
  *
  * A refusal leaves every buffer as it was, and so a run's machine record; a
- * refused installation yields a record of zeros with status 3. A success
- * leaves the output past its result as it was.
+ * refused loading or installation yields a record of zeros with status 3. A
+ * success leaves the output past its result as it was.
  */
 #ifndef HEMDROAS_H
 #define HEMDROAS_H
@@ -77,6 +79,16 @@ void hemdroas_check  (const uint32_t layout[7], const uint64_t *commands, size_t
  * 16 times that; table[16 * s + e] is the state after event e in state s, or
  * 255 where event e is not allowed. */
 void hemdroas_install(const uint32_t layout[7], uint32_t states, uint32_t start, const uint8_t *table, size_t len,
+                      uint32_t *memory, size_t cells, uint32_t machine[11], uint32_t answer[2]);
+
+/* Loads a routine of n bytes: reads, rewrites and checks it, then installs the
+ * policy. The answer is the first refusal of the four, with its place, so that
+ * damaged bytes are refused before a layout that is not right; or 0 and the
+ * count of commands, which then stand at the start of commands. 4096 commands
+ * are always room enough. It takes about 50 KB of stack, the four calls by
+ * themselves 10 KB at most. */
+void hemdroas_load   (const uint32_t layout[7], uint32_t states, uint32_t start, const uint8_t *table, size_t len,
+                      const uint8_t *bytes, size_t n, uint64_t *commands, size_t room,
                       uint32_t *memory, size_t cells, uint32_t machine[11], uint32_t answer[2]);
 
 /* Runs until the routine ends, pauses or has done budget steps. Each event

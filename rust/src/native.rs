@@ -45,6 +45,21 @@ extern "C" {
         machine: *mut [u32; 11],
         answer: *mut [u32; 2],
     );
+    fn hemdroas_load(
+        layout: *const [u32; 7],
+        states: u32,
+        start: u32,
+        table: *const u8,
+        len: usize,
+        bytes: *const u8,
+        n: usize,
+        commands: *mut u64,
+        room: usize,
+        memory: *mut u32,
+        cells: usize,
+        machine: *mut [u32; 11],
+        answer: *mut [u32; 2],
+    );
     fn hemdroas_run(
         layout: *const [u32; 7],
         commands: *const u64,
@@ -158,6 +173,51 @@ pub fn install_record(
             policy.start,
             policy.table.as_ptr(),
             policy.table.len(),
+            memory.as_mut_ptr(),
+            memory.len(),
+            &mut record.0,
+            &mut pair,
+        );
+    }
+    answer(pair)
+}
+
+/// Loads a routine: reads its bytes, rewrites, checks and installs, and yields
+/// a machine at the first of its commands; after a refusal of any of the four,
+/// [`Machine::REFUSED`].
+pub fn load(
+    layout: &Layout,
+    policy: &Policy,
+    bytes: &[u8],
+    commands: &mut [u64],
+    memory: &mut [u32],
+) -> (Answer, Machine) {
+    let mut record = Machine::REFUSED.to_record();
+    let answer = load_record(layout, policy, bytes, commands, memory, &mut record);
+    (answer, record.to_machine())
+}
+
+/// [`load`] into a record of the C interface.
+pub fn load_record(
+    layout: &Layout,
+    policy: &Policy,
+    bytes: &[u8],
+    commands: &mut [u64],
+    memory: &mut [u32],
+    record: &mut Record,
+) -> Answer {
+    let mut pair = [0; 2];
+    unsafe {
+        hemdroas_load(
+            &layout.to_array(),
+            policy.states,
+            policy.start,
+            policy.table.as_ptr(),
+            policy.table.len(),
+            bytes.as_ptr(),
+            bytes.len(),
+            commands.as_mut_ptr(),
+            commands.len(),
             memory.as_mut_ptr(),
             memory.len(),
             &mut record.0,

@@ -7,15 +7,18 @@ mod common;
 use common::*;
 use hemdroas::model::words::{command, guest, pack, LONGEST};
 use hemdroas::model::{self, bundle_count};
-use hemdroas::{native, Answer, Ending, Layout, Policy, Record, RunAnswer};
+use hemdroas::{native, Answer, Ending, Layout, Machine, Policy, Record, RunAnswer};
 
 /// The operations, and the numbers that each can answer.
-const OPERATIONS: [(&str, &[usize]); 6] = [
+const OPERATIONS: [(&str, &[usize]); 7] = [
     ("read", &[0, 1, 2, 3, 4, 5, 6, 9]),
     ("write", &[0, 2, 3, 4, 5, 9]),
     ("rewrite", &[0, 2, 3, 4, 5, 7, 8, 9, 13]),
     ("check", &[0, 7, 11, 12, 13]),
     ("install", &[0, 7, 10]),
+    // 1 to 6 by reading, 7 to 9 and 13 by rewriting, 7 and 10 by installing;
+    // the checker refuses nothing that was rewritten.
+    ("load", &[0, 1, 2, 3, 4, 5, 6, 7, 8, 9, 10, 13]),
     ("run", &[7, 20, 21, 22, 23, 24, 25]),
 ];
 const READ: usize = 0;
@@ -23,7 +26,8 @@ const WRITE: usize = 1;
 const REWRITE: usize = 2;
 const CHECK: usize = 3;
 const INSTALL: usize = 4;
-const RUN: usize = 5;
+const LOAD: usize = 5;
+const RUN: usize = 6;
 
 /// Each number of each operation must be seen at least so often.
 const LEAST: u64 = 200;
@@ -32,11 +36,15 @@ const LEAST_CASES: u64 = 100_000;
 /// How often each number was answered.
 #[derive(Default)]
 struct Tally {
-    seen: [[u64; 26]; 6],
+    seen: [[u64; 26]; 7],
     /// Runs whose record came in with a status above 3.
     strange_status: u64,
     /// Layouts with a code base beyond 16 bits.
     far_base: u64,
+    /// Loads under such a layout that reading refused before it was looked at.
+    far_unread: u64,
+    /// Loads under a right layout that installing refused for the memory.
+    other_memory: u64,
     /// Steps, pairs and readings over all runs.
     steps: u64,
     pairs: u64,
@@ -119,6 +127,53 @@ fn install(
     note_layout(tally, layout, answer.number());
     tally.count(INSTALL, answer.number());
     (answer, their_record)
+}
+
+/// What a load is lent.
+#[derive(Clone, Debug, PartialEq)]
+struct Loading {
+    commands: Vec<u64>,
+    memory: Vec<u32>,
+    record: Record,
+}
+
+/// Loads with both, and compares.
+fn load(tally: &mut Tally, layout: &Layout, policy: &Policy, bytes: &[u8], mut lent: Loading) {
+    let before = lent.clone();
+    let mut ours = lent.clone();
+    let expected = model::load_record(
+        layout,
+        policy,
+        bytes,
+        &mut ours.commands,
+        &mut ours.memory,
+        &mut ours.record,
+    );
+    let answer = native::load_record(
+        layout,
+        policy,
+        bytes,
+        &mut lent.commands,
+        &mut lent.memory,
+        &mut lent.record,
+    );
+    let input = || format!("{bytes:02x?} with {policy:?} under {layout:?}");
+    assert_eq!(answer, expected, "loading {}", input());
+    assert_eq!(lent, ours, "what was lent to the load of {}", input());
+    assert_untouched(answer, &before.commands, &lent.commands);
+    if !answer.is_taken() {
+        assert_eq!(lent.memory, before.memory);
+        assert_eq!(lent.record, Machine::REFUSED.to_record());
+    }
+    if (1..=6).contains(&answer.number()) {
+        tally.far_unread += u64::from(layout.code_base > 65_535);
+    } else {
+        note_layout(tally, layout, answer.number());
+    }
+    if answer.number() == 7 && model::is_right(layout) {
+        tally.other_memory += 1;
+    }
+    tally.count(LOAD, answer.number());
 }
 
 /// What a run is lent beside its list.
@@ -316,14 +371,18 @@ fn some_bytes(rng: &mut Rng) -> Vec<u8> {
     bytes
 }
 
+/// The instructions that a routine's first two bytes announce.
+fn announced(bytes: &[u8]) -> usize {
+    match bytes {
+        &[low, high, ..] => usize::from(u16::from_le_bytes([low, high])),
+        _ => 3,
+    }
+}
+
 fn reading(tally: &mut Tally, rng: &mut Rng) {
     for _ in 0..30_000 {
         let bytes = some_bytes(rng);
-        let count = match bytes[..] {
-            [low, high, ..] => usize::from(u16::from_le_bytes([low, high])),
-            _ => 3,
-        };
-        let needed = count.min(LONGEST + 2);
+        let needed = announced(&bytes).min(LONGEST + 2);
         let room = room(rng, needed);
         let words = hopper(rng, room);
         if let Answer::Taken(count) = read(tally, &bytes, &words) {
@@ -508,56 +567,103 @@ fn some_record(rng: &mut Rng) -> Record {
     Record(std::array::from_fn(|_| rng.word()))
 }
 
+/// What is installed where, and in how many cells.
+struct Installation {
+    layout: Layout,
+    states: u32,
+    start: u32,
+    table: Vec<u8>,
+    cells: usize,
+}
+
+impl Installation {
+    fn policy(&self) -> Policy<'_> {
+        Policy {
+            states: self.states,
+            start: self.start,
+            table: &self.table,
+        }
+    }
+}
+
+/// A policy for a layout, with up to two things about it spoiled.
+fn some_installation(rng: &mut Rng, mut layout: Layout) -> Installation {
+    let (mut start, mut table) = policy(rng, layout.states, 80);
+    let mut states = layout.states;
+    let mut cells = layout.cells as usize;
+    for _ in 0..rng.below(3) {
+        match rng.below(9) {
+            0 => {
+                start = rng.pick(&[
+                    states.wrapping_sub(1),
+                    states,
+                    states.wrapping_add(1),
+                    255,
+                    u32::MAX,
+                ])
+            }
+            1 => {
+                states = rng.pick(&[
+                    states.wrapping_sub(1),
+                    states.wrapping_add(1),
+                    0,
+                    16,
+                    u32::MAX,
+                ])
+            }
+            2 => table.truncate(rng.below(table.len() + 1)),
+            3 => table.resize(table.len() + rng.between(1, 17), 0),
+            4 if !table.is_empty() => {
+                let at = rng.below(table.len());
+                let near = layout.states as u8;
+                table[at] = rng.pick(&[near.wrapping_sub(1), near, 254, 255, 16, 17]);
+            }
+            5 if !table.is_empty() => {
+                let last = table.len() - 1;
+                table[last] = rng.next() as u8;
+            }
+            6 => layout = senseless_layout(rng, &layout),
+            7 => cells = rng.pick(&[cells.saturating_sub(1), cells + 1, 0, 4096]),
+            _ => {}
+        }
+    }
+    Installation {
+        layout,
+        states,
+        start,
+        table,
+        cells,
+    }
+}
+
 fn installing(tally: &mut Tally, rng: &mut Rng) {
     for _ in 0..15_000 {
-        let mut layout = right_layout(rng, 1);
-        let (mut start, mut table) = policy(rng, layout.states, 80);
-        let mut states = layout.states;
-        let mut cells = layout.cells as usize;
-        for _ in 0..rng.below(3) {
-            match rng.below(9) {
-                0 => {
-                    start = rng.pick(&[
-                        states.wrapping_sub(1),
-                        states,
-                        states.wrapping_add(1),
-                        255,
-                        u32::MAX,
-                    ])
-                }
-                1 => {
-                    states = rng.pick(&[
-                        states.wrapping_sub(1),
-                        states.wrapping_add(1),
-                        0,
-                        16,
-                        u32::MAX,
-                    ])
-                }
-                2 => table.truncate(rng.below(table.len() + 1)),
-                3 => table.resize(table.len() + rng.between(1, 17), 0),
-                4 if !table.is_empty() => {
-                    let at = rng.below(table.len());
-                    let near = layout.states as u8;
-                    table[at] = rng.pick(&[near.wrapping_sub(1), near, 254, 255, 16, 17]);
-                }
-                5 if !table.is_empty() => {
-                    let last = table.len() - 1;
-                    table[last] = rng.next() as u8;
-                }
-                6 => layout = senseless_layout(rng, &layout),
-                7 => cells = rng.pick(&[cells.saturating_sub(1), cells + 1, 0, 4096]),
-                _ => {}
-            }
-        }
-        let policy = Policy {
-            states,
-            start,
-            table: &table,
-        };
-        let mut memory = rng.cells(cells);
+        let layout = right_layout(rng, 1);
+        let installation = some_installation(rng, layout);
+        let mut memory = rng.cells(installation.cells);
         let record = some_record(rng);
-        let _ = install(tally, &layout, &policy, &mut memory, record);
+        let policy = installation.policy();
+        let _ = install(tally, &installation.layout, &policy, &mut memory, record);
+    }
+}
+
+fn loading(tally: &mut Tally, rng: &mut Rng) {
+    for _ in 0..30_000 {
+        let bytes = some_bytes(rng);
+        let bundles = bundle_count(announced(&bytes).min(LONGEST));
+        let mut layout = right_layout(rng, bundles);
+        if rng.chance(10) {
+            layout.code_base = base_for(rng, 1);
+        }
+        let installation = some_installation(rng, layout);
+        let room = room(rng, 4 * bundles);
+        let lent = Loading {
+            commands: hopper(rng, room),
+            memory: rng.cells(installation.cells),
+            record: some_record(rng),
+        };
+        let policy = installation.policy();
+        load(tally, &installation.layout, &policy, &bytes, lent);
     }
 }
 
@@ -779,6 +885,10 @@ fn sample() {
     let mut memory = [0; 1024];
     let (answer, mut machine) = native::install(&TRIAL, &policy, &mut memory);
     assert_eq!(answer, Answer::Taken(0));
+    let (mut loaded, mut cells) = ([0; 32], [0; 1024]);
+    let answer = native::load(&TRIAL, &policy, &SAMPLE, &mut loaded, &mut cells);
+    assert_eq!(answer, (Answer::Taken(32), machine));
+    assert_eq!((loaded, cells), (commands, memory));
     let mut log = [0; 64];
     let answer = native::run(
         &TRIAL,
@@ -803,7 +913,7 @@ fn sample() {
 fn the_library_does_what_the_model_does() {
     sample();
     type Part = fn(&mut Tally, &mut Rng);
-    let parts: [(&str, Part); 11] = [
+    let parts: [(&str, Part); 12] = [
         ("reading", reading),
         ("writing", writing),
         ("each bit of an instruction", each_bit_of_an_instruction),
@@ -812,6 +922,7 @@ fn the_library_does_what_the_model_does() {
         ("each bit of a bundle", each_bit_of_a_bundle),
         ("checking", checking),
         ("installing", installing),
+        ("loading", loading),
         ("each bit of a command", each_bit_of_a_command),
         ("hand-made runs", hand_made_runs),
         ("runs in a row", runs_in_a_row),
@@ -842,8 +953,8 @@ fn the_library_does_what_the_model_does() {
     let sums: Vec<String> = numbers.map(|n| format!("{n}: {}", sums[n])).collect();
     say(&format!("all: {}", sums.join(", ")));
     say(&format!(
-        "{} cases; {} steps, {} pairs, {} readings; {} records with a status above 3, {} bases above 65,535",
-        tally.cases(), tally.steps, tally.pairs, tally.readings, tally.strange_status, tally.far_base
+        "{} cases; {} steps, {} pairs, {} readings; {} records with a status above 3, {} bases above 65,535; {} loads refused by reading under such a base, {} for the memory alone",
+        tally.cases(), tally.steps, tally.pairs, tally.readings, tally.strange_status, tally.far_base, tally.far_unread, tally.other_memory
     ));
 
     for ((name, numbers), seen) in OPERATIONS.iter().zip(&tally.seen) {
@@ -860,5 +971,6 @@ fn the_library_does_what_the_model_does() {
     }
     assert!(tally.cases() >= LEAST_CASES);
     assert!(tally.strange_status >= LEAST && tally.far_base >= LEAST);
+    assert!(tally.far_unread >= LEAST && tally.other_memory >= LEAST);
     assert!(tally.pairs >= 10_000 && tally.readings >= 10_000);
 }
