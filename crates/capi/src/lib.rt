@@ -207,9 +207,9 @@ pub extern "C" fn hemdroas_load(
     ensures memory { λ _. ⌜ now (memory .exit) ≡ loadMemory (layoutFrom (now (layout .entry))) (policyOf states start (now (table .entry))) (now (bytes .entry)) (length (now (commands .entry))) (now (memory .entry)) ⌝ }
 {
     let policy = Policy { states, start };
-    let done = sandbox::load(layout_of(*layout), policy, table, bytes, commands, memory);
-    *machine = record_of(done.machine);
-    *answer = answer_of(done.answer);
+    let loaded = sandbox::load(layout_of(*layout), policy, table, bytes, commands, memory);
+    *machine = record_of(loaded.machine);
+    *answer = answer_of(loaded.answer);
 }
 
 // Runs a record; one that is refused comes back as it was.

@@ -12,4 +12,4 @@ hemdroas-check-spec =
     (λ c κs. search needs)
     (λ c κs. search needs)
     (λ c κs. narrow _ _ (c .check .ensures) (check-bound _ _) (lit< tt))
-    (λ c. search (checked, needs)))
+    (λ c. checked _ _ (c .before .before .layout-of .ensures) _ _ _ (c .before .check .ensures) (c .answer-of .ensures)))
