@@ -1,6 +1,7 @@
-// From a routine's bytes to an installed machine and its commands: reading, rewriting, checking
-// and installing in one call. Whatever refuses, lent memory stays as it was, so the parts work on
-// lists of this crate's own and only a loaded routine's commands are copied out.
+// What programs, the C interface and hosts share: loading, and the number of an ending.
+// Loading goes from a routine's bytes to an installed machine and its commands: reading, rewriting,
+// checking and installing in one call. Whatever refuses, lent memory stays as it was, so the parts
+// work on lists of this crate's own and only a loaded routine's commands are copied out.
 use rules::Answer;
 use rules::Ending;
 use rules::Installed;
