@@ -5,7 +5,7 @@ use mathlib.Core.List.{List, [], _∷_}
 use Prim.Native.Nat.{ℕ, zero, suc, _+_, _-_, _*_, _/_, _%_, _^_, _≤_, _<_}
 use native.Mathlib.Omega.{arith}
 use lib.Count.{ones, ones-le}
-use lib.Dec.{ltb, leb, eqb}
+use lib.Dec.{ltb, eqb}
 use lib.ListN.{length, getD}
 use borrow.Author.Tests.{leb-true, le-leb, lt-ltb, eqb-true, eq-eqb, ne-eqb}
 use Rattle.rules.specs.declared.Layout.{Layout}
@@ -163,14 +163,11 @@ module _ (l : Layout) (ws : List ℕ) (t : Bool) (et : t ≡ rightLayout l) wher
           go zero e = absurd (omega (arith, ones-le 0 0 (omega arith)))
           go (suc k) e = omega arith
 
-      module _ (b : Bool) (eb : b ≡ (leb 1 (length ws / bundleLength) && (leb (length ws / bundleLength) mostBundles && baseRight l (length ws / bundleLength)))) where
-        based : b ≡ baseRight l (length ws / bundleLength)
-        based = eb ∙ rw (le-leb 1 (length ws / bundleLength) count-some, le-leb (length ws / bundleLength) mostBundles count-most)
-
+      module _ (b : Bool) (eb : b ≡ baseRight l (length ws / bundleLength)) where
         pub bad-base : b ≡ false → refusal BadBase 0 ≡ checkAnswer l ws
         unfolding checkAnswer
-        bad-base g = rw (← et, e, ← ec, f, ← based, g)
+        bad-base g = rw (← et, e, ← ec, f, ← eb, g)
 
         pub checked : b ≡ true → (a : Answer) → a ≡ checkFrom l (length ws / bundleLength) ws 0 (length ws / bundleLength) → a ≡ checkAnswer l ws
         unfolding checkAnswer
-        checked g a ea = ea ∙ rw (← et, e, ← ec, f, ← based, g)
+        checked g a ea = ea ∙ rw (← et, e, ← ec, f, ← eb, g)

@@ -16,12 +16,11 @@ use Rattle.rules.specs.declared.One.{One}
 use Rattle.rules.specs.declared.One.the-variants.{Word, Bad}
 use Rattle.rules.specs.declared.Refusal.the-variants.{Taken, Trailing}
 use Rattle.rules.specs.Names.{mostInstructions, numberOf, answer, refusal}
-use Rattle.rules.specs.Words.{judgeOf, judgeWord, fieldsOf, zeroOf, packFields}
+use Rattle.rules.specs.Words.{judgeOf, judgeWord, fieldsOf, zeroOf, packFields, cutOf}
 use Rattle.rules.specs.Bytes.{byteAt, mapOf, sizeOf, gap, oneFields, oneOf, scanOf, wordsOf, countOf, readAnswer, readOutput}
 use Rattle.rules.proofs.Bytes.{one-read, fields-word, read-scan, ReadOk, read-ok}
 use Rattle.rules.proofs.Bools.{both}
 use Rattle.rules.proofs.Packing.{InBits, pack-kind, pack-d, pack-a, pack-b, pack-c, pack-v, pack-zero}
-use Rattle.words.specs.Packing.{cutOf}
 use Rattle.words.proofs.Judging.{uncut}
 
 -- ---- one instruction

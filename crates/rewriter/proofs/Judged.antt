@@ -1,18 +1,17 @@
 -- Laws of what rewriting answers.
 use mathlib.Core.Path.{_≡_, sym, _∙_}
-use mathlib.Core.Bool.{Bool, true, false, _&&_}
+use mathlib.Core.Bool.{Bool, true, false}
 use mathlib.Core.List.{List}
-use Prim.Native.Nat.{ℕ, _+_, _*_, _≤_, _<_, _^_, min}
+use Prim.Native.Nat.{ℕ, _+_, _*_, _≤_, _<_, _^_}
 use native.Mathlib.Omega.{arith}
 use native.Mathlib.Numerals.{add-one}
-use lib.Dec.{leb}
 use lib.ListN.{length, getD, drop}
 use lib.Seq.{drop-cons, drop-length}
-use borrow.Author.Tests.{lt-ltb, le-ltb, le-leb, eq-eqb, ne-eqb}
+use borrow.Author.Tests.{lt-ltb, le-ltb, eq-eqb, ne-eqb}
 use Rattle.rules.specs.declared.Layout.{Layout}
 use Rattle.rules.specs.declared.Answer.{Answer}
 use Rattle.rules.specs.declared.Refusal.the-variants.{BadBase, BadLayout, Oversize, SmallOutput, Taken}
-use Rattle.rules.specs.Names.{mostInstructions, mostBundles, bundleLength, numberOf, answer, refusal}
+use Rattle.rules.specs.Names.{mostInstructions, bundleLength, numberOf, answer, refusal}
 use Rattle.rules.specs.Layouts.{rightLayout}
 use Rattle.rules.specs.Words.{judgeAt, bundlesFor}
 use Rattle.rules.specs.Bundles.{judgeFrom, baseRight, placeAnswer, rewriteAnswer}
@@ -36,35 +35,22 @@ module _ (n : ℕ) (ws : List ℕ) (i : ℕ) (z a : Answer) (ea : a ≡ judgeFro
 
 -- ---- the base and the room
 
-module _ (n : ℕ) (h : n ≤ mostInstructions) where
-  pub count-is : (k : ℕ) → k ≡ bundlesFor (min n mostInstructions) → k ≡ bundlesFor n
-  count-is k e = let m : min n mostInstructions ≡ n = omega arith in e ∙ rw m
+module _ (n k : ℕ) (ek : k ≡ bundlesFor n) where
+  pub length-fits : n ≤ mostInstructions → bundleLength * k < 2 ^ 64
+  length-fits h = omega (arith, ek, sizes n h .most)
 
-  some-bundles : 1 ≤ bundlesFor n
-  some-bundles = omega (arith, sizes n (omega arith) .above)
+  module _ (l : Layout) (room : ℕ) (b : Bool) (eb : b ≡ baseRight l k) where
+    pub place-base : b ≡ false → refusal BadBase 0 ≡ placeAnswer l n room
+    unfolding placeAnswer
+    place-base e = rw (← ek, ← eb, e)
 
-  most-bundles : bundlesFor n ≤ mostBundles
-  most-bundles = sizes n (omega arith) .least 10 (omega arith)
+    pub place-small : b ≡ true → room < bundleLength * k → refusal SmallOutput 0 ≡ placeAnswer l n room
+    unfolding placeAnswer
+    place-small e g = rw (← ek, ← eb, e, lt-ltb room (bundleLength * k) g)
 
-  module _ (k : ℕ) (ek : k ≡ bundlesFor (min n mostInstructions)) where
-    pub length-fits : bundleLength * k < 2 ^ 64
-    length-fits = omega (arith, count-is k ek, most-bundles)
-
-    module _ (l : Layout) (room : ℕ) (b : Bool) (eb : b ≡ (leb 1 k && (leb k mostBundles && baseRight l k))) where
-      based : b ≡ baseRight l (bundlesFor n)
-      based = eb ∙ rw (count-is k ek) (rw (le-leb 1 (bundlesFor n) some-bundles, le-leb (bundlesFor n) mostBundles most-bundles))
-
-      pub place-base : b ≡ false → refusal BadBase 0 ≡ placeAnswer l n room
-      unfolding placeAnswer
-      place-base e = rw (← based, e)
-
-      pub place-small : b ≡ true → room < bundleLength * k → refusal SmallOutput 0 ≡ placeAnswer l n room
-      unfolding placeAnswer
-      place-small e g = rw (← based, e, ← count-is k ek, lt-ltb room (bundleLength * k) g)
-
-      pub place-taken : b ≡ true → bundleLength * k ≤ room → answer (numberOf Taken) (bundleLength * k) ≡ placeAnswer l n room
-      unfolding placeAnswer
-      place-taken e g = rw (← based, e, ← count-is k ek, le-ltb room (bundleLength * k) g)
+    pub place-taken : b ≡ true → bundleLength * k ≤ room → answer (numberOf Taken) (bundleLength * k) ≡ placeAnswer l n room
+    unfolding placeAnswer
+    place-taken e g = rw (← ek, ← eb, e, le-ltb room (bundleLength * k) g)
 
 -- ---- the whole answer
 

@@ -2,7 +2,7 @@
 use mathlib.Core.Path.{_≡_, refl, _∙_, subst}
 use mathlib.Core.Bool.{true}
 use mathlib.Core.List.{List, [], _∷_}
-use Prim.Native.Nat.{ℕ, _+_, _≤_, min}
+use Prim.Native.Nat.{ℕ, _+_, _^_, _≤_, _<_}
 use native.Mathlib.Omega.{arith}
 use native.Mathlib.Nat.{zero-add}
 use lib.Dec.{ltb, eqb}
@@ -21,7 +21,6 @@ use Rattle.rules.proofs.Facts.{Valid}
 use Rattle.rules.proofs.Bools.{cond-ind}
 use Rattle.rules.proofs.Conditions.{Taken, taken-of, size-laws, count-most, routine-valid, routine-length}
 use Rattle.rewriter.specs.Rewriting.{Ready}
-use Rattle.rewriter.proofs.Judged.{count-is}
 
 -- facts of an instruction as the test of it
 valid-of : (n : ℕ) (i : Instr) → Valid n i → valid n i ≡ true
@@ -64,28 +63,27 @@ module _ (l : Layout) (ws : List ℕ) (room : ℕ) where
     taken : Taken l ws
     taken = taken-of l ws room zero-is
 
-    module _ (k : ℕ) (ek : k ≡ bundlesFor (min (length ws) mostInstructions)) where
-      count : k ≡ bundlesFor (length ws)
-      count = count-is (length ws) (taken .most) k ek
+    pub short : length ws < 2 ^ 32
+    short = omega (arith, taken .most)
 
-      pub ready : Ready k ws room
-      ready =
-          record {
-            some = omega (arith, count, size-laws l ws taken .above);
-            most = omega (arith, count, count-most l ws taken);
-            fit = omega (arith, count, roomy zero-is);
-            each = λ h. rw count (valid-of (bundlesFor (length ws)) (routine ws h) (routine-valid l ws taken h));
-          }
+    pub ready : (k : ℕ) → k ≡ bundlesFor (length ws) → Ready k ws room
+    ready k ek =
+        record {
+          some = omega (arith, ek, size-laws l ws taken .above);
+          most = omega (arith, ek, count-most l ws taken);
+          fit = omega (arith, ek, roomy zero-is);
+          each = λ h. rw ek (valid-of (bundlesFor (length ws)) (routine ws h) (routine-valid l ws taken h));
+        }
 
 module _ (l : Layout) (ws out : List ℕ) (a : Answer) (ea : a ≡ rewriteAnswer l ws (length out)) where
-  pub written : a .number ≡ 0 → (k : ℕ) → k ≡ bundlesFor (min (length ws) mostInstructions) → (out′ : List ℕ) → out′ ≡ sets out 0 (rewritten l k (routine ws))
+  pub written : a .number ≡ 0 → (k : ℕ) → k ≡ bundlesFor (length ws) → (out′ : List ℕ) → out′ ≡ sets out 0 (rewritten l k (routine ws))
       → out′ ≡ rewriteOutput l ws out
   unfolding rewriteOutput
   written z k ek out′ eo =
       let n : rewriteAnswer l ws (length out) .number ≡ 0 = zero-is l ws (length out) a ea z in
       let t = taken l ws (length out) a ea z in
       let s = routine-length l ws t in
-      eo ∙ rw (count l ws (length out) a ea z k ek, eq-eqb _ 0 n)
+      eo ∙ rw (ek, eq-eqb _ 0 n)
       (sets-eq (commandsOf l ws) out 0 (omega (arith, s, roomy l ws (length out) n)) ∙ rw (zero-add, s))
 
   pub refused : (a .number ≡ 0 → ⊥) → out ≡ rewriteOutput l ws out

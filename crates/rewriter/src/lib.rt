@@ -41,7 +41,7 @@ fn place(layout: Layout, n: usize, room: usize) -> Answer
     requires { ⌜ n ≤ mostInstructions ⌝ }
     ensures { λ r. ⌜ r ≡ placeAnswer layout n room ⌝ }
 {
-    let count = bundles(n);
+    let count = bundles(n as u32);
     let based = base_right(layout, count);
     let length = Bundle::LENGTH * count;
     if !based {
@@ -137,7 +137,7 @@ pub fn rewrite(layout: Layout, words: &[u64], commands: &mut [u64]) -> Answer
     let answer = judge(layout, words, commands.len());
     let number = answer.number;
     if number == 0 {
-        fill(layout, bundles(words.len()), words, commands);
+        fill(layout, bundles(words.len() as u32), words, commands);
     }
     answer
 }

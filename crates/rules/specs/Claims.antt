@@ -13,7 +13,7 @@ use Rattle.rules.specs.declared.Status.the-variants.{Running, Ended, Sto
 use Rattle.rules.specs.declared.Ending.{Ending}
 use Rattle.rules.specs.declared.Ending.the-variants.{Done, NoArrow, Fault, LogFull, Silent, Spent, Refused}
 use Rattle.rules.specs.Names.{mostInstructions, mostBundles, bundleLength, bundleShift, guestRegisters, answer, endingNumber}
-use Rattle.rules.specs.Layouts.{rightLayout, maskOf, inBox}
+use Rattle.rules.specs.Layouts.{span, rightLayout, widthOf, maskOf, inBox}
 use Rattle.rules.specs.Policies.{Policy, allowed, stateOver}
 use Rattle.rules.specs.Words.{routine, bundlesFor}
 use Rattle.rules.specs.Bytes.{readAnswer, readOutput, writeAnswer, writeOutput}
@@ -25,10 +25,12 @@ use Rattle.rules.specs.Runs.{begunFrom, Given, Carried, afterRun, allRun
 
 -- ---- masks and sizes
 
--- 'On a right layout it lies in SL..SH and leaves an address already there as it is'; the three commands before GOXR reach B + 4 × (rd modulo N)
+-- 'On a right layout it lies in SL..SH and leaves an address already there as it is'; the sandbox has 2 to the mask's width cells;
+-- the three commands before GOXR reach B + 4 × (rd modulo N)
 pub record MaskLaws (lay : Layout) : Type 0 where
   pub inside : (e : ℕ) → inBox lay (maskOf (lay .low) (lay .high) e) ≡ true
   pub fixed : (e : ℕ) → inBox lay e ≡ true → maskOf (lay .low) (lay .high) e ≡ e
+  pub width : 2 ^ widthOf lay ≡ span lay
   pub lands : (N x : ℕ) → ones N ≡ 1 → N ≤ mostBundles → baseRight lay N ≡ true → maskOf (lay .base) (lastAddress lay N) (shlOf x bundleShift) ≡ addressOf lay (x % N)
 
 abbrev pub Masks : Type 0

@@ -1,20 +1,46 @@
 -- Laws of the count of bundles and of the base.
-use mathlib.Core.Path.{_≡_}
-use Prim.Native.Nat.{ℕ, _-_, _*_, _%_, _≤_, _<_, _^_, min}
+use mathlib.Core.Path.{_≡_, refl}
+use mathlib.Core.Bool.{Bool, true, false, _||_, true≢false}
+use mathlib.Core.Logic.{⊎-elim}
+use Prim.Native.Nat.{ℕ, _-_, _*_, _%_, _≤_, _<_, _^_}
+use native.Mathlib.Nat.{mod-zero, mod-eq-of-lt}
 use native.Mathlib.Omega.{arith}
 use lib.Count.{leadingZeros}
-use Rattle.rules.specs.Names.{mostInstructions, mostBundles}
+use lib.Dec.{eqb, ltb}
+use lib.Pow.{pow-mono}
+use borrow.Author.Tests.{eqb-true, eqb-false, ltb-true, ltb-false}
+use Rattle.rules.specs.declared.Layout.{Layout}
+use Rattle.rules.specs.Names.{bundleLength, baseBound}
 use Rattle.rules.specs.Words.{bundlesFor}
-use Rattle.rules.proofs.Masks.{bundles-most}
+use Rattle.rules.specs.Bundles.{baseRight}
+use Rattle.rules.proofs.Bools.{either}
 
-module _ (n : ℕ) where
-  pub most-bundles : mostInstructions < n → mostBundles ≡ bundlesFor (min n mostInstructions)
-  unfolding bundlesFor leadingZeros
-  most-bundles h = let e : min n mostInstructions ≡ mostInstructions = omega arith in rw e
+neither : (a b : Bool) → (a || b) ≡ false → (a ≡ false) × (b ≡ false)
+neither true b e = absurd (true≢false e)
+neither false b e = (refl, e)
 
-  power : n ≤ mostInstructions → 1 * 2 ^ (32 - leadingZeros 32 n) % 2 ^ 64 ≡ bundlesFor n
-  unfolding bundlesFor
-  power h = omega (arith, bundles-most n (omega arith))
+-- N has at most 33 bits
+pub count-bundles : (n : ℕ) → 1 * 2 ^ (32 - leadingZeros 32 n) % 2 ^ 64 ≡ bundlesFor n
+unfolding bundlesFor
+count-bundles n =
+    let h : 32 - leadingZeros 32 n ≤ 32 = omega arith in
+    omega (arith, pow-mono h)
 
-  pub count-bundles : n ≤ mostInstructions → 1 * 2 ^ (32 - leadingZeros 32 n) % 2 ^ 64 ≡ bundlesFor (min n mostInstructions)
-  count-bundles h = let e : min n mostInstructions ≡ n = omega arith in rw e (power h)
+module _ (l : Layout) (n : ℕ) where
+  -- of no length, or one past the base, the rest is the base
+  pub base-whole : (eqb n 0 || ltb (l .base) n) ≡ true → eqb (l .base) 0 ≡ baseRight l n
+  base-whole t =
+      ⊎-elim (λ e. let z : n ≡ 0 = eqb-true n 0 e in rw (z, mod-zero (l .base)))
+      (λ e. let h : l .base < bundleLength * n = omega (arith, ltb-true (l .base) n e) in rw (mod-eq-of-lt h))
+      (either _ _ t)
+
+  -- else it is a length that fits
+  module _ (t : (eqb n 0 || ltb (l .base) n) ≡ false) where
+    within-base : (eqb n 0 ≡ false) × (ltb (l .base) n ≡ false)
+    within-base = neither (eqb n 0) (ltb (l .base) n) t
+
+    pub length-some : 0 < bundleLength * n
+    length-some = let z = eqb-false n 0 (within-base .0) in omega (arith, z)
+
+    pub length-fits : l .base < baseBound → bundleLength * n < 2 ^ 64
+    length-fits h = omega (arith, ltb-false (l .base) n (within-base .1))

@@ -10,9 +10,8 @@ use borrow.Author.Tests.{le-ltb, lt-ltb, eq-eqb, ne-eqb, eqb-true}
 use Rattle.rules.specs.declared.Fields.{Fields}
 use Rattle.rules.specs.declared.Refusal.the-variants.{Taken, Foreign, UnknownKind, OffRange, BadLanding}
 use Rattle.rules.specs.Names.{topKind, topWord, numberOf}
-use Rattle.rules.specs.Words.{fieldSets, numberTops, strayFields, highFields, bitOf, judgeOf, fieldsOf, kindOf, dOf, aOf, bOf, cOf, vOf, zeroOf, judgeWord, judgeAt}
+use Rattle.rules.specs.Words.{fieldSets, numberTops, strayFields, highFields, bitOf, judgeOf, cutOf, fieldsOf, kindOf, dOf, aOf, bOf, cOf, vOf, zeroOf, judgeWord, judgeAt}
 use Rattle.rules.proofs.WordLaws.{bounds}
-use Rattle.words.specs.Packing.{cutOf}
 use Rattle.words.specs.Strays.{guestLimits, strayBits}
 use Rattle.words.proofs.Laws.{all, each, Within}
 use Rattle.words.proofs.Masks.{guest-within}

@@ -1,16 +1,11 @@
--- Fields cut to their widths, which packing takes, and what a bundle is made of.
+-- What a bundle is made of: words of fields that are cut, and an instruction that is valid.
 use Prim.Native.Nat.{ℕ, _%_, _^_, _<_, _≤_}
 use mathlib.Core.Path.{_≡_}
 use mathlib.Core.Bool.{true}
-use Rattle.rules.specs.declared.Fields.{Fields}
 use Rattle.rules.specs.declared.Instr.{Instr}
 use Rattle.rules.specs.Names.{mostBundles}
 use Rattle.rules.specs.Words.{packOf}
 use Rattle.rules.specs.Bundles.{valid as isValid}
-
-abbrev pub cutOf : Fields → Fields
-cutOf f =
-    record { kind = f .kind % 2 ^ 8; d = f .d % 2 ^ 4; a = f .a % 2 ^ 4; b = f .b % 2 ^ 4; c = f .c % 2 ^ 4; v = f .v % 2 ^ 32 }
 
 -- the word of six fields, cut
 abbrev pub cutWord : ℕ → ℕ → ℕ → ℕ → ℕ → ℕ → ℕ

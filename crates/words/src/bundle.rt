@@ -11,10 +11,7 @@ use rules::Limits;
 use rules::Machine;
 use rules::Policy;
 ghost use mathlib.Core.Path.{_≡_};
-ghost use mathlib.Core.Bool.{_&&_};
-ghost use Prim.Native.Nat.{_+_, _-_, _≤_, min};
-ghost use lib.Dec.{leb};
-ghost use Rattle.rules.specs.Names.{mostInstructions, mostBundles};
+ghost use Prim.Native.Nat.{_+_, _-_, _≤_};
 ghost use Rattle.rules.specs.Words.{bundlesFor};
 ghost use Rattle.rules.specs.Commands.{limitsOf};
 ghost use Rattle.rules.specs.Bundles.{countRight, baseRight, bundleOf, valid as isValid, readOff};
@@ -57,13 +54,10 @@ const THREE: Limits = Limits {
 };
 
 // N, the smallest power of two greater than n.
-pub fn bundles(n: usize) -> usize
-    ensures { λ r. ⌜ r ≡ bundlesFor (min n mostInstructions) ⌝ }
+pub fn bundles(n: u32) -> usize
+    ensures { λ r. ⌜ r ≡ bundlesFor n ⌝ }
 {
-    if n > Instr::MOST {
-        return Bundle::MOST;
-    }
-    1usize << (32 - u32::leading_zeros(n as u32))
+    1usize << (32 - u32::leading_zeros(n))
 }
 
 // Whether a list of k commands is N bundles, N a power of two from 1 to 1,024.
@@ -75,17 +69,15 @@ pub fn count_right(k: usize) -> bool
         & (usize::count_ones(k / Bundle::LENGTH) == 1)
 }
 
-// Whether the base is a multiple of the length of n bundles, n from 1 to 1,024.
+// Whether the base is a multiple of the length of n bundles; of no length, or one past the base, only 0 is.
 pub fn base_right(l: Layout, n: usize) -> bool
-    ensures { λ r. ⌜ r ≡ (leb 1 n && (leb n mostBundles && baseRight l n)) ⌝ }
+    ensures { λ r. ⌜ r ≡ baseRight l n ⌝ }
 {
-    if n < 1 {
-        return false;
+    let base = l.base as usize;
+    if (n == 0) | (base < n) {
+        return base == 0;
     }
-    if n > Bundle::MOST {
-        return false;
-    }
-    l.base as usize % (Bundle::LENGTH * n) == 0
+    base % (Bundle::LENGTH * n) == 0
 }
 
 // x − y, or 0.

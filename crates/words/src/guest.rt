@@ -9,8 +9,7 @@ ghost use mathlib.Core.Bool.{true};
 ghost use Prim.Native.Nat.{_-_, _≤_};
 ghost use lib.ListN.{getD};
 ghost use Rattle.rules.specs.Names.{topKind};
-ghost use Rattle.rules.specs.Words.{fieldsOf, packFields, fieldSets, numberTops, bitOf, strayFields, highFields, judgeOf, judgeWord, judgeAt, instrOf};
-ghost use Rattle.words.specs.Packing.{cutOf};
+ghost use Rattle.rules.specs.Words.{fieldsOf, packFields, cutOf, fieldSets, numberTops, bitOf, strayFields, highFields, judgeOf, judgeWord, judgeAt, instrOf};
 ghost use Rattle.words.specs.Strays.{guestLimits, strayBits};
 
 // The greatest kind, the kind with a landing, the greatest guest register and the greatest condition.

@@ -2,9 +2,7 @@
 use rules::Layout;
 use rules::Policy;
 ghost use mathlib.Core.Path.{_≡_};
-ghost use mathlib.Core.Bool.{true};
-ghost use Prim.Native.Nat.{_^_};
-ghost use Rattle.rules.specs.Layouts.{rightLayout, maskOf, span};
+ghost use Rattle.rules.specs.Layouts.{rightLayout, maskOf, widthOf};
 
 // Whether a layout is right. SH < U is tested before SH − SL + 1 is formed, which could wrap otherwise.
 pub fn right(l: Layout) -> bool
@@ -43,9 +41,9 @@ pub fn mask(e: u32, low: u32, high: u32) -> u32
     (e & high) | low
 }
 
-// The address bits inside the sandbox: it has 2 to the width cells.
+// The mask's width, the address bits inside the sandbox.
 pub fn width(l: Layout) -> u32
-    ensures { λ r. ⌜ (rightLayout l ≡ true → 2 ^ r ≡ span l) ⌝ }
+    ensures { λ r. ⌜ r ≡ widthOf l ⌝ }
 {
     let low = l.low;
     let high = l.high;

@@ -1,5 +1,5 @@
 use borrow.Author.Needs.{needs}
-use Rattle.words.proofs.Tests.{tests}
+use Rattle.words.proofs.Counts.{base-whole, length-some, length-fits}
 use Rattle.words.proofs.bundle.base_right.Statement.{statement}
 use Rattle.words.proofs.bundle.base_right.Tie as tie
 
@@ -7,9 +7,8 @@ pub base-right-spec : {M : Type 1} → statement M
 base-right-spec =
     tie.close
     (tie.spec
-    (λ c. search tests)
-    (λ c. search tests)
     (λ c. search needs)
-    (λ c. search needs)
-    (λ c. search needs)
-    (λ c. search tests))
+    (λ c. search (base-whole, needs))
+    (λ c. search (length-fits, needs))
+    (λ c. search (length-some, needs))
+    (λ c. search needs))

@@ -1,6 +1,6 @@
 use lib.Count.{leading-le}
 use borrow.Author.Needs.{needs}
-use Rattle.words.proofs.Counts.{most-bundles, count-bundles}
+use Rattle.words.proofs.Counts.{count-bundles}
 use Rattle.words.proofs.bundle.bundles.Statement.{statement}
 use Rattle.words.proofs.bundle.bundles.Tie as tie
 
@@ -8,8 +8,6 @@ pub bundles-spec : {M : Type 1} → statement M
 bundles-spec =
     tie.close
     (tie.spec
-    (λ c. search (most-bundles, needs))
-    (λ c. search needs)
     (λ c. leading-le 32 _)
     (λ c. search needs)
     (λ c. search needs)

@@ -1,5 +1,5 @@
 use borrow.Author.Needs.{needs}
-use Rattle.words.proofs.Boxes.{width-right}
+use Rattle.words.proofs.Boxes.{width-turned}
 use Rattle.words.proofs.layout.width.Statement.{statement}
 use Rattle.words.proofs.layout.width.Tie as tie
 
@@ -7,9 +7,9 @@ pub width-spec : {M : Type 1} → statement M
 width-spec =
     tie.close
     (tie.spec
+    (λ c. search (width-turned, needs))
     (λ c. search needs)
     (λ c. search needs)
     (λ c. search needs)
     (λ c. search needs)
-    (λ c. search needs)
-    (λ c. width-right _))
+    (λ c. search needs))
