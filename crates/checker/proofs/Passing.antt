@@ -24,8 +24,8 @@ use Rattle.rules.proofs.Facts.{Valid}
 use Rattle.rules.proofs.WordLaws.{pack-fields}
 use Rattle.rules.proofs.GuestWords.{taken-valid}
 use Rattle.words.specs.Packing.{Fits}
-use Rattle.words.proofs.Shapes.{off-plain}
 use Rattle.checker.specs.Sameness.{sameWords, PlainWord}
+use Rattle.checker.proofs.Shapes.{off-plain}
 
 -- ---- one bundle
 

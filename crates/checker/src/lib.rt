@@ -1,96 +1,25 @@
 // The check of a list of commands: bundles of the known shapes, the last of them HALT. It takes lists of any producer.
+mod shape;
+
 use rules::Answer;
 use rules::Bundle;
-use rules::Fields;
 use rules::Instr;
 use rules::Layout;
-use rules::Machine;
 use rules::Refusal;
-use words::bundle::base_right;
-use words::bundle::count_right;
-use words::bundle::read_off;
-use words::bundle::valid;
+use shape::read_off;
+use shape::same;
+use shape::valid;
+use words::count::base_right;
+use words::count::count_right;
 use words::guest::judge_at;
-use words::guest::pack;
 use words::layout::right;
 ghost use mathlib.Core.Path.{_≡_};
 ghost use mathlib.Core.Bool.{true};
 ghost use Prim.Native.Nat.{_+_, _*_, _≤_, _<_};
 ghost use lib.ListN.{length};
 ghost use Rattle.rules.specs.Names.{mostBundles, bundleLength};
-ghost use Rattle.rules.specs.Bundles.{bundleOf, isBundle, isHalt, passesAt, checkFrom, checkAnswer};
-ghost use Rattle.words.specs.Packing.{cutWord, Fits};
-ghost use Rattle.checker.specs.Sameness.{sameWords, PlainWord};
-
-// The hidden register.
-const HIDDEN: u64 = Machine::HIDDEN as u64;
-
-fn word(kind: u64, d: u64, a: u64, b: u64, c: u64, v: u64) -> u64
-    ensures { λ r. ⌜ r ≡ cutWord kind d a b c v ⌝ }
-{
-    pack(Fields {
-        kind,
-        d,
-        a,
-        b,
-        c,
-        v,
-    })
-}
-
-// Whether four words are those of an instruction's bundle, compared one by one: no bundle is built.
-fn same(l: Layout, n: usize, i: Instr, w: u64, x: u64, y: u64, z: u64) -> bool
-    requires { ⌜ Fits n i ⌝ }
-    ensures { λ r. ⌜ r ≡ sameWords w x y z (bundleOf l n i .words) ⌝ }
-{
-    let base = l.base as u64;
-    let low = l.low as u64;
-    let high = l.high as u64;
-    match i {
-        Instr::HALT => (w == word(1, 0, 0, 0, 0, 0)) & (x == 0) & (y == 0) & (z == 0),
-        Instr::PLAIN(k, d, a, b, v) => {
-            (w == word(k + 1, d, a, b, 0, v)) & (x == 0) & (y == 0) & (z == 0)
-        }
-        Instr::LOAD(d, a) => {
-            (w == word(9, HIDDEN, a, 0, 0, high))
-                & (x == word(10, HIDDEN, HIDDEN, 0, 0, low))
-                & (y == word(12, d, HIDDEN, 0, 0, 0))
-                & (z == 0)
-        }
-        Instr::STORE(a, b) => {
-            (w == word(9, HIDDEN, a, 0, 0, high))
-                & (x == word(10, HIDDEN, HIDDEN, 0, 0, low))
-                & (y == word(13, 0, HIDDEN, b, 0, 0))
-                & (z == 0)
-        }
-        Instr::GOIF(a, b, c, v) => {
-            (w == word(14, 0, a, b, c, base + Bundle::LENGTH as u64 * v))
-                & (x == 0)
-                & (y == 0)
-                & (z == 0)
-        }
-        Instr::GOX(d, a, b, c) => {
-            (w == word(11, HIDDEN, d, 0, 0, 2))
-                & (x
-                    == word(
-                        9,
-                        HIDDEN,
-                        HIDDEN,
-                        0,
-                        0,
-                        base + Bundle::LENGTH as u64 * n as u64 - 1,
-                    ))
-                & (y == word(10, HIDDEN, HIDDEN, 0, 0, base))
-                & (z == word(15, HIDDEN, a, b, c, 0))
-        }
-        Instr::EVENT(e) => {
-            (w == word(16, HIDDEN, 0, 0, 0, e))
-                & (x == word(17, HIDDEN, 0, 0, 0, 0))
-                & (y == word(18, HIDDEN, 0, 0, 0, 0))
-                & (z == word(19, 0, 0, 0, 0, e))
-        }
-    }
-}
+ghost use Rattle.rules.specs.Bundles.{isBundle, isHalt, passesAt, checkFrom, checkAnswer};
+ghost use Rattle.checker.specs.Sameness.{PlainWord};
 
 // Whether four words are the bundle of an instruction among n.
 fn is_bundle(l: Layout, n: usize, i: Instr, w: u64, x: u64, y: u64, z: u64) -> bool

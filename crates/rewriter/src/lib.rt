@@ -1,12 +1,14 @@
 // Rewriting a routine's words into bundles of commands: one pass judges, one writes.
+mod bundle;
+
+use bundle::bundle;
 use rules::Answer;
 use rules::Bundle;
 use rules::Instr;
 use rules::Layout;
 use rules::Refusal;
-use words::bundle::base_right;
-use words::bundle::bundle;
-use words::bundle::bundles;
+use words::count::base_right;
+use words::count::bundles;
 use words::guest::instruction;
 use words::guest::judge_at;
 use words::layout::right;

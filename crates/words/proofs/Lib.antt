@@ -2,7 +2,6 @@ pub mod Tests
 pub mod Judging
 pub mod Boxes
 pub mod Counts
-pub mod Shapes
 pub mod Laying
 pub mod Signs
 pub mod Laws

@@ -1,7 +1,7 @@
-// Words of 64 bits: layouts and masks, guest words, command words and what they compute, bundles; and cells.
+// Words of 64 bits: layouts and masks, guest words, command words and what they compute, the count of bundles; and cells.
 pub mod arith;
-pub mod bundle;
 pub mod cells;
 pub mod command;
+pub mod count;
 pub mod guest;
 pub mod layout;

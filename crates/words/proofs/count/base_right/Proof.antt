@@ -1,7 +1,7 @@
 use borrow.Author.Needs.{needs}
 use Rattle.words.proofs.Counts.{base-whole, length-some, length-fits}
-use Rattle.words.proofs.bundle.base_right.Statement.{statement}
-use Rattle.words.proofs.bundle.base_right.Tie as tie
+use Rattle.words.proofs.count.base_right.Statement.{statement}
+use Rattle.words.proofs.count.base_right.Tie as tie
 
 pub base-right-spec : {M : Type 1} → statement M
 base-right-spec =

@@ -1,7 +1,7 @@
 use borrow.Author.Needs.{needs}
-use Rattle.words.proofs.Shapes.{valid-low, valid-high, valid-halt, valid-plain, valid-load, valid-store, valid-goif, valid-gox, valid-event}
-use Rattle.words.proofs.bundle.valid.Statement.{statement}
-use Rattle.words.proofs.bundle.valid.Tie as tie
+use Rattle.checker.proofs.Shapes.{valid-low, valid-high, valid-halt, valid-plain, valid-load, valid-store, valid-goif, valid-gox, valid-event}
+use Rattle.checker.proofs.shape.valid.Statement.{statement}
+use Rattle.checker.proofs.shape.valid.Tie as tie
 
 pub valid-spec : {M : Type 1} → statement M
 valid-spec =

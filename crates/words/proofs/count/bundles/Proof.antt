@@ -1,8 +1,8 @@
 use lib.Count.{leading-le}
 use borrow.Author.Needs.{needs}
 use Rattle.words.proofs.Counts.{count-bundles}
-use Rattle.words.proofs.bundle.bundles.Statement.{statement}
-use Rattle.words.proofs.bundle.bundles.Tie as tie
+use Rattle.words.proofs.count.bundles.Statement.{statement}
+use Rattle.words.proofs.count.bundles.Tie as tie
 
 pub bundles-spec : {M : Type 1} → statement M
 bundles-spec =

@@ -1,7 +1,7 @@
 use borrow.Author.Needs.{needs}
-use Rattle.words.proofs.Shapes.{three-limits}
-use Rattle.words.proofs.bundle.plain_limits.Statement.{statement}
-use Rattle.words.proofs.bundle.plain_limits.Tie as tie
+use Rattle.checker.proofs.Shapes.{three-limits}
+use Rattle.checker.proofs.shape.plain_limits.Statement.{statement}
+use Rattle.checker.proofs.shape.plain_limits.Tie as tie
 
 pub plain-limits-spec : {M : Type 1} → statement M
 plain-limits-spec =

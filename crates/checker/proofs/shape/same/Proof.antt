@@ -1,8 +1,8 @@
 use borrow.Author.Needs.{needs}
 use Rattle.words.proofs.Laying.{kind-fits, jump-fits, landing-fits, lay-halt, lay-plain, lay-load, lay-store, lay-goif, lay-gox, lay-event}
 use Rattle.checker.proofs.Passing.{same-words}
-use Rattle.checker.proofs.same.Statement.{statement}
-use Rattle.checker.proofs.same.Tie as tie
+use Rattle.checker.proofs.shape.same.Statement.{statement}
+use Rattle.checker.proofs.shape.same.Tie as tie
 
 pub same-spec : {M : Type 1} → statement M
 same-spec =

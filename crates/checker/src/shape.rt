@@ -1,8 +1,4 @@
-// Bundles: their count and base, the words of one, and the instruction that a bundle can be.
-use crate::guest::TOP_CONDITION;
-use crate::guest::TOP_SHIFT;
-use crate::guest::TOP_WORD;
-use crate::guest::pack;
+// The shape of one bundle: the instruction that four words can be, whether it is valid, and whether they are its words.
 use rules::Bundle;
 use rules::Fields;
 use rules::Instr;
@@ -10,12 +6,16 @@ use rules::Layout;
 use rules::Limits;
 use rules::Machine;
 use rules::Policy;
+use words::guest::TOP_CONDITION;
+use words::guest::TOP_SHIFT;
+use words::guest::TOP_WORD;
+use words::guest::pack;
 ghost use mathlib.Core.Path.{_≡_};
 ghost use Prim.Native.Nat.{_+_, _-_, _≤_};
-ghost use Rattle.rules.specs.Words.{bundlesFor};
 ghost use Rattle.rules.specs.Commands.{limitsOf};
-ghost use Rattle.rules.specs.Bundles.{countRight, baseRight, bundleOf, valid as isValid, readOff};
+ghost use Rattle.rules.specs.Bundles.{bundleOf, valid as isValid, readOff};
 ghost use Rattle.words.specs.Packing.{cutWord, Fits};
+ghost use Rattle.checker.specs.Sameness.{sameWords};
 
 // The hidden register, which is also the count of the guest's.
 const HIDDEN: u64 = Machine::HIDDEN as u64;
@@ -53,33 +53,6 @@ const THREE: Limits = Limits {
     v: 0,
 };
 
-// N, the smallest power of two greater than n.
-pub fn bundles(n: u32) -> usize
-    ensures { λ r. ⌜ r ≡ bundlesFor n ⌝ }
-{
-    1usize << (32 - u32::leading_zeros(n))
-}
-
-// Whether a list of k commands is N bundles, N a power of two from 1 to 1,024.
-pub fn count_right(k: usize) -> bool
-    ensures { λ r. ⌜ r ≡ countRight k ⌝ }
-{
-    (k <= Bundle::LENGTH * Bundle::MOST)
-        & (k % Bundle::LENGTH == 0)
-        & (usize::count_ones(k / Bundle::LENGTH) == 1)
-}
-
-// Whether the base is a multiple of the length of n bundles; of no length, or one past the base, only 0 is.
-pub fn base_right(l: Layout, n: usize) -> bool
-    ensures { λ r. ⌜ r ≡ baseRight l n ⌝ }
-{
-    let base = l.base as usize;
-    if (n == 0) | (base < n) {
-        return base == 0;
-    }
-    base % (Bundle::LENGTH * n) == 0
-}
-
 // x − y, or 0.
 fn minus(x: u64, y: u64) -> u64
     ensures { λ r. ⌜ r ≡ x - y ⌝ }
@@ -88,7 +61,7 @@ fn minus(x: u64, y: u64) -> u64
 }
 
 // The instruction whose bundle four words can be, by the kind of the first; y and z are the last two.
-pub fn read_off(l: Layout, w: u64, y: u64, z: u64) -> Instr
+pub(crate) fn read_off(l: Layout, w: u64, y: u64, z: u64) -> Instr
     ensures { λ r. ⌜ r ≡ readOff l w y z ⌝ }
 {
     let kind = w % 256;
@@ -129,7 +102,7 @@ fn plain_limits(k: u64) -> Limits
 }
 
 // Whether an instruction's fields are in range, its registers the guest's, and its jump below n.
-pub fn valid(n: usize, i: Instr) -> bool
+pub(crate) fn valid(n: usize, i: Instr) -> bool
     ensures { λ r. ⌜ r ≡ isValid n i ⌝ }
 {
     match i {
@@ -175,67 +148,56 @@ fn word(kind: u64, d: u64, a: u64, b: u64, c: u64, v: u64) -> u64
     })
 }
 
-// The four words of an instruction's bundle, among n.
-pub fn bundle(l: Layout, n: usize, i: Instr) -> Bundle
+// Whether four words are those of an instruction's bundle, compared one by one: no bundle is built.
+pub(crate) fn same(l: Layout, n: usize, i: Instr, w: u64, x: u64, y: u64, z: u64) -> bool
     requires { ⌜ Fits n i ⌝ }
-    ensures { λ r. ⌜ r ≡ bundleOf l n i ⌝ }
+    ensures { λ r. ⌜ r ≡ sameWords w x y z (bundleOf l n i .words) ⌝ }
 {
     let base = l.base as u64;
     let low = l.low as u64;
     let high = l.high as u64;
     match i {
-        Instr::HALT => Bundle {
-            words: [word(1, 0, 0, 0, 0, 0), 0, 0, 0],
-        },
-        Instr::PLAIN(k, d, a, b, v) => Bundle {
-            words: [word(k + 1, d, a, b, 0, v), 0, 0, 0],
-        },
-        Instr::LOAD(d, a) => Bundle {
-            words: [
-                word(9, HIDDEN, a, 0, 0, high),
-                word(10, HIDDEN, HIDDEN, 0, 0, low),
-                word(12, d, HIDDEN, 0, 0, 0),
-                0,
-            ],
-        },
-        Instr::STORE(a, b) => Bundle {
-            words: [
-                word(9, HIDDEN, a, 0, 0, high),
-                word(10, HIDDEN, HIDDEN, 0, 0, low),
-                word(13, 0, HIDDEN, b, 0, 0),
-                0,
-            ],
-        },
-        Instr::GOIF(a, b, c, v) => Bundle {
-            words: [
-                word(14, 0, a, b, c, base + Bundle::LENGTH as u64 * v),
-                0,
-                0,
-                0,
-            ],
-        },
-        Instr::GOX(d, a, b, c) => Bundle {
-            words: [
-                word(11, HIDDEN, d, 0, 0, 2),
-                word(
-                    9,
-                    HIDDEN,
-                    HIDDEN,
-                    0,
-                    0,
-                    base + Bundle::LENGTH as u64 * n as u64 - 1,
-                ),
-                word(10, HIDDEN, HIDDEN, 0, 0, base),
-                word(15, HIDDEN, a, b, c, 0),
-            ],
-        },
-        Instr::EVENT(e) => Bundle {
-            words: [
-                word(16, HIDDEN, 0, 0, 0, e),
-                word(17, HIDDEN, 0, 0, 0, 0),
-                word(18, HIDDEN, 0, 0, 0, 0),
-                word(19, 0, 0, 0, 0, e),
-            ],
-        },
+        Instr::HALT => (w == word(1, 0, 0, 0, 0, 0)) & (x == 0) & (y == 0) & (z == 0),
+        Instr::PLAIN(k, d, a, b, v) => {
+            (w == word(k + 1, d, a, b, 0, v)) & (x == 0) & (y == 0) & (z == 0)
+        }
+        Instr::LOAD(d, a) => {
+            (w == word(9, HIDDEN, a, 0, 0, high))
+                & (x == word(10, HIDDEN, HIDDEN, 0, 0, low))
+                & (y == word(12, d, HIDDEN, 0, 0, 0))
+                & (z == 0)
+        }
+        Instr::STORE(a, b) => {
+            (w == word(9, HIDDEN, a, 0, 0, high))
+                & (x == word(10, HIDDEN, HIDDEN, 0, 0, low))
+                & (y == word(13, 0, HIDDEN, b, 0, 0))
+                & (z == 0)
+        }
+        Instr::GOIF(a, b, c, v) => {
+            (w == word(14, 0, a, b, c, base + Bundle::LENGTH as u64 * v))
+                & (x == 0)
+                & (y == 0)
+                & (z == 0)
+        }
+        Instr::GOX(d, a, b, c) => {
+            (w == word(11, HIDDEN, d, 0, 0, 2))
+                & (x
+                    == word(
+                        9,
+                        HIDDEN,
+                        HIDDEN,
+                        0,
+                        0,
+                        base + Bundle::LENGTH as u64 * n as u64 - 1,
+                    ))
+                & (y == word(10, HIDDEN, HIDDEN, 0, 0, base))
+                & (z == word(15, HIDDEN, a, b, c, 0))
+        }
+        Instr::EVENT(e) => {
+            (w == word(16, HIDDEN, 0, 0, 0, e))
+                & (x == word(17, HIDDEN, 0, 0, 0, 0))
+                & (y == word(18, HIDDEN, 0, 0, 0, 0))
+                & (z == word(19, 0, 0, 0, 0, e))
+        }
     }
 }

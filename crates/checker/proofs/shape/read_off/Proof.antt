@@ -1,8 +1,8 @@
 use borrow.Author.Needs.{needs}
 use Rattle.rules.specs.Bundles.{readOff}
-use Rattle.words.proofs.Shapes.{off-load, off-store, off-goif, off-plain}
-use Rattle.words.proofs.bundle.read_off.Statement.{statement}
-use Rattle.words.proofs.bundle.read_off.Tie as tie
+use Rattle.checker.proofs.Shapes.{off-load, off-store, off-goif, off-plain}
+use Rattle.checker.proofs.shape.read_off.Statement.{statement}
+use Rattle.checker.proofs.shape.read_off.Tie as tie
 
 pub read-off-spec : {M : Type 1} → statement M
 unfolding readOff

@@ -1,0 +1,91 @@
+// The words of one bundle.
+use rules::Bundle;
+use rules::Fields;
+use rules::Instr;
+use rules::Layout;
+use rules::Machine;
+use words::guest::pack;
+ghost use mathlib.Core.Path.{_≡_};
+ghost use Rattle.rules.specs.Bundles.{bundleOf};
+ghost use Rattle.words.specs.Packing.{cutWord, Fits};
+
+// The hidden register.
+const HIDDEN: u64 = Machine::HIDDEN as u64;
+
+fn word(kind: u64, d: u64, a: u64, b: u64, c: u64, v: u64) -> u64
+    ensures { λ r. ⌜ r ≡ cutWord kind d a b c v ⌝ }
+{
+    pack(Fields {
+        kind,
+        d,
+        a,
+        b,
+        c,
+        v,
+    })
+}
+
+// The four words of an instruction's bundle, among n.
+pub(crate) fn bundle(l: Layout, n: usize, i: Instr) -> Bundle
+    requires { ⌜ Fits n i ⌝ }
+    ensures { λ r. ⌜ r ≡ bundleOf l n i ⌝ }
+{
+    let base = l.base as u64;
+    let low = l.low as u64;
+    let high = l.high as u64;
+    match i {
+        Instr::HALT => Bundle {
+            words: [word(1, 0, 0, 0, 0, 0), 0, 0, 0],
+        },
+        Instr::PLAIN(k, d, a, b, v) => Bundle {
+            words: [word(k + 1, d, a, b, 0, v), 0, 0, 0],
+        },
+        Instr::LOAD(d, a) => Bundle {
+            words: [
+                word(9, HIDDEN, a, 0, 0, high),
+                word(10, HIDDEN, HIDDEN, 0, 0, low),
+                word(12, d, HIDDEN, 0, 0, 0),
+                0,
+            ],
+        },
+        Instr::STORE(a, b) => Bundle {
+            words: [
+                word(9, HIDDEN, a, 0, 0, high),
+                word(10, HIDDEN, HIDDEN, 0, 0, low),
+                word(13, 0, HIDDEN, b, 0, 0),
+                0,
+            ],
+        },
+        Instr::GOIF(a, b, c, v) => Bundle {
+            words: [
+                word(14, 0, a, b, c, base + Bundle::LENGTH as u64 * v),
+                0,
+                0,
+                0,
+            ],
+        },
+        Instr::GOX(d, a, b, c) => Bundle {
+            words: [
+                word(11, HIDDEN, d, 0, 0, 2),
+                word(
+                    9,
+                    HIDDEN,
+                    HIDDEN,
+                    0,
+                    0,
+                    base + Bundle::LENGTH as u64 * n as u64 - 1,
+                ),
+                word(10, HIDDEN, HIDDEN, 0, 0, base),
+                word(15, HIDDEN, a, b, c, 0),
+            ],
+        },
+        Instr::EVENT(e) => Bundle {
+            words: [
+                word(16, HIDDEN, 0, 0, 0, e),
+                word(17, HIDDEN, 0, 0, 0, 0),
+                word(18, HIDDEN, 0, 0, 0, 0),
+                word(19, 0, 0, 0, 0, e),
+            ],
+        },
+    }
+}
