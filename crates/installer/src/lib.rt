@@ -5,7 +5,6 @@ use rules::Layout;
 use rules::Machine;
 use rules::Policy;
 use rules::Refusal;
-use words::cells;
 use words::layout;
 ghost use mathlib.Core.Path.{_≡_};
 ghost use Prim.Native.Nat.{_+_, _≤_};

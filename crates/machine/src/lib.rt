@@ -1,4 +1,5 @@
 // The stepping machine: a pure decision, what the word at pc would do, and its application; runs and steps, the record by value.
+use cells::arith;
 use rules::Effect;
 use rules::Ending;
 use rules::Layout;
@@ -7,8 +8,6 @@ use rules::Outcome;
 use rules::Policy;
 use rules::RunAnswer;
 use rules::Status;
-use words::arith;
-use words::cells;
 use words::command;
 use words::layout;
 ghost use mathlib.Core.Path.{_≡_};

@@ -1,8 +1,6 @@
-pub mod Tests
 pub mod Judging
 pub mod Boxes
 pub mod Counts
 pub mod Laying
-pub mod Signs
 pub mod Laws
 pub mod Masks

@@ -1,6 +1,4 @@
-// Words of 64 bits: layouts and masks, guest words, command words and what they compute, the count of bundles; and cells.
-pub mod arith;
-pub mod cells;
+// Words of 64 bits: layouts and masks, guest words, command words, the count of bundles.
 pub mod command;
 pub mod count;
 pub mod guest;

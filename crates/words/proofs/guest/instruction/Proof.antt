@@ -1,5 +1,5 @@
+use borrow.Author.Tests.{lt-ltb, le-ltb, ne-eqb}
 use Rattle.rules.specs.Words.{instrOf}
-use Rattle.words.proofs.Tests.{tests}
 use Rattle.words.proofs.guest.instruction.Statement.{statement}
 use Rattle.words.proofs.guest.instruction.Tie as tie
 
@@ -13,5 +13,5 @@ instruction-spec =
     (λ c. rw (c .match .keys3))
     (λ c. rw (c .match .keys4))
     (λ c. rw (c .match .keys5))
-    (λ c. search tests)
-    (λ c. search tests))
+    (λ c. search (lt-ltb, le-ltb, ne-eqb))
+    (λ c. search (lt-ltb, le-ltb, ne-eqb)))

@@ -1,7 +1,7 @@
-use Rattle.words.proofs.Tests.{tests}
 use borrow.Author.Needs.{needs}
-use Rattle.words.proofs.arith.holds.Statement.{statement}
-use Rattle.words.proofs.arith.holds.Tie as tie
+use borrow.Author.Tests.{ne-eqb}
+use Rattle.cells.proofs.arith.holds.Statement.{statement}
+use Rattle.cells.proofs.arith.holds.Tie as tie
 
 pub holds-spec : {M : Type 1} → statement M
 holds-spec =
@@ -11,4 +11,4 @@ holds-spec =
     (λ c. rw (c .match .keys1))
     (λ c. rw (c .match .keys2))
     (λ c. rw (c .match .keys3))
-    (λ c. search tests))
+    (λ c. search ne-eqb))

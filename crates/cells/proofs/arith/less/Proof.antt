@@ -2,8 +2,8 @@ use borrow.Author.Needs.{needs, sfits-of}
 use mathlib.Core.Path.{ap₂, _∙_}
 use lib.Signed.{ltZ}
 use mir.Facts.{toZ-ofZ}
-use Rattle.words.proofs.arith.less.Statement.{statement}
-use Rattle.words.proofs.arith.less.Tie as tie
+use Rattle.cells.proofs.arith.less.Statement.{statement}
+use Rattle.cells.proofs.arith.less.Tie as tie
 
 to-signed-requires : tie.Need-to-signed-requires
 to-signed-requires c κs = search needs

@@ -1,7 +1,7 @@
 use native.Mathlib.Omega.{arith}
-use Rattle.words.proofs.Signs.{not-negative, negative}
-use Rattle.words.proofs.arith.to_bits.Statement.{statement}
-use Rattle.words.proofs.arith.to_bits.Tie as tie
+use Rattle.cells.proofs.Signs.{not-negative, negative}
+use Rattle.cells.proofs.arith.to_bits.Statement.{statement}
+use Rattle.cells.proofs.arith.to_bits.Tie as tie
 
 cast-result : tie.Need-cast-result
 cast-result c = let s = not-negative _ (c .before .fits .z) (c .if1 .taken) in rw (s .0) (tt, omega arith)

@@ -1,9 +1,9 @@
 use borrow.Author.Needs.{needs, sfits-of}
 use mathlib.Core.Path.{ap, _∙_}
 use Rattle.rules.specs.Signed.{bitsOf}
-use Rattle.words.proofs.Signs.{shifted}
-use Rattle.words.proofs.arith.sar.Statement.{statement}
-use Rattle.words.proofs.arith.sar.Tie as tie
+use Rattle.cells.proofs.Signs.{shifted}
+use Rattle.cells.proofs.arith.sar.Statement.{statement}
+use Rattle.cells.proofs.arith.sar.Tie as tie
 
 to-signed-requires : tie.Need-to-signed-requires
 to-signed-requires c κs = search needs

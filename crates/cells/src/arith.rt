@@ -1,4 +1,4 @@
-// Arithmetic of 32-bit numbers: wrapping, two's complement, the conditions, and what the plain commands compute.
+// Arithmetic of 32-bit numbers: wrapping, two's complement, the conditions.
 ghost use mathlib.Core.Path.{_≡_};
 ghost use Prim.Native.Nat.{_≤_};
 ghost use Rattle.rules.specs.Names.{topShift};
@@ -25,7 +25,7 @@ pub fn shl(x: u32, v: u32) -> u32
 }
 
 // The number that x stands for as two's complement.
-pub fn to_signed(x: u32) -> i32
+fn to_signed(x: u32) -> i32
     ensures { λ r. ⌜ r ≡ twos x ⌝ }
 {
     if x < 0x8000_0000 {
@@ -36,7 +36,7 @@ pub fn to_signed(x: u32) -> i32
 }
 
 // The bits of z as two's complement.
-pub fn to_bits(z: i32) -> u32
+fn to_bits(z: i32) -> u32
     ensures { λ r. ⌜ r ≡ bitsOf z ⌝ }
 {
     if z >= 0 { z as u32 } else { !((!z) as u32) }
@@ -50,7 +50,7 @@ pub fn sar(x: u32, v: u32) -> u32
     to_bits(z >> v)
 }
 
-pub fn less(x: u32, y: u32) -> bool
+fn less(x: u32, y: u32) -> bool
     ensures { λ r. ⌜ r ≡ lessOf x y ⌝ }
 {
     let a = to_signed(x);

@@ -1,4 +1,6 @@
-// Cells of memory and log.
+// Cells of 32 bits: their arithmetic, and one cell set in a slice of them.
+pub mod arith;
+
 ghost use mathlib.Core.Path.{_≡_};
 ghost use lib.ListN.{set};
 

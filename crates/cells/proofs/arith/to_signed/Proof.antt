@@ -3,8 +3,8 @@ use native.Mathlib.Omega.{arith}
 use Prim.Native.Nat.{_-_}
 use mathlib.Core.Path.{_≡_, ap}
 use Rattle.rules.specs.Signed.{twos}
-use Rattle.words.proofs.arith.to_signed.Statement.{statement}
-use Rattle.words.proofs.arith.to_signed.Tie as tie
+use Rattle.cells.proofs.arith.to_signed.Statement.{statement}
+use Rattle.cells.proofs.arith.to_signed.Tie as tie
 
 cast-result : tie.Need-cast-result
 cast-result c = search needs
