@@ -16,13 +16,13 @@ use Rattle.rules.specs.declared.Outcome.{Outcome}
 use Rattle.rules.specs.declared.Installed.{Installed}
 use Rattle.rules.specs.declared.Ending.the-variants.{Refused}
 use Rattle.rules.specs.declared.Refusal.the-variants.{BadLayout}
-use Rattle.rules.specs.Names.{mostInstructions, registers, baseBound, refusal}
+use Rattle.rules.specs.Names.{mostInstructions, registers, baseBound, refusal, orElse}
 use Rattle.rules.specs.Layouts.{layoutOf, rightLayout}
 use Rattle.rules.specs.Policies.{Policy}
 use Rattle.rules.specs.Bytes.{readAnswer}
 use Rattle.rules.specs.Bundles.{rewriteAnswer, rewriteOutput, checkAnswer}
 use Rattle.rules.specs.Machines.{machineOf, machineRefused, fits, installAnswer, installMachine, installMemory, installOf, Ran, ranOf, outcomeOf, runOf}
-use Rattle.rules.specs.Loading.{orElse, loadAnswer, loadCommands, loadMemory, loadMachine, loadOf, layoutFrom, statusFrom, machineFrom, machineTo, statusNumber, answerTo, runAnswerTo, recordAfter}
+use Rattle.rules.specs.Loading.{loadAnswer, loadCommands, loadMemory, loadMachine, loadOf, layoutFrom, statusFrom, machineFrom, machineTo, statusNumber, answerTo, runAnswerTo, recordAfter}
 use Rattle.rules.proofs.Bools.{cond-ind}
 use Rattle.rules.proofs.Layouts.{layout-facts}
 use Rattle.rules.proofs.Counts.{Bounded, RunCounts, run-counts}

@@ -1,5 +1,5 @@
 -- Laws of the stores and loops that write, in the form in which the proofs of the functions cite them.
-use mathlib.Core.Path.{_≡_, sym, ap, _∙_}
+use mathlib.Core.Path.{_≡_, sym, _∙_}
 use mathlib.Core.List.{List, [], _∷_, _++_}
 use Prim.Native.Nat.{ℕ, suc, _+_, _/_, _%_, _≤_, _<_}
 use native.Mathlib.Omega.{arith}
@@ -10,12 +10,12 @@ use lib.Seq.{sets as stores, sets-eq, drop-cons}
 use borrow.Author.Tests.{eq-eqb, ne-eqb}
 use Rattle.rules.specs.declared.Answer.{Answer}
 use Rattle.rules.specs.declared.Fields.{Fields}
-use Rattle.rules.specs.declared.Refusal.the-variants.{Taken}
-use Rattle.rules.specs.Names.{mostInstructions, numberOf, answer}
-use Rattle.rules.specs.Words.{bitOf, fieldsOf, judgeWord}
-use Rattle.rules.specs.Bytes.{mapOf, weightOf, byteOut, quadOut, regsOut, fieldsOut, oneOut, bytesOf, weighOf, routineOf, writeAnswer, writeOutput}
-use Rattle.rules.proofs.Bytes.{byte-none, byte-some, length-byte, quad-none, quad-some, length-two, length-regs, length-one, length-routine, WriteOk, write-ok}
-use Rattle.codec.specs.Widths.{Small}
+use Rattle.rules.specs.Names.{mostInstructions, answer}
+use Rattle.rules.specs.Words.{bitOf, fieldsOf, judgeWord, firstRefused}
+use Rattle.rules.specs.Bytes.{mapOf, byteOut, quadOut, regsOut, fieldsOut, oneOut, bytesOf, routineOf, writeAnswer, writeOutput}
+use Rattle.rules.proofs.Bytes.{byte-none, byte-some, length-byte, quad-none, quad-some, length-two, length-regs, length-fields, length-routine, WriteOk, write-ok}
+use Rattle.rules.proofs.Refusals.{refused-done}
+use Rattle.codec.specs.Widths.{weightOf, Small}
 
 -- ---- a run of stores, and another after it
 sets-append {ℓ} : {A : Type ℓ} (l : List A) (i : ℕ) (xs ys : List A) → stores l i (xs ++ ys) ≡ stores (stores l i xs) (i + length xs) ys
@@ -66,17 +66,20 @@ put-fields f m em o o₁ o₂ o₃ o₄ at a b c e₁ ea e₂ eb e₃ ec e₄ =
 
 -- ---- what is said of the fields, said of the word
 module _ (w : ℕ) (f : Fields) (e : f ≡ fieldsOf w) where
-  pub word-weight : (x : ℕ) → x ≡ weightOf f → x ≡ weightOf (fieldsOf w)
-  word-weight x ex = ex ∙ ap (λ (g : Fields). weightOf g) e
+  weight-length : weightOf f ≡ length (oneOut w)
+  weight-length = sym (length-fields f) ∙ rw e
 
-  pub word-room : (at n : ℕ) → at + weightOf (fieldsOf w) ≤ n → at + weightOf f ≤ n
-  word-room at n h = rw (ap (λ (g : Fields). weightOf g) e) h
+  pub word-weight : (x : ℕ) → x ≡ weightOf f → x ≡ length (oneOut w)
+  word-weight x ex = ex ∙ weight-length
+
+  pub word-room : (at n : ℕ) → at + length (oneOut w) ≤ n → at + weightOf f ≤ n
+  word-room at n h = rw weight-length h
 
   pub word-small : Small f
   word-small = rw e (record { kind = omega arith; d = omega arith; a = omega arith; b = omega arith; c = omega arith })
 
-  pub word-next : (at x : ℕ) → x ≡ at + weightOf f → x ≡ at + weightOf (fieldsOf w)
-  word-next at x ex = ex ∙ ap (λ (g : Fields). at + weightOf g) e
+  pub word-next : (at x : ℕ) → x ≡ at + weightOf f → x ≡ at + length (oneOut w)
+  word-next at x ex = ex ∙ rw weight-length
 
   pub word-out : (o o₁ : List ℕ) (at : ℕ) → o₁ ≡ stores o at (fieldsOut f) → o₁ ≡ stores o at (oneOut w)
   word-out o o₁ at eo = eo ∙ rw e
@@ -86,34 +89,28 @@ module _ (ws : List ℕ) (i : ℕ) (h : i < length ws) (w : ℕ) (ew : w ≡ get
   next : drop i ws ≡ w ∷ drop (i + 1) ws
   next = rw (ew, add-one) (drop-cons ws i 0 h)
 
-  pub weigh-more : (x : ℕ) → x ≡ judgeWord w → x ≡ 0 → (y : ℕ) → y ≡ weightOf (fieldsOf w)
-      → (z : ℕ) (r : Answer) → r ≡ weighOf (drop i ws) i z → r ≡ weighOf (drop (i + 1) ws) (i + 1) (z + y)
-  unfolding weighOf
-  weigh-more x ex e y ey z r er = er ∙ rw (next, ← ex, eq-eqb _ _ e, ey)
-
-  pub weigh-stop : (x : ℕ) → x ≡ judgeWord w → (x ≡ 0 → ⊥) → (z : ℕ) (r : Answer) → r ≡ weighOf (drop i ws) i z → answer x i ≡ r
-  unfolding weighOf
-  weigh-stop x ex n z r er = sym (er ∙ rw (next, ← ex, ne-eqb _ _ n))
-
-  emit-length : length (bytesOf (drop i ws)) ≡ weightOf (fieldsOf w) + length (bytesOf (drop (i + 1) ws))
+  emit-length : length (bytesOf (drop i ws)) ≡ length (oneOut w) + length (bytesOf (drop (i + 1) ws))
   unfolding bytesOf
-  emit-length = rw (next, length-append, length-one)
+  emit-length = rw (next, length-append)
 
-  pub emit-more : (to b : ℕ) (o o₁ r : List ℕ) → o₁ ≡ stores o to (oneOut w) → b ≡ to + weightOf (fieldsOf w) → r ≡ stores o to (bytesOf (drop i ws))
+  pub weigh-more : (n z y : ℕ) → n ≡ z + length (bytesOf (drop i ws)) → y ≡ length (oneOut w) → n ≡ z + y + length (bytesOf (drop (i + 1) ws))
+  weigh-more n z y e ey = omega (arith, emit-length)
+
+  pub emit-more : (to b : ℕ) (o o₁ r : List ℕ) → o₁ ≡ stores o to (oneOut w) → b ≡ to + length (oneOut w) → r ≡ stores o to (bytesOf (drop i ws))
       → r ≡ stores o₁ b (bytesOf (drop (i + 1) ws))
   unfolding bytesOf
-  emit-more to b o o₁ r eo eb er = er ∙ rw (next, sets-append, ← eo, length-one, ← eb)
+  emit-more to b o o₁ r eo eb er = er ∙ rw (next, sets-append, ← eo, ← eb)
 
-  pub emit-room : (to n l : ℕ) → l ≡ n → to + length (bytesOf (drop i ws)) ≤ n → to + weightOf (fieldsOf w) ≤ l
+  pub emit-room : (to n l : ℕ) → l ≡ n → to + length (bytesOf (drop i ws)) ≤ n → to + length (oneOut w) ≤ l
   emit-room to n l el f = omega (arith, emit-length)
 
-  pub emit-rest : (to b n : ℕ) → b ≡ to + weightOf (fieldsOf w) → to + length (bytesOf (drop i ws)) ≤ n → b + length (bytesOf (drop (i + 1) ws)) ≤ n
+  pub emit-rest : (to b n : ℕ) → b ≡ to + length (oneOut w) → to + length (bytesOf (drop i ws)) ≤ n → b + length (bytesOf (drop (i + 1) ws)) ≤ n
   emit-rest to b n eb f = omega (arith, emit-length)
 
 module _ (ws : List ℕ) (i : ℕ) (h : length ws ≤ i) where
-  pub weigh-done : (z : ℕ) (r : Answer) → r ≡ weighOf (drop i ws) i z → answer (numberOf Taken) z ≡ r
-  unfolding weighOf
-  weigh-done z r er = sym (er ∙ rw (drop-of-length-le ws h))
+  pub weigh-done : (n z : ℕ) → n ≡ z + length (bytesOf (drop i ws)) → (r : Answer) → r ≡ firstRefused judgeWord (drop i ws) i (answer 0 n) → answer 0 z ≡ r
+  unfolding bytesOf
+  weigh-done n z e r er = let last : n ≡ z = e ∙ rw (drop-of-length-le ws h, add-zero) in rw (← last) (refused-done judgeWord ws i _ r er h)
 
   pub emit-done : (to : ℕ) (o r : List ℕ) → r ≡ stores o to (bytesOf (drop i ws)) → o ≡ r
   unfolding bytesOf

@@ -1,6 +1,11 @@
--- Fields that fit the byte form's widths.
-use Prim.Native.Nat.{_<_}
+-- The widths of fields in the byte form.
+use Prim.Native.Nat.{ℕ, _+_, _*_, _<_}
 use Rattle.rules.specs.declared.Fields.{Fields}
+use Rattle.rules.specs.Words.{bitOf}
+
+-- how many bytes the fields take, as the code counts them; by `length-fields` it is the length of their bytes
+abbrev pub weightOf : Fields → ℕ
+weightOf f = 1 + bitOf (f .kind) + bitOf (f .d) + bitOf (f .a) + bitOf (f .b) + bitOf (f .c) + 4 * bitOf (f .v)
 
 -- the fields of one byte fit one
 pub record Small (f : Fields) : Type 0 where

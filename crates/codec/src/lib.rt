@@ -13,11 +13,11 @@ ghost use mathlib.Core.List.{_++_};
 ghost use Prim.Native.Nat.{_+_, _*_, _≤_, _<_};
 ghost use lib.ListN.{length, take, drop, set};
 ghost use lib.Seq.{sets as stores};
-ghost use Rattle.rules.specs.Names.{mostInstructions};
-ghost use Rattle.rules.specs.Words.{bitOf, fieldsOf};
-ghost use Rattle.rules.specs.Bytes.{mapOf, sizeOf, weightOf, byteAt, quadAt, fieldsAt, gap, oneFields, oneOf, scanOf, wordsOf, countOf, readAnswer, readOutput};
-ghost use Rattle.rules.specs.Bytes.{byteOut, quadOut, regsOut, fieldsOut, oneOut, bytesOf, weighOf, routineOf, writeAnswer, writeOutput};
-ghost use Rattle.codec.specs.Widths.{Small};
+ghost use Rattle.rules.specs.Names.{mostInstructions, answer};
+ghost use Rattle.rules.specs.Words.{bitOf, judgeWord, firstRefused};
+ghost use Rattle.rules.specs.Bytes.{mapOf, sizeOf, byteAt, quadAt, fieldsAt, gap, oneFields, oneOf, scanOf, wordsOf, countOf, readAnswer, readOutput};
+ghost use Rattle.rules.specs.Bytes.{byteOut, quadOut, regsOut, fieldsOut, oneOut, bytesOf, routineOf, writeAnswer, writeOutput};
+ghost use Rattle.codec.specs.Widths.{weightOf, Small};
 
 // The greatest map of fields.
 const TOP_MAP: usize = 63;
@@ -282,15 +282,15 @@ fn weight(f: Fields) -> usize
 }
 
 fn weight_word(w: u64) -> usize
-    ensures { λ r. ⌜ (r ≡ weightOf (fieldsOf w)) × (r ≤ 10) ⌝ }
+    ensures { λ r. ⌜ (r ≡ length (oneOut w)) × (r ≤ 10) ⌝ }
 {
     weight(fields(w))
 }
 
-// The first refusal among the words, or the size of their bytes.
+// The first refusal among the words, or the number of the routine's bytes.
 fn weigh(words: &[u64]) -> Answer
     requires { ⌜ length (now words) ≤ mostInstructions ⌝ }
-    ensures { λ r. ⌜ r ≡ weighOf (now (words .entry)) 0 2 ⌝ }
+    ensures { λ r. ⌜ r ≡ firstRefused judgeWord (now (words .entry)) 0 (answer 0 (length (routineOf (now (words .entry))))) ⌝ }
 {
     let mut i: usize = 0;
     let mut z: usize = 2;
@@ -380,8 +380,8 @@ fn put_fields(bytes: &mut [u8], at: usize, f: Fields) -> usize
 }
 
 fn put_one(bytes: &mut [u8], at: usize, w: u64) -> usize
-    requires { ⌜ at + weightOf (fieldsOf w) ≤ length (now bytes) ⌝ }
-    ensures next { λ r. ⌜ r ≡ at + weightOf (fieldsOf w) ⌝ }
+    requires { ⌜ at + length (oneOut w) ≤ length (now bytes) ⌝ }
+    ensures next { λ r. ⌜ r ≡ at + length (oneOut w) ⌝ }
     ensures content { λ _. ⌜ now (bytes .exit) ≡ stores (now (bytes .entry)) at (oneOut w) ⌝ }
 {
     put_fields(bytes, at, fields(w))

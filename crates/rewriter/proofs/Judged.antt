@@ -1,37 +1,19 @@
 -- Laws of what rewriting answers.
-use mathlib.Core.Path.{_≡_, sym, _∙_}
+use mathlib.Core.Path.{_≡_, _∙_}
 use mathlib.Core.Bool.{Bool, true, false}
 use mathlib.Core.List.{List}
-use Prim.Native.Nat.{ℕ, _+_, _*_, _≤_, _<_, _^_}
+use Prim.Native.Nat.{ℕ, _*_, _≤_, _<_, _^_}
 use native.Mathlib.Omega.{arith}
-use native.Mathlib.Numerals.{add-one}
-use lib.ListN.{length, getD, drop}
-use lib.Seq.{drop-cons, drop-length}
-use borrow.Author.Tests.{lt-ltb, le-ltb, eq-eqb, ne-eqb}
+use lib.ListN.{length}
+use borrow.Author.Tests.{lt-ltb, le-ltb}
 use Rattle.rules.specs.declared.Layout.{Layout}
 use Rattle.rules.specs.declared.Answer.{Answer}
 use Rattle.rules.specs.declared.Refusal.the-variants.{BadBase, BadLayout, Oversize, SmallOutput, Taken}
 use Rattle.rules.specs.Names.{mostInstructions, bundleLength, numberOf, answer, refusal}
 use Rattle.rules.specs.Layouts.{rightLayout}
-use Rattle.rules.specs.Words.{judgeAt, bundlesFor}
-use Rattle.rules.specs.Bundles.{judgeFrom, baseRight, placeAnswer, rewriteAnswer}
+use Rattle.rules.specs.Words.{judgeAt, firstRefused, bundlesFor}
+use Rattle.rules.specs.Bundles.{baseRight, placeAnswer, rewriteAnswer}
 use Rattle.rules.proofs.Masks.{sizes}
-
--- ---- the words in order
-
-module _ (n : ℕ) (ws : List ℕ) (i : ℕ) (z a : Answer) (ea : a ≡ judgeFrom n (drop i ws) i z) where
-  module _ (h : i < length ws) (x : ℕ) (ex : x ≡ judgeAt n (getD ws i 0)) where
-    pub judge-more : x ≡ 0 → a ≡ judgeFrom n (drop (i + 1) ws) (i + 1) z
-    unfolding judgeFrom
-    judge-more e = ea ∙ rw (drop-cons ws i 0 h, ← ex, eq-eqb x 0 e, add-one)
-
-    pub judge-stop : (x ≡ 0 → ⊥) → answer x i ≡ a
-    unfolding judgeFrom
-    judge-stop e = sym (ea ∙ rw (drop-cons ws i 0 h, ← ex, ne-eqb x 0 e))
-
-  pub judge-done : length ws ≤ i → i ≤ length ws → z ≡ a
-  unfolding judgeFrom
-  judge-done g h = let e : i ≡ length ws = omega arith in sym (ea ∙ rw (e, drop-length ws))
 
 -- ---- the base and the room
 
@@ -64,6 +46,6 @@ module _ (l : Layout) (ws : List ℕ) (room : ℕ) (t : Bool) (et : t ≡ rightL
     unfolding rewriteAnswer
     oversize h = rw (← et, e, lt-ltb mostInstructions (length ws) h)
 
-    pub judged : length ws ≤ mostInstructions → (z a : Answer) → z ≡ placeAnswer l (length ws) room → a ≡ judgeFrom (length ws) ws 0 z → a ≡ rewriteAnswer l ws room
+    pub judged : length ws ≤ mostInstructions → (z a : Answer) → z ≡ placeAnswer l (length ws) room → a ≡ firstRefused (judgeAt (length ws)) ws 0 z → a ≡ rewriteAnswer l ws room
     unfolding rewriteAnswer
     judged h z a ez ea = ea ∙ rw (← et, e, le-ltb mostInstructions (length ws) h, ez)

@@ -1,14 +1,14 @@
 -- Laws of a whole rewriting: what a taken routine is ready for, and what its output holds.
 use mathlib.Core.Path.{_≡_, refl, _∙_, subst}
 use mathlib.Core.Bool.{true}
-use mathlib.Core.List.{List, [], _∷_}
-use Prim.Native.Nat.{ℕ, _+_, _^_, _≤_, _<_}
+use mathlib.Core.List.{List}
+use Prim.Native.Nat.{ℕ, _^_, _≤_, _<_}
 use native.Mathlib.Omega.{arith}
 use native.Mathlib.Nat.{zero-add}
-use lib.Dec.{ltb, eqb}
+use lib.Dec.{ltb}
 use lib.ListN.{length}
 use lib.Seq.{sets, sets-eq}
-use borrow.Author.Tests.{lt-ltb, le-leb, eq-eqb, ne-eqb, ltb-false, eqb-false}
+use borrow.Author.Tests.{lt-ltb, le-leb, eq-eqb, ne-eqb, ltb-false}
 use Rattle.rules.specs.declared.Layout.{Layout}
 use Rattle.rules.specs.declared.Instr.{Instr}
 use Rattle.rules.specs.declared.Instr.the-variants.{HALT, PLAIN, LOAD, STORE, GOIF, GOX, EVENT}
@@ -16,9 +16,10 @@ use Rattle.rules.specs.declared.Answer.{Answer}
 use Rattle.rules.specs.Names.{mostInstructions}
 use Rattle.rules.specs.Layouts.{rightLayout}
 use Rattle.rules.specs.Words.{judgeAt, routine, bundlesFor}
-use Rattle.rules.specs.Bundles.{judgeFrom, baseRight, commandCount, commandsOf, placeAnswer, rewritten, rewriteAnswer, rewriteOutput, valid}
+use Rattle.rules.specs.Bundles.{baseRight, commandCount, commandsOf, placeAnswer, rewritten, rewriteAnswer, rewriteOutput, valid}
 use Rattle.rules.proofs.Facts.{Valid}
 use Rattle.rules.proofs.Bools.{cond-ind}
+use Rattle.rules.proofs.Refusals.{taken-then}
 use Rattle.rules.proofs.Conditions.{Taken, taken-of, size-laws, count-most, routine-valid, routine-length}
 use Rattle.rewriter.specs.Rewriting.{Ready}
 
@@ -34,13 +35,6 @@ valid-of n (GOIF a b c v) g = simp (lt-ltb _ _ (g .0), lt-ltb _ _ (g .1), le-leb
 valid-of n (GOX d a b c) g = simp (lt-ltb _ _ (g .0), lt-ltb _ _ (g .1), lt-ltb _ _ (g .2), le-leb _ _ (g .3))
 valid-of n (EVENT x) g = lt-ltb _ _ g
 
--- words that are all taken leave the answer that follows them
-judge-end : (P : Type 0) (n : ℕ) (ws : List ℕ) (i : ℕ) (z : Answer) → (z .number ≡ 0 → P) → judgeFrom n ws i z .number ≡ 0 → P
-unfolding judgeFrom
-judge-end P n [] i z f = f
-judge-end P n (w ∷ ws) i z f =
-    cond-ind (λ (a : Answer). a .number ≡ 0 → P) (eqb (judgeAt n w) 0) (λ _. judge-end P n ws (i + 1) z f) (λ e y. absurd (eqb-false _ _ e y))
-
 module _ (l : Layout) (ws : List ℕ) (room : ℕ) where
   abbrev Roomy : Answer → Type 0
   Roomy a = a .number ≡ 0 → commandCount (length ws) ≤ room
@@ -50,7 +44,7 @@ module _ (l : Layout) (ws : List ℕ) (room : ℕ) where
   roomy =
       cond-ind Roomy (rightLayout l)
       (λ _. cond-ind Roomy (ltb mostInstructions (length ws)) (λ _ z. absurd (omega arith))
-      (λ _. judge-end (commandCount (length ws) ≤ room) (length ws) ws 0 (placeAnswer l (length ws) room)
+      (λ _. taken-then (judgeAt (length ws)) (λ _. commandCount (length ws) ≤ room) ws 0 (placeAnswer l (length ws) room)
       (cond-ind Roomy (baseRight l (bundlesFor (length ws)))
       (λ _. cond-ind Roomy (ltb room (commandCount (length ws))) (λ _ z. absurd (omega arith)) (λ e _. ltb-false _ _ e))
       (λ _ z. absurd (omega arith)))))

@@ -18,13 +18,13 @@ ghost use Prim.Native.Nat.{_+_, _*_, _≤_, _<_};
 ghost use lib.ListN.{length};
 ghost use lib.Seq.{sets};
 ghost use Rattle.rules.specs.Names.{mostInstructions, bundleLength};
-ghost use Rattle.rules.specs.Words.{routine};
-ghost use Rattle.rules.specs.Bundles.{bundleOf, judgeFrom, placeAnswer, rewritten, rewriteAnswer, rewriteOutput};
+ghost use Rattle.rules.specs.Words.{judgeAt, firstRefused, routine};
+ghost use Rattle.rules.specs.Bundles.{bundleOf, placeAnswer, rewritten, rewriteAnswer, rewriteOutput};
 ghost use Rattle.rewriter.specs.Rewriting.{Ready};
 
 // The first refusal among the words, or what is answered where there is none.
 fn judge_all(words: &[u64], taken: Answer) -> Answer
-    ensures { λ r. ⌜ r ≡ judgeFrom (length (now (words .entry))) (now (words .entry)) 0 taken ⌝ }
+    ensures { λ r. ⌜ r ≡ firstRefused (judgeAt (length (now (words .entry)))) (now (words .entry)) 0 taken ⌝ }
 {
     let n = words.len();
     let mut i: usize = 0;

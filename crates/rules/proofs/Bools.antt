@@ -26,3 +26,8 @@ either false b e = inr e
 pub cond-ind {ℓ κ} : {X : Type ℓ} (P : X → Type κ) (b : Bool) {x y : X} → (b ≡ true → P x) → (b ≡ false → P y) → P (cond b x y)
 cond-ind P true f g = f refl
 cond-ind P false f g = g refl
+
+-- a function of either branch under its test
+pub cond-map {ℓ κ} : {X : Type ℓ} {Y : Type κ} (f : X → Y) (b : Bool) {x y : X} {x′ y′ : Y} → (b ≡ true → f x ≡ x′) → (b ≡ false → f y ≡ y′) → f (cond b x y) ≡ cond b x′ y′
+cond-map f true p q = p refl
+cond-map f false p q = q refl

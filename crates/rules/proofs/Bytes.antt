@@ -10,12 +10,13 @@ use Rattle.rules.specs.declared.Fields.{Fields}
 use Rattle.rules.specs.declared.Answer.{Answer}
 use Rattle.rules.specs.declared.One.{One}
 use Rattle.rules.specs.declared.One.the-variants.{Word, Bad}
-use Rattle.rules.specs.declared.Refusal.the-variants.{Short, Foreign, Oversize, SmallOutput}
-use Rattle.rules.specs.Names.{mostInstructions, numberOf, refusal}
-use Rattle.rules.specs.Words.{bitOf, judgeOf, judgeWord, fieldsOf, packFields}
-use Rattle.rules.specs.Bytes.{mapOf, sizeOf, weightOf, fieldsAt, gap, oneFields, oneMap, oneOf, goOn, scanOf, andOn, wordsOf, countOf, readAnswer}
-use Rattle.rules.specs.Bytes.{byteOut, quadOut, regsOut, fieldsOut, oneOut, bytesOf, weighOf, routineOf, roomFor, writeAnswer}
+use Rattle.rules.specs.declared.Refusal.the-variants.{Taken, Short, Foreign, Oversize, SmallOutput}
+use Rattle.rules.specs.Names.{mostInstructions, numberOf, answer, refusal, orElse, roomFor}
+use Rattle.rules.specs.Words.{bitOf, judgeOf, judgeWord, firstRefused, packFields}
+use Rattle.rules.specs.Bytes.{mapOf, sizeOf, fieldsAt, gap, oneFields, oneMap, oneOf, goOn, scanOf, andOn, wordsOf, countOf, readAnswer}
+use Rattle.rules.specs.Bytes.{byteOut, quadOut, regsOut, fieldsOut, bytesOf, routineOf, writeAnswer}
 use Rattle.rules.proofs.Bools.{cond-ind}
+use Rattle.rules.proofs.Refusals.{TakesEach, takes-each, none-refused, taken-then, refused-map}
 
 -- ---- one instruction read
 
@@ -213,15 +214,12 @@ pub length-regs : (f : Fields) → length (regsOut f) ≡ bitOf (f .d) + bitOf (
 unfolding regsOut
 length-regs f = rw (length-append, length-two (f .d) (f .a), length-two (f .b) (f .c))
 
-pub length-fields : (f : Fields) → length (fieldsOut f) ≡ weightOf f
+pub length-fields : (f : Fields) → length (fieldsOut f) ≡ 1 + bitOf (f .kind) + bitOf (f .d) + bitOf (f .a) + bitOf (f .b) + bitOf (f .c) + 4 * bitOf (f .v)
 unfolding fieldsOut
 length-fields f =
     let l0 = length-append (byteOut (f .kind)) (regsOut f ++ quadOut (f .v)) in
     let l1 = length-append (regsOut f) (quadOut (f .v)) in
     rw (l0, l1, length-byte, length-regs, length-quad) (rearrange _ _ _ _ _ _)
-
-pub length-one : (w : ℕ) → length (oneOut w) ≡ weightOf (fieldsOf w)
-length-one w = length-fields (fieldsOf w)
 
 -- ---- a routine written
 
@@ -229,56 +227,53 @@ pub length-routine : (ws : List ℕ) → length (routineOf ws) ≡ 2 + length (b
 unfolding routineOf
 length-routine ws = omega arith
 
--- where no word is refused the place is the size of their bytes
-weigh-total : (ws : List ℕ) (i z : ℕ) → weighOf ws i z .number ≡ 0 → weighOf ws i z .place ≡ z + length (bytesOf ws)
-unfolding weighOf bytesOf
-weigh-total [] i z e = omega arith
-weigh-total (w ∷ ws) i z e′ =
-    cond-ind (λ (a : Answer). a .number ≡ 0 → a .place ≡ z + length (oneOut w ++ bytesOf ws)) (eqb (judgeWord w) 0)
-    (λ _ e. omega (arith, weigh-total ws (i + 1) (z + weightOf (fieldsOf w)) e, length-append (oneOut w) (bytesOf ws), length-one w))
-    (λ h e. absurd (eqb-false (judgeWord w) 0 h e)) e′
-
-pub weigh-size : (ws : List ℕ) → weighOf ws 0 2 .number ≡ 0 → weighOf ws 0 2 .place ≡ length (routineOf ws)
-weigh-size ws e = weigh-total ws 0 2 e ∙ sym (length-routine ws)
-
 module _ (ws : List ℕ) (room : ℕ) where
   pub write-many : mostInstructions < length ws → refusal Oversize 0 ≡ writeAnswer ws room
   unfolding writeAnswer
   write-many h = simp (lt-ltb _ _ h)
 
-  module _ (h : length ws ≤ mostInstructions) (a : Answer) (e : a ≡ weighOf ws 0 2) where
-    pub write-stop : (a .number ≡ 0 → ⊥) → a ≡ writeAnswer ws room
-    unfolding writeAnswer roomFor
-    write-stop n = simp (le-ltb mostInstructions (length ws) h, ← e, ne-eqb _ _ n)
+  module _ (h : length ws ≤ mostInstructions) where
+    write-few : writeAnswer ws room ≡ firstRefused judgeWord ws 0 (roomFor room (length (routineOf ws)))
+    unfolding writeAnswer
+    write-few = rw (le-ltb mostInstructions (length ws) h)
 
-    pub write-room : a .number ≡ 0 → room < a .place → refusal SmallOutput 0 ≡ writeAnswer ws room
-    unfolding writeAnswer roomFor
-    write-room z l = simp (le-ltb mostInstructions (length ws) h, ← e, eq-eqb _ _ z, lt-ltb _ _ l)
+    pub write-taken : TakesEach judgeWord ws → writeAnswer ws room ≡ roomFor room (length (routineOf ws))
+    write-taken all = write-few ∙ none-refused judgeWord ws 0 _ all
 
-    pub write-good : a .number ≡ 0 → a .place ≤ room → a ≡ writeAnswer ws room
-    unfolding writeAnswer roomFor
-    write-good z l = simp (le-ltb mostInstructions (length ws) h, ← e, eq-eqb _ _ z, le-ltb _ _ l)
+    -- the first refusal, or the number of bytes, known before the room is looked at
+    module _ (a : Answer) (e : a ≡ firstRefused judgeWord ws 0 (answer (numberOf Taken) (length (routineOf ws)))) where
+      pub write-stop : (a .number ≡ 0 → ⊥) → a ≡ writeAnswer ws room
+      write-stop n =
+          let f : Answer → Answer = λ b. orElse b (roomFor room (length (routineOf ws))) in
+          let kept : f a ≡ a = rw (ne-eqb _ _ n) in
+          sym (write-few ∙ sym (refused-map judgeWord f (λ x p m. rw (ne-eqb _ _ m)) ws 0 _) ∙ ap f (sym e) ∙ kept)
+
+      module _ (z : a .number ≡ 0) where
+        all : TakesEach judgeWord ws
+        all = takes-each judgeWord ws 0 _ (rw e at z)
+
+        size : a ≡ answer (numberOf Taken) (length (routineOf ws))
+        size = e ∙ none-refused judgeWord ws 0 _ all
+
+        pub write-room : room < a .place → refusal SmallOutput 0 ≡ writeAnswer ws room
+        write-room l = sym (write-taken all ∙ rw (lt-ltb _ _ (rw size at l)))
+
+        pub write-good : a .place ≤ room → a ≡ writeAnswer ws room
+        write-good l = size ∙ sym (write-taken all ∙ rw (le-ltb _ _ (rw size at l)))
 
 -- what words have that writing takes
 pub record WriteOk (ws : List ℕ) (room n : ℕ) : Type 0 where
   pub few : length ws ≤ mostInstructions
   pub fits : length (routineOf ws) ≤ room
   pub size : n ≡ length (routineOf ws)
-  pub good : weighOf ws 0 2 .number ≡ 0
+  pub each : TakesEach judgeWord ws
 
 pub write-ok : (ws : List ℕ) (room : ℕ) → writeAnswer ws room .number ≡ 0 → WriteOk ws room (writeAnswer ws room .place)
-unfolding writeAnswer roomFor
+unfolding writeAnswer
 write-ok ws room =
-    let a : Answer = weighOf ws 0 2 in
+    let k : ℕ = length (routineOf ws) in
     let P : Answer → Type 0 = λ r. r .number ≡ 0 → WriteOk ws room (r .place) in
-    cond-ind P (ltb mostInstructions (length ws)) (λ _ e. absurd (omega arith)) (λ h0.
-    cond-ind P (eqb (a .number) 0) (λ h1.
-    let total : a .place ≡ length (routineOf ws) = weigh-size ws (eqb-true _ _ h1) in
-    cond-ind P (ltb room (a .place)) (λ _ e. absurd (omega arith)) (λ h2 e.
-    record {
-      few = ltb-false mostInstructions (length ws) h0;
-      fits = omega (arith, ltb-false room (a .place) h2);
-      size = total;
-      good = e;
-    }))
-    (λ h1 e. absurd (eqb-false _ _ h1 e)))
+    cond-ind P (ltb mostInstructions (length ws)) (λ _ e. absurd (omega arith)) (λ h0 e.
+    taken-then judgeWord (λ r. WriteOk ws room (r .place)) ws 0 (roomFor room k)
+    (cond-ind P (ltb room k) (λ _ f. absurd (omega arith)) (λ h1 _.
+    record { few = ltb-false mostInstructions (length ws) h0; fits = ltb-false room k h1; size = refl; each = takes-each judgeWord ws 0 _ e })) e)

@@ -19,11 +19,12 @@ use Rattle.rules.specs.Layouts.{rightLayout, tableEnd}
 use Rattle.rules.specs.Policies.{Policy, entriesRight, rightPolicy}
 use Rattle.rules.specs.Words.{judgeAt, instrOf, routine, bundlesFor}
 use Rattle.rules.specs.Commands.{commandOf, fetchOf}
-use Rattle.rules.specs.Bundles.{bundleWord, bundlesFrom, rewritten, commandsOf, commandCount, baseRight, judgeFrom, placeAnswer, rewriteAnswer, valid, bundleAt, isBundle, shapedAt, isHalt, passesAt, checkFrom, countRight, checkAnswer}
+use Rattle.rules.specs.Bundles.{bundleWord, bundlesFrom, rewritten, commandsOf, commandCount, baseRight, placeAnswer, rewriteAnswer, valid, bundleAt, isBundle, shapedAt, isHalt, passesAt, checkFrom, countRight, checkAnswer}
 use Rattle.rules.specs.Claims.{SizeLaws}
 use Rattle.rules.specs.Machines.{machineAt, fits, installAnswer, installMemory, installMachine}
 use Rattle.rules.proofs.Facts.{Right, Valid, Bundled, Laid}
 use Rattle.rules.proofs.Bools.{no, cases, both, either, cond-ind}
+use Rattle.rules.proofs.Refusals.{TakesEach, takes-each, taken-then}
 use Rattle.rules.proofs.Layouts.{LayoutFacts, layout-facts, outside}
 use Rattle.rules.proofs.Masks.{masks, sizes}
 use Rattle.rules.proofs.Packing.{Held, bundle-reads}
@@ -298,19 +299,8 @@ right-of lay pol ws mem c e =
 pub record Taken (lay : Layout) (code : List ℕ) : Type 0 where
   pub right : rightLayout lay ≡ true
   pub most : length code ≤ mostInstructions
-  pub each : (j : ℕ) → j < length code → judgeAt (length code) (getD code j 0) ≡ 0
+  pub each : TakesEach (judgeAt (length code)) code
   pub base : baseRight lay (bundlesFor (length code)) ≡ true
-
-judge-each : (n : ℕ) (ws : List ℕ) (i : ℕ) (z : Answer) → judgeFrom n ws i z .number ≡ 0 → ((j : ℕ) → j < length ws → judgeAt n (getD ws j 0) ≡ 0) × (z .number ≡ 0)
-unfolding judgeFrom
-judge-each n [] i z e = (λ j h. absurd (omega arith), e)
-judge-each n (w ∷ ws) i z e =
-    cond-ind (λ (a : Answer). a .number ≡ 0 → ((j : ℕ) → j < suc (length ws) → judgeAt n (getD (w ∷ ws) j 0) ≡ 0) × (z .number ≡ 0)) (eqb (judgeAt n w) 0)
-    (λ t r.
-    let rest = judge-each n ws (i + 1) z r in
-    let at : (j : ℕ) → j < suc (length ws) → judgeAt n (getD (w ∷ ws) j 0) ≡ 0 = elim [ zero ↦ λ h. eqb-true _ _ t | suc j ↦ λ h. rest .0 j (omega arith) ] in
-    (at, rest .1))
-    (λ t r. absurd (eqb-false _ _ t r)) e
 
 pub taken-of : (lay : Layout) (code : List ℕ) (room : ℕ) → rewriteAnswer lay code room .number ≡ 0 → Taken lay code
 unfolding rewriteAnswer placeAnswer
@@ -319,11 +309,10 @@ taken-of lay code room =
     let P = Taken lay code in
     taken-if P (rightLayout lay) _ _ (λ z. omega arith) (λ r.
     cond-ind (λ (a : Answer). a .number ≡ 0 → P) (ltb mostInstructions n) (λ _ z. absurd (omega arith)) (λ m e.
-    let j = judge-each n code 0 (placeAnswer lay n room) e in
-    taken-if P (baseRight lay (bundlesFor n)) _ _ (λ z. omega arith) (λ b.
+    taken-then (judgeAt n) (λ _. P) code 0 (placeAnswer lay n room)
+    (taken-if P (baseRight lay (bundlesFor n)) _ _ (λ z. omega arith) (λ b.
     cond-ind (λ (a : Answer). a .number ≡ 0 → P) (ltb room (commandCount n)) (λ _ z. absurd (omega arith)) (λ _ _.
-    record { right = r; most = ltb-false _ _ m; each = j .0; base = b }))
-    (j .1)))
+    record { right = r; most = ltb-false _ _ m; each = takes-each (judgeAt n) code 0 _ e; base = b }))) e))
 
 -- a jump below m is one below n
 grown : (m n : ℕ) (i : Instr) → m ≤ n → Valid m i → Valid n i

@@ -4,7 +4,7 @@ use mathlib.Core.Path.{_≡_, refl, sym, _∙_, ap}
 use mathlib.Core.Bool.{_&&_}
 use mathlib.Core.List.{List, [], _∷_}
 use native.Mathlib.Omega.{arith}
-use lib.ListN.{length, getD, set, drop, length-set}
+use lib.ListN.{length, getD, set, drop, length-set, length-append}
 use lib.Seq.{getD-set-other}
 use lib.Dec.{eqb, ltb, lit<}
 use borrow.Author.Tests.{ltb-false, leb-true, eqb-false, eqb-true}
@@ -20,16 +20,18 @@ use Rattle.rules.specs.declared.Effect.{Effect}
 use Rattle.rules.specs.declared.Effect.the-variants.{Go, Put, Cell, Order, Probe, End, Wait}
 use Rattle.rules.specs.declared.Command.{Command}
 use Rattle.rules.specs.declared.Command.the-variants.{Nop, Halt, Plain, Load, Store, GoIf, GoReg, Look, StopIf, Keep, Event, Stray}
-use Rattle.rules.specs.Names.{mostInstructions, mostBundles, bundleLength, topKind, orders, noArrow, answer}
-use Rattle.rules.specs.Words.{strayFields, highFields, fieldSets, numberTops, judgeOf, judgeWord, judgeAt, kindOf, vOf, fieldsOf, routine, bundlesFor}
-use Rattle.rules.specs.Bytes.{sizeOf, weightOf, gap, mapOf, fieldsAt, oneFields, oneMap, oneOf, goOn, scanOf, countOf, readAnswer, weighOf, roomFor, writeAnswer}
+use Rattle.rules.specs.Names.{mostInstructions, mostBundles, bundleLength, topKind, orders, noArrow, answer, orElse, roomFor}
+use Rattle.rules.specs.Words.{strayFields, highFields, fieldSets, numberTops, judgeOf, judgeWord, judgeAt, firstRefused, kindOf, vOf, fieldsOf, routine, bundlesFor}
+use Rattle.rules.specs.Bytes.{sizeOf, gap, mapOf, fieldsAt, oneFields, oneMap, oneOf, goOn, scanOf, countOf, readAnswer, oneOut, bytesOf, writeAnswer}
 use Rattle.rules.specs.Layouts.{rightLayout}
 use Rattle.rules.specs.Policies.{Policy, rightPolicy}
 use Rattle.rules.specs.Commands.{fetchOf}
-use Rattle.rules.specs.Bundles.{baseRight, rewritten, commandsOf, commandCount, judgeFrom, placeAnswer, rewriteAnswer, countRight, passesAt, checkFrom, checkAnswer}
+use Rattle.rules.specs.Bundles.{baseRight, rewritten, commandsOf, commandCount, placeAnswer, rewriteAnswer, countRight, passesAt, checkFrom, checkAnswer}
 use Rattle.rules.specs.Machines.{View, State, Ran, fits, installAnswer, regAt, entryOf, effectOf, withPair, applyOf, seen, nextOf, stepOf, endingOf, endedIn, unlessOver, unlessWait, runFrom, startOf, runOf}
-use Rattle.rules.specs.Loading.{wordsIn, orElse, loadAnswer}
+use Rattle.rules.specs.Loading.{wordsIn, loadAnswer}
 use Rattle.rules.proofs.Bools.{cond-ind, both}
+use Rattle.rules.proofs.Refusals.{taken-then}
+use Rattle.rules.proofs.Bytes.{length-fields, length-routine}
 use Rattle.rules.proofs.Masks.{sizes}
 use Rattle.rules.proofs.Conditions.{length-bundles}
 
@@ -60,6 +62,20 @@ or-else : (m r : ℕ) (a b : Answer) → a .number < 2 ^ 8 → a .place ≤ m �
 or-else m r a b h p q =
     cond-ind (Bounded m r) (eqb (a .number) 0) (λ e. q (eqb-true _ _ e))
     (λ e. record { number = h; place = p; taken = λ z. absurd (eqb-false _ _ e z) })
+
+-- k written, if there is room
+room-bound : (m r k : ℕ) → k ≤ m → Bounded m r (roomFor r k)
+room-bound m r k h =
+    cond-ind (Bounded m r) (ltb r k) (λ _. at-start _ _ _ (lit< tt)) (λ f. record { number = lit< tt; place = h; taken = λ _. ltb-false _ _ f })
+
+-- a refusal among the words, or what follows them
+first-bound : (judge : ℕ → ℕ) → ((w : ℕ) → judge w < 2 ^ 8)
+    → (ws : List ℕ) (i m r : ℕ) (z : Answer) → i + length ws ≤ m → Bounded m r z → Bounded m r (firstRefused judge ws i z)
+unfolding firstRefused
+first-bound judge s [] i m r z h b = b
+first-bound judge s (w ∷ ws) i m r z h b =
+    cond-ind (Bounded m r) (eqb (judge w) 0) (λ _. first-bound judge s ws (i + 1) m r z (omega arith) b)
+    (λ e. record { number = s w; place = omega arith; taken = λ y. absurd (eqb-false _ _ e y) })
 
 -- ---- reading and writing
 
@@ -104,27 +120,18 @@ read-bound s room =
     (λ e. cond-ind (Bounded mostInstructions room) (ltb room (countOf s)) (λ _. at-start _ _ _ (lit< tt))
     (λ f. widen (ltb-false _ _ e) (ltb-false _ _ f) (scan-bound (countOf s) 0 (countOf s) (drop 2 s) (omega arith)))))
 
-weight-bound : (f : Fields) → weightOf f ≤ 10
-weight-bound f = omega arith
-
-weigh-bound : (ws : List ℕ) (i z m : ℕ) → z + 10 * length ws ≤ m → i + length ws ≤ m → Bounded m m (weighOf ws i z)
-unfolding weighOf
-weigh-bound [] i z m h k = record { number = lit< tt; place = omega arith; taken = λ _. omega arith }
-weigh-bound (w ∷ ws) i z m h k =
-    cond-ind (Bounded m m) (eqb (judgeWord w) 0)
-    (λ _. weigh-bound ws (i + 1) (z + weightOf (fieldsOf w)) m (omega (arith, weight-bound (fieldsOf w))) (omega arith))
-    (λ _. record { number = judge-small _ _; place = omega arith; taken = λ _. omega arith })
+bytes-bound : (ws : List ℕ) → length (bytesOf ws) ≤ 10 * length ws
+unfolding bytesOf
+bytes-bound [] = omega arith
+bytes-bound (w ∷ ws) = omega (arith, length-append (oneOut w) (bytesOf ws), length-fields (fieldsOf w), bytes-bound ws)
 
 pub write-bound : (ws : List ℕ) (room : ℕ) → Bounded mostBytes room (writeAnswer ws room)
-unfolding writeAnswer roomFor
+unfolding writeAnswer
 write-bound ws room =
     cond-ind (Bounded mostBytes room) (ltb mostInstructions (length ws)) (λ _. at-start _ _ _ (lit< tt))
     (λ e. let n : length ws ≤ mostInstructions = ltb-false _ _ e in
-    let b = weigh-bound ws 0 2 mostBytes (omega arith) (omega arith) in
-    cond-ind (Bounded mostBytes room) (eqb (weighOf ws 0 2 .number) 0)
-    (λ _. cond-ind (Bounded mostBytes room) (ltb room (weighOf ws 0 2 .place)) (λ _. at-start _ _ _ (lit< tt))
-    (λ f. record { number = b .number; place = b .place; taken = λ _. ltb-false _ _ f }))
-    (λ f. record { number = b .number; place = b .place; taken = λ z. absurd (eqb-false _ _ f z) }))
+    first-bound judgeWord (λ w. judge-small _ _) ws 0 mostBytes room _ (omega arith)
+    (room-bound _ _ _ (omega (arith, length-routine ws, bytes-bound ws))))
 
 -- ---- rewriting and checking
 
@@ -134,13 +141,6 @@ judge-at-small n w =
     cond-ind (λ (x : ℕ). x < 2 ^ 8) (eqb (judgeWord w) 0)
     (λ _. cond-ind (λ (x : ℕ). x < 2 ^ 8) (eqb (kindOf w) 10 && ltb n (vOf w)) (λ _. lit< tt) (λ _. lit< tt))
     (λ _. judge-small _ _)
-
-judge-bound : (n : ℕ) (ws : List ℕ) (i m r : ℕ) (z : Answer) → i + length ws ≤ m → Bounded m r z → Bounded m r (judgeFrom n ws i z)
-unfolding judgeFrom
-judge-bound n [] i m r z h b = b
-judge-bound n (w ∷ ws) i m r z h b =
-    cond-ind (Bounded m r) (eqb (judgeAt n w) 0) (λ _. judge-bound n ws (i + 1) m r z (omega arith) b)
-    (λ e. record { number = judge-at-small n w; place = omega arith; taken = λ y. absurd (eqb-false _ _ e y) })
 
 -- at most 1,024 bundles
 pub count-bound : (n : ℕ) → n ≤ mostInstructions → commandCount n ≤ mostCommands
@@ -156,32 +156,20 @@ rewrite-bound lay ws room =
     cond-ind (Bounded mostCommands room) (rightLayout lay)
     (λ _. cond-ind (Bounded mostCommands room) (ltb mostInstructions (length ws)) (λ _. at-start _ _ _ (lit< tt))
     (λ e. let n : length ws ≤ mostInstructions = ltb-false _ _ e in
-    judge-bound (length ws) ws 0 mostCommands room _ (omega arith)
-    (cond-ind (Bounded mostCommands room) (baseRight lay (bundlesFor (length ws)))
-    (λ _. cond-ind (Bounded mostCommands room) (ltb room (commandCount (length ws))) (λ _. at-start _ _ _ (lit< tt))
-    (λ f. record { number = lit< tt; place = count-bound (length ws) n; taken = λ _. ltb-false _ _ f }))
+    first-bound (judgeAt (length ws)) (judge-at-small (length ws)) ws 0 mostCommands room _ (omega arith)
+    (cond-ind (Bounded mostCommands room) (baseRight lay (bundlesFor (length ws))) (λ _. room-bound _ _ _ (count-bound (length ws) n))
     (λ _. at-start _ _ _ (lit< tt)))))
     (λ _. at-start _ _ _ (lit< tt))
 
 -- words that rewriting takes: 4N commands are written
-module _ (n : ℕ) (a : Answer) where
-  abbrev Takes : Answer → Type 0
-  Takes b = b .number ≡ 0 → b ≡ a
-
-  judge-taken : (ws : List ℕ) (i : ℕ) (z : Answer) → Takes z → Takes (judgeFrom n ws i z)
-  unfolding judgeFrom
-  judge-taken [] i z h = h
-  judge-taken (w ∷ ws) i z h =
-      cond-ind Takes (eqb (judgeAt n w) 0) (λ _. judge-taken ws (i + 1) z h) (λ e y. absurd (eqb-false _ _ e y))
-
 pub rewrite-taken : (lay : Layout) (ws : List ℕ) (room : ℕ) → rewriteAnswer lay ws room .number ≡ 0 → rewriteAnswer lay ws room ≡ answer 0 (commandCount (length ws))
 unfolding rewriteAnswer placeAnswer
 rewrite-taken lay ws room =
     let a = answer 0 (commandCount (length ws)) in
-    let T = Takes 0 a in
+    let T : Answer → Type 0 = λ b. b .number ≡ 0 → b ≡ a in
     cond-ind T (rightLayout lay)
     (λ _. cond-ind T (ltb mostInstructions (length ws)) (λ _ z. absurd (omega arith))
-    (λ _. judge-taken (length ws) a ws 0 _
+    (λ _. taken-then (judgeAt (length ws)) (λ b. b ≡ a) ws 0 _
     (cond-ind T (baseRight lay (bundlesFor (length ws)))
     (λ _. cond-ind T (ltb room (commandCount (length ws))) (λ _ z. absurd (omega arith)) (λ _ _. refl))
     (λ _ z. absurd (omega arith)))))

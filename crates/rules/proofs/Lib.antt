@@ -1,4 +1,5 @@
 pub mod Bools
+pub mod Refusals
 pub mod Facts
 pub mod Layouts
 pub mod Masks

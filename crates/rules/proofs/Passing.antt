@@ -17,11 +17,12 @@ use Rattle.rules.specs.declared.Instr.the-variants.{HALT, PLAIN, LOAD, S
 use Rattle.rules.specs.Names.{mostInstructions, mostBundles, bundleLength, bundleShift, hidden, guestRegisters, topCondition, events, answer}
 use Rattle.rules.specs.Words.{judgeAt, instrOf, routine, bundlesFor}
 use Rattle.rules.specs.Commands.{limitsOf, wordOf}
-use Rattle.rules.specs.Bundles.{addressOf, shapeOf, bundleWord, commandsOf, commandCount, judgeFrom, placeAnswer, rewriteAnswer, rewriteOutput, valid, readOff, bundleAt, isBundle, shapedAt, isHalt, passesAt, checkFrom, checkAnswer}
+use Rattle.rules.specs.Bundles.{addressOf, shapeOf, bundleWord, commandsOf, commandCount, placeAnswer, rewriteAnswer, rewriteOutput, valid, readOff, bundleAt, isBundle, shapedAt, isHalt, passesAt, checkFrom, checkAnswer}
 use Rattle.rules.specs.Claims.{RewriteLeaves, RewrittenPasses, Rewrites, PassedRewrites, PassedDecodes}
 use Rattle.rules.proofs.Facts.{Valid}
 use Rattle.rules.proofs.Bools.{cases}
 use Rattle.rules.proofs.Masks.{one-bit, sizes}
+use Rattle.rules.proofs.Refusals.{none-refused}
 use Rattle.rules.proofs.Counts.{length-commands, rewrite-taken as answer-taken}
 use Rattle.rules.proofs.Packing.{pack-kind, pack-d, pack-a, pack-b, pack-c, pack-v}
 use Rattle.rules.proofs.GuestWords.{guestWord, guest-taken, guest-instr}
@@ -128,15 +129,10 @@ code-word is h zero j l = absurd (omega arith)
 code-word is h (suc m) zero l = let z : h + 0 ≡ h = omega arith in rw z
 code-word is h (suc m) (suc j) l = let z : h + suc j ≡ suc h + j = omega arith in rw z (code-word is (suc h) m j (omega arith))
 
-judge-all : (n : ℕ) (ws : List ℕ) (i : ℕ) (z : Answer) → ((j : ℕ) → j < length ws → judgeAt n (getD ws j 0) ≡ 0) → judgeFrom n ws i z ≡ z
-unfolding judgeFrom
-judge-all n [] i z all = refl
-judge-all n (w ∷ ws) i z all = rw (eq-eqb _ _ (all 0 (omega arith))) (judge-all n ws (i + 1) z (λ j l. all (suc j) (omega arith)))
-
 rewrite-taken : (lay : Layout) (code : List ℕ) (room : ℕ) → Taken lay code → commandCount (length code) ≤ room → rewriteAnswer lay code room ≡ answer 0 (commandCount (length code))
 unfolding rewriteAnswer placeAnswer
 rewrite-taken lay code room t l =
-    rw (t .right, le-ltb mostInstructions (length code) (t .most)) (judge-all (length code) code 0 _ (t .each) ∙ rw (t .base, le-ltb room (commandCount (length code)) l))
+    rw (t .right, le-ltb mostInstructions (length code) (t .most)) (none-refused (judgeAt (length code)) code 0 _ (t .each) ∙ rw (t .base, le-ltb room (commandCount (length code)) l))
 
 module _ (lay : Layout) (ws : List ℕ) (n : ℕ) (p : Passed lay ws n) where
   abbrev code : List ℕ

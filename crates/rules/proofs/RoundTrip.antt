@@ -8,20 +8,21 @@ use native.Mathlib.Numerals.{towards-suc}
 use lib.ListN.{length, getD, take, drop, length-append}
 use lib.Seq.{drop-cons, drop-at, take-at, getD-at, getD-drop, getD-append-add}
 use lib.Dec.{eqb}
-use borrow.Author.Tests.{eq-eqb, ne-eqb, eqb-true, eqb-false}
+use borrow.Author.Tests.{eq-eqb, ne-eqb, eqb-true, le-ltb}
 use Rattle.rules.specs.declared.One.{One}
 use Rattle.rules.specs.declared.One.the-variants.{Word, Bad}
 use Rattle.rules.specs.declared.Answer.{Answer}
 use Rattle.rules.specs.declared.Fields.{Fields}
 use Rattle.rules.specs.Names.{mostInstructions, topWord, answer}
 use Rattle.rules.specs.Words.{bitOf, judgeOf, packFields, fieldsOf, zeroOf, judgeWord}
-use Rattle.rules.specs.Bytes.{mapOf, sizeOf, weightOf, byteAt, quadAt, fieldsAt, gap, oneOf, goOn, scanOf, andOn, wordsOf, countOf, readAnswer, readOutput}
-use Rattle.rules.specs.Bytes.{byteOut, quadOut, regsOut, fieldsOut, oneOut, bytesOf, weighOf, routineOf, writeAnswer, writeOutput}
+use Rattle.rules.specs.Bytes.{mapOf, sizeOf, byteAt, quadAt, fieldsAt, gap, oneOf, goOn, scanOf, andOn, wordsOf, countOf, readAnswer, readOutput}
+use Rattle.rules.specs.Bytes.{byteOut, quadOut, regsOut, fieldsOut, oneOut, bytesOf, routineOf, writeAnswer, writeOutput}
 use Rattle.rules.specs.Claims.{WordsBack, BytesBack}
 use Rattle.rules.proofs.Bools.{cond-ind}
+use Rattle.rules.proofs.Refusals.{TakesEach}
 use Rattle.rules.proofs.WordLaws.{bounds, clean, fields-pack, pack-fields}
 use Rattle.rules.proofs.Bytes.{one-read, one-fields, fields-are, fields-word, read-ok, named, Named, read-scan}
-use Rattle.rules.proofs.Bytes.{byte-some, byte-none, quad-some, quad-none, length-byte, length-one, length-fields, write-ok, write-good, weigh-size}
+use Rattle.rules.proofs.Bytes.{byte-some, byte-none, quad-some, quad-none, length-byte, length-fields, write-ok, write-taken}
 
 -- each element of a list of bytes
 Bytes : List ℕ → Type 0
@@ -170,8 +171,8 @@ row-back f hv t =
     (rw (e .b0) (sym k)) (rw (e .b0, e .b1) (sym d)) (rw (e .b0, e .b1, e .b2) (sym a)) (rw (e .b0, e .b1, e .b2, e .b3) (sym b))
     (rw (e .b0, e .b1, e .b2, e .b3, e .b4) (sym c)) (rw (e .b0, e .b1, e .b2, e .b3, e .b4, e .b5) (sym v))
 
-size-weight : (m : ℕ) (f : Fields) → Bits m f → weightOf f ≡ sizeOf m
-size-weight m f e = rw (e .b0, e .b1, e .b2, e .b3, e .b4, e .b5)
+length-size : (m : ℕ) (f : Fields) → Bits m f → length (fieldsOut f) ≡ sizeOf m
+length-size m f e = rw (e .b0, e .b1, e .b2, e .b3, e .b4, e .b5) (length-fields f)
 
 small-sum : (x0 x1 x2 x3 x4 x5 : ℕ) → x0 ≤ 1 → x1 ≤ 1 → x2 ≤ 1 → x3 ≤ 1 → x4 ≤ 1 → x5 ≤ 1 → x0 + 2 * x1 + 4 * x2 + 8 * x3 + 16 * x4 + 32 * x5 ≤ 63
 small-sum x0 x1 x2 x3 x4 x5 h0 h1 h2 h3 h4 h5 = omega arith
@@ -183,42 +184,32 @@ row-first : (f : Fields) (t : List ℕ) → (mapOf f ≡ getD (row f t) 0 0) × 
 unfolding row
 row-first f t = (refl, λ z. omega arith)
 
-fields-back : (f : Fields) → judgeOf 0 f ≡ 0 → (t : List ℕ) → oneOf (fieldsOut f ++ t) ≡ Word (packFields f) (weightOf f)
+fields-back : (f : Fields) → judgeOf 0 f ≡ 0 → (t : List ℕ) → oneOf (fieldsOut f ++ t) ≡ Word (packFields f) (length (fieldsOut f))
 fields-back f j t =
     let m : ℕ = mapOf f in
     let s : List ℕ = row f t in
     let b = row-first f t in
-    let eu : weightOf f ≡ sizeOf m = size-weight m f (bits m f refl) in
-    let ls : weightOf f ≤ length s = rw (← (in-row f t), length-append, length-fields) (le-add-right _ _) in
+    let u : ℕ = length (fieldsOut f) in
+    let eu : u ≡ sizeOf m = length-size m f (bits m f refl) in
+    let ls : u ≤ length s = rw (← (in-row f t), length-append) (le-add-right _ _) in
     let z : judgeOf (gap m m) f ≡ 0 = rw gap-same j in
     ap oneOf (in-row f t)
-    ∙ sym (one-fields s m (b .0) (b .1) f (row-back f (bounds 0 f j .word) t) (weightOf f) eu (map-small f) ls _
-    (fields-word m f m refl (gap m m) refl (judgeOf (gap m m) f) refl z (packFields f) (weightOf f) refl eu))
+    ∙ sym (one-fields s m (b .0) (b .1) f (row-back f (bounds 0 f j .word) t) u eu (map-small f) ls _
+    (fields-word m f m refl (gap m m) refl (judgeOf (gap m m) f) refl z (packFields f) u refl eu))
 
-one-back : (w : ℕ) → judgeWord w ≡ 0 → (t : List ℕ) → oneOf (oneOut w ++ t) ≡ Word w (weightOf (fieldsOf w))
+one-back : (w : ℕ) → judgeWord w ≡ 0 → (t : List ℕ) → oneOf (oneOut w ++ t) ≡ Word w (length (oneOut w))
 one-back w g t =
     let z : zeroOf w ≡ 0 = clean (zeroOf w) (fieldsOf w) g in
-    fields-back (fieldsOf w) (rw z at g) t ∙ ap (λ (x : ℕ). Word x (weightOf (fieldsOf w))) (pack-fields w z)
+    fields-back (fieldsOf w) (rw z at g) t ∙ ap (λ (x : ℕ). Word x (length (oneOut w))) (pack-fields w z)
 
-weigh-head : (w : ℕ) (ws : List ℕ) (i z : ℕ) → weighOf (w ∷ ws) i z .number ≡ 0 → judgeWord w ≡ 0
-unfolding weighOf
-weigh-head w ws i z =
-    cond-ind (λ (a : Answer). a .number ≡ 0 → judgeWord w ≡ 0) (eqb (judgeWord w) 0) (λ h _. eqb-true _ _ h) (λ _ e. e)
-
-weigh-tail : (w : ℕ) (ws : List ℕ) (i z : ℕ) → weighOf (w ∷ ws) i z .number ≡ 0 → weighOf ws (i + 1) (z + weightOf (fieldsOf w)) .number ≡ 0
-unfolding weighOf
-weigh-tail w ws i z =
-    cond-ind (λ (a : Answer). a .number ≡ 0 → weighOf ws (i + 1) (z + weightOf (fieldsOf w)) .number ≡ 0) (eqb (judgeWord w) 0)
-    (λ _ e. e) (λ h e. absurd (eqb-false _ _ h e))
-
-scan-back : (ws : List ℕ) (i z : ℕ) → weighOf ws i z .number ≡ 0
+scan-back : (ws : List ℕ) (i : ℕ) → TakesEach judgeWord ws
     → (scanOf (length ws) i (bytesOf ws) ≡ answer 0 (i + length ws)) × (wordsOf (length ws) (bytesOf ws) ≡ ws)
-unfolding weighOf bytesOf scanOf wordsOf
-scan-back [] i z g = (rw add-zero, refl)
-scan-back (w ∷ ws) i z g =
-    let o : oneOf (oneOut w ++ bytesOf ws) ≡ Word w (weightOf (fieldsOf w)) = one-back w (weigh-head w ws i z g) (bytesOf ws) in
-    let rest : drop (weightOf (fieldsOf w)) (oneOut w ++ bytesOf ws) ≡ bytesOf ws = drop-at (oneOut w) (bytesOf ws) (weightOf (fieldsOf w)) (length-one w) in
-    let ih = scan-back ws (i + 1) (z + weightOf (fieldsOf w)) (weigh-tail w ws i z g) in
+unfolding bytesOf scanOf wordsOf
+scan-back [] i all = (rw add-zero, refl)
+scan-back (w ∷ ws) i all =
+    let o : oneOf (oneOut w ++ bytesOf ws) ≡ Word w (length (oneOut w)) = one-back w (all 0 (omega arith)) (bytesOf ws) in
+    let rest : drop (length (oneOut w)) (oneOut w ++ bytesOf ws) ≡ bytesOf ws = drop-at (oneOut w) (bytesOf ws) _ refl in
+    let ih = scan-back ws (i + 1) (λ j l. all (suc j) (omega arith)) in
     (rw (o, rest, ih .0) (ap (λ (n : ℕ). answer 0 n) (omega arith)), rw (o, rest, ih .1))
 
 routine-back : (ws : List ℕ) (room room′ : ℕ) → writeAnswer ws room .number ≡ 0 → length ws ≤ room′
@@ -228,7 +219,7 @@ routine-back ws room room′ g l =
     let f = write-ok ws room g in
     let n : ℕ = length ws in
     let s : List ℕ = routineOf ws in
-    let b = scan-back ws 0 2 (f .good) in
+    let b = scan-back ws 0 (f .each) in
     let few = f .few in
     let e : n ≡ countOf s = omega arith in
     let two : 2 ≤ length s = omega arith in
@@ -290,23 +281,23 @@ one-front s w u B e =
     let r = row-front s B f refl em (t .full) (rw size at (t .fits)) in
     (rw (t .word, un .0, in-row, size) r, rw (t .word, un .0, un .1) j)
 
-write-back : (n i z : ℕ) (s : List ℕ) → Bytes s → scanOf n i s .number ≡ 0 → (bytesOf (wordsOf n s) ≡ s) × (weighOf (wordsOf n s) i z .number ≡ 0)
-unfolding Bytes scanOf wordsOf bytesOf weighOf Named
-write-back zero i z [] B e = (refl, refl)
-write-back zero i z (x ∷ s) B e =
-    cond-ind (λ (a : Answer). a .number ≡ 0 → (_≡_ {A = List ℕ} [] (x ∷ s)) × (_≡_ {A = ℕ} 0 0)) (eqb (suc (length s)) 0)
+write-back : (n i : ℕ) (s : List ℕ) → Bytes s → scanOf n i s .number ≡ 0 → (bytesOf (wordsOf n s) ≡ s) × TakesEach judgeWord (wordsOf n s)
+unfolding Bytes scanOf wordsOf bytesOf Named
+write-back zero i [] B e = (refl, λ j h. absurd (omega arith))
+write-back zero i (x ∷ s) B e =
+    cond-ind (λ (a : Answer). a .number ≡ 0 → (_≡_ {A = List ℕ} [] (x ∷ s)) × TakesEach judgeWord []) (eqb (suc (length s)) 0)
     (λ h _. absurd (omega (arith, eqb-true (suc (length s)) 0 h))) (λ _ f. absurd (omega arith)) e
-write-back (suc n) i z s B e =
-    go (oneOf s) refl (named s) (λ u y. write-back n (i + 1) y (drop u s) (λ j. rw getD-drop (B (u + j)))) e
+write-back (suc n) i s B e =
+    go (oneOf s) refl (named s) (λ u. write-back n (i + 1) (drop u s) (λ j. rw getD-drop (B (u + j)))) e
   where
     go : (o : One) → o ≡ oneOf s → Named o
-        → ((u y : ℕ) → scanOf n (i + 1) (drop u s) .number ≡ 0 → (bytesOf (wordsOf n (drop u s)) ≡ drop u s) × (weighOf (wordsOf n (drop u s)) (i + 1) y .number ≡ 0))
+        → ((u : ℕ) → scanOf n (i + 1) (drop u s) .number ≡ 0 → (bytesOf (wordsOf n (drop u s)) ≡ drop u s) × TakesEach judgeWord (wordsOf n (drop u s)))
         → goOn o i (λ u. scanOf n (i + 1) (drop u s)) .number ≡ 0
-        → (bytesOf (andOn o (λ u. wordsOf n (drop u s))) ≡ s) × (weighOf (andOn o (λ u. wordsOf n (drop u s))) i z .number ≡ 0)
+        → (bytesOf (andOn o (λ u. wordsOf n (drop u s))) ≡ s) × TakesEach judgeWord (andOn o (λ u. wordsOf n (drop u s)))
     go (Word w u) eo p ih f =
         let w1 = one-front s w u B eo in
-        let r = ih u (z + weightOf (fieldsOf w)) f in
-        (rw (r .0) (sym (w1 .0)), rw (w1 .1) (r .1))
+        let r = ih u f in
+        (rw (r .0) (sym (w1 .0)), elim [ zero ↦ λ h. w1 .1 | suc j ↦ λ h. r .1 j (omega arith) ])
     go (Bad x) eo p ih f = absurd (omega arith)
 
 routine-is : (ws s : List ℕ) → bytesOf ws ≡ s → routineOf ws ≡ length ws % 256 ∷ length ws / 256 ∷ s
@@ -330,11 +321,10 @@ routine-front s room room′ B e l =
     let h1 : n / 256 ≡ getD s 1 0 = omega arith in
     let f0 = drop-cons s 0 0 (omega arith) in
     let f1 = drop-cons s 1 0 (omega arith) in
-    let back = write-back n 0 2 (drop 2 s) (λ j. rw getD-drop (B (2 + j))) (k .scan) in
+    let back = write-back n 0 (drop 2 s) (λ j. rw getD-drop (B (2 + j))) (k .scan) in
     let same : routineOf ws ≡ s = routine-is ws (drop 2 s) (back .0) ∙ rw (len, h0, h1) (sym (f0 ∙ ap (λ (l : List ℕ). getD s 0 0 ∷ l) f1)) in
-    let size : weighOf ws 0 2 .place ≡ length s = weigh-size ws (back .1) ∙ ap length same in
     let few : length ws ≤ mostInstructions = omega (arith, len, k .few) in
-    (same, sym (write-good ws room′ few (weighOf ws 0 2) refl (back .1) (omega arith)) ∙ (λ i. record { number = back .1 i; place = size i }))
+    (same, write-taken ws room′ few (back .1) ∙ rw (same, le-ltb room′ (length s) l))
 
 pub bytes-back : BytesBack
 unfolding Bytes

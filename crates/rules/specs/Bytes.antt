@@ -9,8 +9,8 @@ use Rattle.rules.specs.declared.Answer.{Answer}
 use Rattle.rules.specs.declared.One.{One}
 use Rattle.rules.specs.declared.One.the-variants.{Word, Bad}
 use Rattle.rules.specs.declared.Refusal.the-variants.{Taken, Short, Foreign, Oversize, Trailing, SmallOutput}
-use Rattle.rules.specs.Names.{mostInstructions, numberOf, answer, refusal}
-use Rattle.rules.specs.Words.{bitOf, judgeOf, judgeWord, fieldsOf, packFields}
+use Rattle.rules.specs.Names.{mostInstructions, numberOf, answer, refusal, roomFor}
+use Rattle.rules.specs.Words.{bitOf, judgeOf, judgeWord, firstRefused, fieldsOf, packFields}
 
 -- 'a map byte: bit 0 kind, 1 d, 2 a, 3 b, 4 c, 5 v'; 'a field that is 0 is absent'
 abbrev pub mapOf : Fields → ℕ
@@ -19,9 +19,6 @@ mapOf f = bitOf (f .kind) + 2 * bitOf (f .d) + 4 * bitOf (f .a) + 8 * bitOf (f .
 -- how many bytes an instruction of the map m takes: the map, one for each field, four for v
 abbrev pub sizeOf : ℕ → ℕ
 sizeOf m = 1 + m % 2 + m / 2 % 2 + m / 2 / 2 % 2 + m / 2 / 2 / 2 % 2 + m / 2 / 2 / 2 / 2 % 2 + 4 * (m / 2 / 2 / 2 / 2 / 2)
-
-abbrev pub weightOf : Fields → ℕ
-weightOf f = 1 + bitOf (f .kind) + bitOf (f .d) + bitOf (f .a) + bitOf (f .b) + bitOf (f .c) + 4 * bitOf (f .v)
 
 -- ---- reading
 
@@ -125,25 +122,14 @@ unfoldable pub bytesOf : List ℕ → List ℕ
 bytesOf [] = []
 bytesOf (w ∷ ws) = oneOut w ++ bytesOf ws
 
--- the first refusal among ws, 3, 2 or 4, the first of them at place i; or z and the size of their bytes
-unfoldable pub weighOf : List ℕ → ℕ → ℕ → Answer
-weighOf [] i z = answer (numberOf Taken) z
-weighOf (w ∷ ws) i z =
-    cond (eqb (judgeWord w) 0) (weighOf ws (i + 1) (z + weightOf (fieldsOf w))) (answer (judgeWord w) i)
-
-abbrev pub headOf : ℕ → List ℕ
-headOf n = n % 256 ∷ n / 256 ∷ []
-
--- the bytes of a routine
+-- the bytes of a routine: 'n in two bytes, low first, then n instructions'
 unfoldable pub routineOf : List ℕ → List ℕ
-routineOf ws = headOf (length ws) ++ bytesOf ws
-
-unfoldable pub roomFor : ℕ → Answer → Answer
-roomFor room a = cond (eqb (a .number) 0) (cond (ltb room (a .place)) (refusal SmallOutput 0) a) a
+routineOf ws = length ws % 256 ∷ length ws / 256 ∷ bytesOf ws
 
 -- 'Writing: 5; per word 3, 2, 4; then 9'
 unfoldable pub writeAnswer : List ℕ → ℕ → Answer
-writeAnswer ws room = cond (ltb mostInstructions (length ws)) (refusal Oversize 0) (roomFor room (weighOf ws 0 2))
+writeAnswer ws room =
+    cond (ltb mostInstructions (length ws)) (refusal Oversize 0) (firstRefused judgeWord ws 0 (roomFor room (length (routineOf ws))))
 
 -- what the output holds after writing
 unfoldable pub writeOutput : List ℕ → List ℕ → List ℕ

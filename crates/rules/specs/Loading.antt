@@ -11,7 +11,7 @@ use Rattle.rules.specs.declared.RunAnswer.{RunAnswer}
 use Rattle.rules.specs.declared.Installed.{Installed}
 use Rattle.rules.specs.declared.Status.{Status}
 use Rattle.rules.specs.declared.Status.the-variants.{Running, Ended, Stopped, Faulted}
-use Rattle.rules.specs.Names.{mostInstructions, registers, answer, endingNumber, first}
+use Rattle.rules.specs.Names.{mostInstructions, registers, answer, orElse, endingNumber, first}
 use Rattle.rules.specs.Layouts.{layoutOf}
 use Rattle.rules.specs.Policies.{Policy}
 use Rattle.rules.specs.Bytes.{countOf, wordsOf, readAnswer}
@@ -23,10 +23,6 @@ use Rattle.rules.specs.Machines.{machineOf, machineRefused, fits, instal
 -- the words of a routine's bytes
 abbrev pub wordsIn : List ℕ → List ℕ
 wordsIn s = wordsOf (countOf s) (drop 2 s)
-
--- the first answer if it is a refusal, else the second
-abbrev pub orElse : Answer → Answer → Answer
-orElse a b = cond (eqb (a .number) 0) b a
 
 -- 'the first reject of reading, rewriting, checking, installing, or 0'; on success the place is the commands written; room is the length of the list to write them to
 unfoldable pub loadAnswer : Layout → Policy → List ℕ → ℕ → List ℕ → Answer

@@ -2,6 +2,7 @@
 use Prim.Native.Nat.{ℕ, _+_, _-_, _^_}
 use mathlib.Core.Bool.{Bool, cond}
 use mathlib.Core.List.{List, [], _∷_}
+use lib.Dec.{eqb, ltb}
 use Rattle.rules.specs.declared.Refusal.{Refusal}
 use Rattle.rules.specs.declared.Refusal.the-variants.{Taken, Short, Foreign, UnknownKind, OffRange, Oversize, Trailing, BadLayout, BadLanding, SmallOutput, BadPolicy, BadBundle, BadCount, BadBase}
 use Rattle.rules.specs.declared.Ending.{Ending}
@@ -112,6 +113,14 @@ answer x p = record { number = x; place = p }
 -- a refusal with its place
 abbrev pub refusal : Refusal → ℕ → Answer
 refusal x p = answer (numberOf x) p
+
+-- the first answer if it is a refusal, else the second
+abbrev pub orElse : Answer → Answer → Answer
+orElse a b = cond (eqb (a .number) 0) b a
+
+-- 9 where an output of length room is too short for k; else k, 'as place, the words, bytes or commands written'
+abbrev pub roomFor : ℕ → ℕ → Answer
+roomFor room k = cond (ltb room k) (refusal SmallOutput 0) (answer (numberOf Taken) k)
 
 -- the value beside the first test that passes
 abbrev pub first : {A : Type 0} → List (Bool × A) → A → A

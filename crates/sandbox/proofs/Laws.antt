@@ -1,9 +1,9 @@
 -- Laws of loading, one for each way out of the code.
-use Prim.Native.Nat.{ℕ, _+_, _-_, _≤_, _<_}
+use Prim.Native.Nat.{ℕ, _≤_, _<_}
 use mathlib.Core.Path.{_≡_, refl, sym, ap, _∙_}
 use mathlib.Core.Bool.{Bool, true, false, cond}
 use mathlib.Core.Logic.{⊎-elim}
-use mathlib.Core.List.{List, [], _∷_, _++_}
+use mathlib.Core.List.{List, _++_}
 use native.Mathlib.Omega.{arith}
 use lib.ListN.{length, take, drop, length-append}
 use lib.Seq.{take-at, length-take-le}
@@ -14,18 +14,19 @@ use Rattle.rules.specs.declared.Machine.{Machine}
 use Rattle.rules.specs.declared.Answer.{Answer}
 use Rattle.rules.specs.declared.Installed.{Installed}
 use Rattle.rules.specs.declared.Refusal.the-variants.{SmallOutput}
-use Rattle.rules.specs.Names.{mostInstructions, answer, refusal}
+use Rattle.rules.specs.Names.{mostInstructions, answer, refusal, orElse}
 use Rattle.rules.specs.Layouts.{rightLayout}
 use Rattle.rules.specs.Policies.{Policy}
-use Rattle.rules.specs.Words.{judgeAt, bundlesFor}
-use Rattle.rules.specs.Bytes.{countOf, readAnswer, readOutput, roomFor}
-use Rattle.rules.specs.Bundles.{baseRight, commandsOf, commandCount, judgeFrom, placeAnswer, rewriteAnswer, rewriteOutput, checkAnswer}
+use Rattle.rules.specs.Words.{judgeAt, firstRefused, bundlesFor}
+use Rattle.rules.specs.Bytes.{countOf, readAnswer, readOutput}
+use Rattle.rules.specs.Bundles.{baseRight, commandsOf, commandCount, placeAnswer, rewriteAnswer, rewriteOutput, checkAnswer}
 use Rattle.rules.specs.Machines.{machineRefused, installAnswer, installMemory, installMachine, installOf}
-use Rattle.rules.specs.Loading.{wordsIn, orElse, loadAnswer, loadCommands, loadMemory, loadMachine, loadOf}
-use Rattle.rules.proofs.Bools.{cond-ind, cases}
+use Rattle.rules.specs.Loading.{wordsIn, loadAnswer, loadCommands, loadMemory, loadMachine, loadOf}
+use Rattle.rules.proofs.Bools.{cond-ind, cond-map, cases}
+use Rattle.rules.proofs.Refusals.{refused-map}
 use Rattle.rules.proofs.Bytes.{read-ok}
 use Rattle.rules.proofs.Counts.{mostCommands, count-bound, length-commands, rewrite-taken, rewrite-bound}
-use Rattle.sandbox.specs.Translating.{writtenAnswer, writtenOutput, checkedAnswer, translateAnswer, Listed}
+use Rattle.sandbox.specs.Translating.{writtenAnswer, writtenOutput, inRoom, checkedAnswer, translateAnswer, Listed}
 
 -- the first answer where it is a refusal, else the second
 else-next : (a b : Answer) → a .number ≡ 0 → orElse a b ≡ b
@@ -84,41 +85,31 @@ module _ (s : List ℕ) (a : Answer) (e : a ≡ readAnswer s mostInstructions) w
 
 -- ---- the room: all 4,096 commands at most fit the crate's own list, so only the lent one's length is left to test
 
-pub roomed : (room : ℕ) (a : Answer) → (a .number ≡ 0 → ⊥) → a ≡ roomFor room a
-unfolding roomFor
+pub roomed : (room : ℕ) (a : Answer) → (a .number ≡ 0 → ⊥) → a ≡ inRoom room a
+unfolding inRoom
 roomed room a h = rw (ne-eqb _ _ h)
 
-pub roomless : (room : ℕ) (a : Answer) → a .number ≡ 0 → room < a .place → refusal SmallOutput 0 ≡ roomFor room a
-unfolding roomFor
+pub roomless : (room : ℕ) (a : Answer) → a .number ≡ 0 → room < a .place → refusal SmallOutput 0 ≡ inRoom room a
+unfolding inRoom
 roomless room a e h = rw (eq-eqb _ _ e, lt-ltb _ _ h)
 
-pub roomy : (room : ℕ) (a : Answer) → a .number ≡ 0 → a .place ≤ room → a ≡ roomFor room a
-unfolding roomFor
-roomy room a e h = rw (eq-eqb _ _ e, le-ltb _ _ h)
+pub roomy : (room : ℕ) (a : Answer) → a .number ≡ 0 → a .place ≤ room → a ≡ inRoom room a
+unfolding inRoom
+roomy room a e h = (λ i. record { number = e i; place = a .place }) ∙ rw (eq-eqb _ _ e, le-ltb _ _ h)
 
-room-none : (room : ℕ) (a : Answer) → roomFor room a .number ≡ 0 → a .number ≡ 0
-unfolding roomFor
+room-none : (room : ℕ) (a : Answer) → inRoom room a .number ≡ 0 → a .number ≡ 0
+unfolding inRoom
 room-none room a =
     cond-ind (λ (x : Answer). x .number ≡ 0 → a .number ≡ 0) (eqb (a .number) 0) (λ t _. eqb-true _ _ t) (λ _ e. e)
 
-cond-map : (f : Answer → Answer) (b : Bool) {x y x′ y′ : Answer} → (b ≡ true → f x ≡ x′) → (b ≡ false → f y ≡ y′) → f (cond b x y) ≡ cond b x′ y′
-cond-map f true p q = p refl
-cond-map f false p q = q refl
-
-judge-room : (room n : ℕ) (ws : List ℕ) (i : ℕ) (z z′ : Answer) → roomFor room z ≡ z′ → roomFor room (judgeFrom n ws i z) ≡ judgeFrom n ws i z′
-unfolding judgeFrom
-judge-room room n [] i z z′ e = e
-judge-room room n (w ∷ ws) i z z′ e =
-    cond-map (roomFor room) (eqb (judgeAt n w) 0) (λ _. judge-room room n ws (i + 1) z z′ e)
-    (λ t. sym (roomed room (answer (judgeAt n w) i) (eqb-false _ _ t)))
-
-pub rewrite-room : (lay : Layout) (ws : List ℕ) (room most : ℕ) → mostCommands ≤ most → roomFor room (rewriteAnswer lay ws most) ≡ rewriteAnswer lay ws room
-unfolding rewriteAnswer placeAnswer roomFor
+pub rewrite-room : (lay : Layout) (ws : List ℕ) (room most : ℕ) → mostCommands ≤ most → inRoom room (rewriteAnswer lay ws most) ≡ rewriteAnswer lay ws room
+unfolding rewriteAnswer placeAnswer inRoom
 rewrite-room lay ws room most h =
-    cond-map (roomFor room) (rightLayout lay)
-    (λ _. cond-map (roomFor room) (ltb mostInstructions (length ws)) (λ _. refl)
+    cond-map (inRoom room) (rightLayout lay)
+    (λ _. cond-map (inRoom room) (ltb mostInstructions (length ws)) (λ _. refl)
     (λ t. let n : commandCount (length ws) ≤ most = omega (arith, count-bound (length ws) (ltb-false _ _ t)) in
-    judge-room room (length ws) ws 0 _ _ (cond-map (roomFor room) (baseRight lay (bundlesFor (length ws))) (λ _. rw (le-ltb _ _ n)) (λ _. refl))))
+    refused-map (judgeAt (length ws)) (inRoom room) (λ x p h. sym (roomed room (answer x p) h)) ws 0 _
+    ∙ ap (firstRefused (judgeAt (length ws)) ws 0) (cond-map (inRoom room) (baseRight lay (bundlesFor (length ws))) (λ _. rw (le-ltb _ _ n)) (λ _. refl))))
     (λ _. refl)
 
 -- ---- checking
@@ -136,7 +127,7 @@ module _ (lay : Layout) (list : List ℕ) (a : Answer) where
   passed z b e h = sym (else-next a _ z ∙ rw (← e) (else-next b a h))
 
 -- ---- translating
-module _ (lay : Layout) (s l₀ list : List ℕ) (room : ℕ) (most : mostCommands ≤ length l₀) (a : Answer) (ea : a ≡ writtenAnswer lay s (length l₀)) (el : list ≡ writtenOutput lay s l₀) (b : Answer) (eb : b ≡ roomFor room a) where
+module _ (lay : Layout) (s l₀ list : List ℕ) (room : ℕ) (most : mostCommands ≤ length l₀) (a : Answer) (ea : a ≡ writtenAnswer lay s (length l₀)) (el : list ≡ writtenOutput lay s l₀) (b : Answer) (eb : b ≡ inRoom room a) where
   abbrev code : List ℕ
   code = wordsIn s
 
@@ -144,7 +135,7 @@ module _ (lay : Layout) (s l₀ list : List ℕ) (room : ℕ) (most : mostComman
   unfolding writtenAnswer
   roomed-is =
       eb ∙ rw ea
-      (cond-map (roomFor room) (eqb (readAnswer s mostInstructions .number) 0) (λ _. rewrite-room lay code room (length l₀) most)
+      (cond-map (inRoom room) (eqb (readAnswer s mostInstructions .number) 0) (λ _. rewrite-room lay code room (length l₀) most)
       (λ t. sym (roomed room (readAnswer s mostInstructions) (eqb-false _ _ t))))
 
   -- where nothing is refused yet

@@ -7,10 +7,10 @@ use lib.ListN.{length, take}
 use lib.Dec.{eqb}
 use Rattle.rules.specs.declared.Layout.{Layout}
 use Rattle.rules.specs.declared.Answer.{Answer}
-use Rattle.rules.specs.Names.{mostInstructions, answer}
+use Rattle.rules.specs.Names.{mostInstructions, answer, orElse, roomFor}
 use Rattle.rules.specs.Bytes.{readAnswer}
 use Rattle.rules.specs.Bundles.{commandsOf, commandCount, rewriteAnswer, rewriteOutput, checkAnswer}
-use Rattle.rules.specs.Loading.{wordsIn, orElse}
+use Rattle.rules.specs.Loading.{wordsIn}
 
 -- reading, then rewriting to a list of so many commands, and what that list then holds
 unfoldable pub writtenAnswer : Layout → List ℕ → ℕ → Answer
@@ -18,6 +18,10 @@ writtenAnswer lay s room = orElse (readAnswer s mostInstructions) (rewriteAnswer
 
 unfoldable pub writtenOutput : Layout → List ℕ → List ℕ → List ℕ
 writtenOutput lay s out = cond (eqb (readAnswer s mostInstructions .number) 0) (rewriteOutput lay (wordsIn s) out) out
+
+-- an answer of nothing refused, once the room for the commands that it counts is looked at
+unfoldable pub inRoom : ℕ → Answer → Answer
+inRoom room a = orElse a (roomFor room (a .place))
 
 -- an answer of nothing refused, once the commands that it counts are checked
 unfoldable pub checkedAnswer : Layout → List ℕ → Answer → Answer

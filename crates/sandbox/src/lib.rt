@@ -14,11 +14,10 @@ ghost use mathlib.Core.Path.{_≡_};
 ghost use mathlib.Core.List.{_++_};
 ghost use lib.ListN.{length, drop};
 ghost use Rattle.rules.specs.Names.{endingNumber};
-ghost use Rattle.rules.specs.Bytes.{roomFor};
 ghost use Rattle.rules.specs.Policies.{policyOf};
 ghost use Rattle.rules.specs.Loading.{loadOf, loadCommands, loadMemory};
 ghost use Rattle.rules.proofs.Counts.{mostCommands};
-ghost use Rattle.sandbox.specs.Translating.{writtenAnswer, writtenOutput, checkedAnswer, translateAnswer, Listed};
+ghost use Rattle.sandbox.specs.Translating.{writtenAnswer, writtenOutput, inRoom, checkedAnswer, translateAnswer, Listed};
 
 // The commands of a routine's bytes, written to a list.
 fn write_commands(layout: Layout, bytes: &[u8], list: &mut [u64]) -> Answer
@@ -37,7 +36,7 @@ fn write_commands(layout: Layout, bytes: &[u8], list: &mut [u64]) -> Answer
 
 // 9 where more commands were written than there is room for.
 fn in_room(a: Answer, room: usize) -> Answer
-    ensures { λ r. ⌜ r ≡ roomFor room a ⌝ }
+    ensures { λ r. ⌜ r ≡ inRoom room a ⌝ }
 {
     let refused = a.number;
     if refused != Refusal::TAKEN {

@@ -3,13 +3,13 @@ use mathlib.Core.Path.{_≡_, refl}
 use native.Mathlib.Omega.{arith}
 use lib.ListN.{length, drop}
 use borrow.Author.Needs.{needs}
-use Rattle.rules.specs.Bundles.{judgeFrom}
-use Rattle.rewriter.proofs.Judged.{judge-stop, judge-more, judge-done}
+use Rattle.rules.specs.Words.{judgeAt, firstRefused}
+use Rattle.rules.proofs.Refusals.{refused-stop, refused-more, refused-done}
 use Rattle.rewriter.proofs.judge_all.Statement.{statement}
 use Rattle.rewriter.proofs.judge_all.Tie as tie
 
 abbrev Inv-loop : tie.InvT-loop
-Inv-loop words taken n i₀ i = (i ≤ length words) × (judgeFrom (length words) words 0 taken ≡ judgeFrom (length words) (drop i words) i taken)
+Inv-loop words taken n i₀ i = (i ≤ length words) × (firstRefused (judgeAt (length words)) words 0 taken ≡ firstRefused (judgeAt (length words)) (drop i words) i taken)
 
 abbrev μ-loop : tie.MeasureT-loop
 μ-loop words taken n i₀ i = length words - i
@@ -24,8 +24,8 @@ judge-all-spec =
     (λ c. search needs)
     (λ c. search needs)
     (λ c κs. search needs)
-    (λ c. search (judge-stop, needs))
+    (λ c. search (refused-stop, needs))
     (λ c. search needs)
     (λ c. search needs)
-    (λ c. search (judge-more, needs))
-    (λ c. search (judge-done, needs)))
+    (λ c. search (refused-more, needs))
+    (λ c. search (refused-done, needs)))
