@@ -17,7 +17,7 @@ use Rattle.rules.specs.declared.One.the-variants.{Word, Bad}
 use Rattle.rules.specs.declared.Refusal.the-variants.{Taken, Trailing}
 use Rattle.rules.specs.Names.{mostInstructions, numberOf, answer, refusal}
 use Rattle.rules.specs.Words.{judgeOf, judgeWord, fieldsOf, zeroOf, packFields, cutOf}
-use Rattle.rules.specs.Bytes.{byteAt, mapOf, sizeOf, gap, oneFields, oneOf, scanOf, wordsOf, countOf, readAnswer, readOutput}
+use Rattle.rules.specs.Bytes.{byteAt, mapOf, sizeOf, gap, oneFields, oneOf, scanOf, wordsOf, countOf, wordsIn, readAnswer, readOutput}
 use Rattle.rules.proofs.Bytes.{one-read, fields-word, read-scan, ReadOk, read-ok}
 use Rattle.rules.proofs.Bools.{both}
 use Rattle.rules.proofs.Packing.{InBits, pack-kind, pack-d, pack-a, pack-b, pack-c, pack-v, pack-zero}
@@ -154,7 +154,7 @@ pub read-rest : (s : List ℕ) (room : ℕ) → 2 ≤ length s → (n : ℕ) →
 read-rest s room h n e g l a ea = read-scan s room h n e g l a (ea ∙ rw (rest 2 s h))
 
 pub aside-rest : (s : List ℕ) → 2 ≤ length s → (n : ℕ) → n ≡ countOf s → (out out′ : List ℕ) → out′ ≡ stores out 0 (wordsOf n (take (length s - 2) (drop 2 s)))
-    → out′ ≡ stores out 0 (wordsOf (countOf s) (drop 2 s))
+    → out′ ≡ stores out 0 (wordsIn s)
 aside-rest s h n e out out′ eo = eo ∙ rw (rest 2 s h, e)
 
 module _ (s : List ℕ) (room : ℕ) (a : Answer) (e : a ≡ readAnswer s room) (z : a .number ≡ 0) where
@@ -172,14 +172,14 @@ module _ (s out : List ℕ) (a : Answer) (e : a ≡ readAnswer s (length out)) w
   unfolding readOutput
   refused z = simp (← e, ne-eqb _ _ z)
 
-  pub filled : a .number ≡ 0 → (x y : List ℕ) → length y ≡ mostInstructions → (a .number ≡ 0 → y ≡ stores x 0 (wordsOf (countOf s) (drop 2 s)))
+  pub filled : a .number ≡ 0 → (x y : List ℕ) → length y ≡ mostInstructions → (a .number ≡ 0 → y ≡ stores x 0 (wordsIn s))
       → (o : List ℕ) → o ≡ stores out 0 (take (a .place) y) → o ≡ readOutput s out
   unfolding readOutput
   filled z x y l f o eo =
       let k : ReadOk s (length out) (a .place) = ok s (length out) a e z in
       let n : ℕ = a .place in
       let ws : List ℕ = wordsOf n (drop 2 s) in
-      let lx : length y ≡ length x = ap length (f z) ∙ length-sets x 0 (wordsOf (countOf s) (drop 2 s)) in
+      let lx : length y ≡ length x = ap length (f z) ∙ length-sets x 0 (wordsIn s) in
       let g : 0 + length ws ≤ length x = omega (arith, k .words, k .count, k .few) in
       let h : 0 + length ws ≤ length out = omega (arith, k .words, k .fits) in
       let ey : y ≡ ws ++ drop (0 + length ws) x = f z ∙ rw (← (k .count)) (sets-eq ws x 0 g) in

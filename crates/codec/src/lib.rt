@@ -11,11 +11,11 @@ use words::guest::pack;
 ghost use mathlib.Core.Path.{_≡_};
 ghost use mathlib.Core.List.{_++_};
 ghost use Prim.Native.Nat.{_+_, _*_, _≤_, _<_};
-ghost use lib.ListN.{length, take, drop, set};
+ghost use lib.ListN.{length, take, set};
 ghost use lib.Seq.{sets as stores};
 ghost use Rattle.rules.specs.Names.{mostInstructions, answer};
 ghost use Rattle.rules.specs.Words.{bitOf, judgeWord, firstRefused};
-ghost use Rattle.rules.specs.Bytes.{mapOf, sizeOf, byteAt, quadAt, fieldsAt, gap, oneFields, oneOf, scanOf, wordsOf, countOf, readAnswer, readOutput};
+ghost use Rattle.rules.specs.Bytes.{mapOf, sizeOf, byteAt, quadAt, fieldsAt, gap, oneFields, oneOf, scanOf, wordsOf, countOf, wordsIn, readAnswer, readOutput};
 ghost use Rattle.rules.specs.Bytes.{byteOut, quadOut, regsOut, fieldsOut, oneOut, bytesOf, routineOf, writeAnswer, writeOutput};
 ghost use Rattle.codec.specs.Widths.{weightOf, Small};
 
@@ -235,7 +235,7 @@ fn count(s: &[u8]) -> usize
 fn read_check(bytes: &[u8], room: usize, aside: &mut [u64]) -> Answer
     requires { ⌜ mostInstructions ≤ length (now aside) ⌝ }
     ensures answer { λ r. ⌜ r ≡ readAnswer (now (bytes .entry)) room ⌝ }
-    ensures content { λ r. ⌜ (r .number ≡ 0 → now (aside .exit) ≡ stores (now (aside .entry)) 0 (wordsOf (countOf (now (bytes .entry))) (drop 2 (now (bytes .entry))))) ⌝ }
+    ensures content { λ r. ⌜ (r .number ≡ 0 → now (aside .exit) ≡ stores (now (aside .entry)) 0 (wordsIn (now (bytes .entry)))) ⌝ }
 {
     if bytes.len() < 2 {
         return Answer {

@@ -22,13 +22,13 @@ use Rattle.rules.specs.declared.Command.{Command}
 use Rattle.rules.specs.declared.Command.the-variants.{Nop, Halt, Plain, Load, Store, GoIf, GoReg, Look, StopIf, Keep, Event, Stray}
 use Rattle.rules.specs.Names.{mostInstructions, mostBundles, bundleLength, topKind, orders, noArrow, answer, orElse, roomFor}
 use Rattle.rules.specs.Words.{strayFields, highFields, fieldSets, numberTops, judgeOf, judgeWord, judgeAt, firstRefused, kindOf, vOf, fieldsOf, routine, bundlesFor}
-use Rattle.rules.specs.Bytes.{sizeOf, gap, mapOf, fieldsAt, oneFields, oneMap, oneOf, goOn, scanOf, countOf, readAnswer, oneOut, bytesOf, writeAnswer}
+use Rattle.rules.specs.Bytes.{sizeOf, gap, mapOf, fieldsAt, oneFields, oneMap, oneOf, goOn, scanOf, countOf, wordsIn, readAnswer, oneOut, bytesOf, writeAnswer}
 use Rattle.rules.specs.Layouts.{rightLayout}
 use Rattle.rules.specs.Policies.{Policy, rightPolicy}
 use Rattle.rules.specs.Commands.{fetchOf}
 use Rattle.rules.specs.Bundles.{baseRight, rewritten, commandsOf, commandCount, placeAnswer, rewriteAnswer, countRight, passesAt, checkFrom, checkAnswer}
 use Rattle.rules.specs.Machines.{View, State, Ran, fits, installAnswer, regAt, entryOf, effectOf, withPair, applyOf, seen, nextOf, stepOf, endingOf, endedIn, unlessOver, unlessWait, runFrom, startOf, runOf}
-use Rattle.rules.specs.Loading.{wordsIn, loadAnswer}
+use Rattle.rules.specs.Loading.{loadAnswer}
 use Rattle.rules.proofs.Bools.{cond-ind, both}
 use Rattle.rules.proofs.Refusals.{taken-then}
 use Rattle.rules.proofs.Bytes.{length-fields, length-routine}

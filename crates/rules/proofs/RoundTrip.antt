@@ -15,7 +15,7 @@ use Rattle.rules.specs.declared.Answer.{Answer}
 use Rattle.rules.specs.declared.Fields.{Fields}
 use Rattle.rules.specs.Names.{mostInstructions, topWord, answer}
 use Rattle.rules.specs.Words.{bitOf, judgeOf, packFields, fieldsOf, zeroOf, judgeWord}
-use Rattle.rules.specs.Bytes.{mapOf, sizeOf, byteAt, quadAt, fieldsAt, gap, oneOf, goOn, scanOf, andOn, wordsOf, countOf, readAnswer, readOutput}
+use Rattle.rules.specs.Bytes.{mapOf, sizeOf, byteAt, quadAt, fieldsAt, gap, oneOf, goOn, scanOf, andOn, wordsOf, countOf, wordsIn, readAnswer, readOutput}
 use Rattle.rules.specs.Bytes.{byteOut, quadOut, regsOut, fieldsOut, oneOut, bytesOf, routineOf, writeAnswer, writeOutput}
 use Rattle.rules.specs.Claims.{WordsBack, BytesBack}
 use Rattle.rules.proofs.Bools.{cond-ind}
@@ -213,7 +213,7 @@ scan-back (w ∷ ws) i all =
     (rw (o, rest, ih .0) (ap (λ (n : ℕ). answer 0 n) (omega arith)), rw (o, rest, ih .1))
 
 routine-back : (ws : List ℕ) (room room′ : ℕ) → writeAnswer ws room .number ≡ 0 → length ws ≤ room′
-    → (readAnswer (routineOf ws) room′ ≡ answer 0 (length ws)) × (wordsOf (countOf (routineOf ws)) (drop 2 (routineOf ws)) ≡ ws) × (countOf (routineOf ws) ≡ length ws)
+    → (readAnswer (routineOf ws) room′ ≡ answer 0 (length ws)) × (wordsIn (routineOf ws) ≡ ws) × (countOf (routineOf ws) ≡ length ws)
 unfolding routineOf
 routine-back ws room room′ g l =
     let f = write-ok ws room g in
@@ -232,9 +232,9 @@ module _ (ws out : List ℕ) (e : writeAnswer ws (length out) .number ≡ 0) whe
   taken-bytes n l = rw (eq-eqb _ _ e) (take-at (routineOf ws) (drop (length (routineOf ws)) out) n l)
 
 module _ (s words : List ℕ) (e : readAnswer s (length words) .number ≡ 0) where
-  taken-words : (n : ℕ) → length (wordsOf (countOf s) (drop 2 s)) ≡ n → take n (readOutput s words) ≡ wordsOf (countOf s) (drop 2 s)
+  taken-words : (n : ℕ) → length (wordsIn s) ≡ n → take n (readOutput s words) ≡ wordsIn s
   unfolding readOutput
-  taken-words n l = rw (eq-eqb _ _ e) (take-at (wordsOf (countOf s) (drop 2 s)) (drop (countOf s) words) n l)
+  taken-words n l = rw (eq-eqb _ _ e) (take-at (wordsIn s) (drop (countOf s) words) n l)
 
 pub words-back : WordsBack
 words-back ws out words e l =
@@ -306,7 +306,7 @@ routine-is ws s e = rw e
 
 -- writing takes the words that were read, and their bytes are those that were read
 routine-front : (s : List ℕ) (room room′ : ℕ) → Bytes s → readAnswer s room .number ≡ 0 → length s ≤ room′
-    → (routineOf (wordsOf (countOf s) (drop 2 s)) ≡ s) × (writeAnswer (wordsOf (countOf s) (drop 2 s)) room′ ≡ answer 0 (length s))
+    → (routineOf (wordsIn s) ≡ s) × (writeAnswer (wordsIn s) room′ ≡ answer 0 (length s))
 unfolding Bytes
 routine-front s room room′ B e l =
     let k = read-ok s room e in
@@ -332,8 +332,8 @@ bytes-back s words out B e l =
     let k = read-ok s (length words) e in
     let ws = taken-words s words e _ (rw (k .count) at (k .words)) in
     let front = routine-front s (length words) (length out) B e l in
-    let n : writeAnswer (wordsOf (countOf s) (drop 2 s)) (length out) .number ≡ 0 = ap (λ (a : Answer). a .number) (front .1) in
+    let n : writeAnswer (wordsIn s) (length out) .number ≡ 0 = ap (λ (a : Answer). a .number) (front .1) in
     record {
       answers = rw (k .count, ws) (front .1);
-      leaves = rw (k .count, ws) (taken-bytes (wordsOf (countOf s) (drop 2 s)) out n (length s) (ap length (front .0)) ∙ front .0);
+      leaves = rw (k .count, ws) (taken-bytes (wordsIn s) out n (length s) (ap length (front .0)) ∙ front .0);
     }

@@ -86,6 +86,10 @@ wordsOf (suc n) s = andOn (oneOf s) (λ u. wordsOf n (drop u s))
 abbrev pub countOf : List ℕ → ℕ
 countOf s = getD s 0 0 + 256 * getD s 1 0
 
+-- the words of a routine's bytes
+abbrev pub wordsIn : List ℕ → List ℕ
+wordsIn s = wordsOf (countOf s) (drop 2 s)
+
 -- 'Reading: 1 for the count, 5, 9; per instruction map 2, 1, 3, 2, 4; then 6'; room is the output's length
 unfoldable pub readAnswer : List ℕ → ℕ → Answer
 readAnswer s room =
@@ -97,7 +101,7 @@ readAnswer s room =
 unfoldable pub readOutput : List ℕ → List ℕ → List ℕ
 readOutput s out =
     cond (eqb (readAnswer s (length out) .number) 0)
-    (wordsOf (countOf s) (drop 2 s) ++ drop (countOf s) out)
+    (wordsIn s ++ drop (countOf s) out)
     out
 
 -- ---- writing

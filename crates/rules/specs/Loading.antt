@@ -14,15 +14,11 @@ use Rattle.rules.specs.declared.Status.the-variants.{Running, Ended, Sto
 use Rattle.rules.specs.Names.{mostInstructions, registers, answer, orElse, endingNumber, first}
 use Rattle.rules.specs.Layouts.{layoutOf}
 use Rattle.rules.specs.Policies.{Policy}
-use Rattle.rules.specs.Bytes.{countOf, wordsOf, readAnswer}
+use Rattle.rules.specs.Bytes.{wordsIn, readAnswer}
 use Rattle.rules.specs.Bundles.{commandsOf, commandCount, rewriteAnswer, checkAnswer}
 use Rattle.rules.specs.Machines.{machineOf, machineRefused, fits, installAnswer, installMemory, installMachine, Ran}
 
 -- ---- from bytes to an installed machine
-
--- the words of a routine's bytes
-abbrev pub wordsIn : List ℕ → List ℕ
-wordsIn s = wordsOf (countOf s) (drop 2 s)
 
 -- 'the first reject of reading, rewriting, checking, installing, or 0'; on success the place is the commands written; room is the length of the list to write them to
 unfoldable pub loadAnswer : Layout → Policy → List ℕ → ℕ → List ℕ → Answer

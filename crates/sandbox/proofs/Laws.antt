@@ -18,10 +18,10 @@ use Rattle.rules.specs.Names.{mostInstructions, answer, refusal, orElse}
 use Rattle.rules.specs.Layouts.{rightLayout}
 use Rattle.rules.specs.Policies.{Policy}
 use Rattle.rules.specs.Words.{judgeAt, firstRefused, bundlesFor}
-use Rattle.rules.specs.Bytes.{countOf, readAnswer, readOutput}
+use Rattle.rules.specs.Bytes.{countOf, wordsIn, readAnswer, readOutput}
 use Rattle.rules.specs.Bundles.{baseRight, commandsOf, commandCount, placeAnswer, rewriteAnswer, rewriteOutput, checkAnswer}
 use Rattle.rules.specs.Machines.{machineRefused, installAnswer, installMemory, installMachine, installOf}
-use Rattle.rules.specs.Loading.{wordsIn, loadAnswer, loadCommands, loadMemory, loadMachine, loadOf}
+use Rattle.rules.specs.Loading.{loadAnswer, loadCommands, loadMemory, loadMachine, loadOf}
 use Rattle.rules.proofs.Bools.{cond-ind, cond-map, cases}
 use Rattle.rules.proofs.Refusals.{refused-map}
 use Rattle.rules.proofs.Bytes.{read-ok}

@@ -8,9 +8,8 @@ use lib.Dec.{eqb}
 use Rattle.rules.specs.declared.Layout.{Layout}
 use Rattle.rules.specs.declared.Answer.{Answer}
 use Rattle.rules.specs.Names.{mostInstructions, answer, orElse, roomFor}
-use Rattle.rules.specs.Bytes.{readAnswer}
+use Rattle.rules.specs.Bytes.{wordsIn, readAnswer}
 use Rattle.rules.specs.Bundles.{commandsOf, commandCount, rewriteAnswer, rewriteOutput, checkAnswer}
-use Rattle.rules.specs.Loading.{wordsIn}
 
 -- reading, then rewriting to a list of so many commands, and what that list then holds
 unfoldable pub writtenAnswer : Layout → List ℕ → ℕ → Answer
