@@ -87,7 +87,7 @@ narrow a b e h k = subst (λ (x : Answer). x .place < 2 ^ 32) (sym e) (omega (ar
 pub counts : (l : Layout) (ws mem rd log mem′ log′ : List ℕ) (budget : ℕ) (m : Machine) (o : Outcome) → ranOf o mem′ log′ ≡ runOf l ws m mem budget rd log → budget < 2 ^ 32
     → (o .answer .pairs < 2 ^ 32) × (o .answer .used < 2 ^ 32)
 counts l ws mem rd log mem′ log′ budget m o q h =
-    let b = subst (RunCounts log budget) (sym q) (run-counts l ws m mem budget rd log) in
+    let b = subst (RunCounts log rd budget) (sym q) (run-counts l ws m mem budget rd log) in
     (omega (arith, b .pairs), omega (arith, b .used))
 
 -- loading reads before it looks at the layout: under one that is not right, bytes that reading refuses have reading's refusal, all others 7

@@ -217,41 +217,42 @@ load-bound lay pol s room mem =
 
 -- ---- a run
 
--- an event is let through only with two free cells
-abbrev Room : ℕ → Effect → Type 0
-Room free (Go to) = Unit {0}
-Room free (Put d x) = Unit {0}
-Room free (Cell i x) = Unit {0}
-Room free (Order v) = 2 ≤ free
-Room free (Probe v) = 2 ≤ free
-Room free (End t) = Unit {0}
-Room free (Wait e) = Unit {0}
+-- an event is let through only with two free cells, and a reading only with one left
+abbrev pub Room : ℕ → ℕ → Effect → Type 0
+Room free left (Go to) = Unit {0}
+Room free left (Put d x) = Unit {0}
+Room free left (Cell i x) = Unit {0}
+Room free left (Order v) = 2 ≤ free
+Room free left (Probe v) = (2 ≤ free) × (1 ≤ left)
+Room free left (End t) = Unit {0}
+Room free left (Wait e) = Unit {0}
 
-room : (c : Command) (s : View) → Room (s .free) (effectOf c s)
+pub room : (c : Command) (s : View) → Room (s .free) (s .left) (effectOf c s)
 unfolding effectOf
 room Nop s = tt
 room Halt s = tt
 room (Plain k d a b v) s = tt
-room (Load d a) s = cond-ind (Room (s .free)) (ltb (regAt s a) (length (s .mem))) (λ _. tt) (λ _. tt)
-room (Store a b) s = cond-ind (Room (s .free)) (ltb (regAt s a) (length (s .mem))) (λ _. tt) (λ _. tt)
+room (Load d a) s = cond-ind (Room (s .free) (s .left)) (ltb (regAt s a) (length (s .mem))) (λ _. tt) (λ _. tt)
+room (Store a b) s = cond-ind (Room (s .free) (s .left)) (ltb (regAt s a) (length (s .mem))) (λ _. tt) (λ _. tt)
 room (GoIf a b c v) s = tt
 room (GoReg d a b c) s = tt
 room (Look d v) s =
-    cond-ind (Room (s .free)) (ltb (s .cell) (length (s .mem)))
-    (λ _. cond-ind (Room (s .free)) (ltb (entryOf s v) (length (s .mem))) (λ _. tt) (λ _. tt)) (λ _. tt)
-room (StopIf d) s = cond-ind (Room (s .free)) (eqb (regAt s d) noArrow) (λ _. tt) (λ _. tt)
-room (Keep d) s = cond-ind (Room (s .free)) (ltb (s .cell) (length (s .mem))) (λ _. tt) (λ _. tt)
+    cond-ind (Room (s .free) (s .left)) (ltb (s .cell) (length (s .mem)))
+    (λ _. cond-ind (Room (s .free) (s .left)) (ltb (entryOf s v) (length (s .mem))) (λ _. tt) (λ _. tt)) (λ _. tt)
+room (StopIf d) s = cond-ind (Room (s .free) (s .left)) (eqb (regAt s d) noArrow) (λ _. tt) (λ _. tt)
+room (Keep d) s = cond-ind (Room (s .free) (s .left)) (ltb (s .cell) (length (s .mem))) (λ _. tt) (λ _. tt)
 room (Event v) s =
-    cond-ind (Room (s .free)) (ltb (s .free) 2) (λ _. tt)
-    (λ f. cond-ind (Room (s .free)) (ltb v orders) (λ _. ltb-false _ _ f)
-    (λ _. cond-ind (Room (s .free)) (eqb (s .left) 0) (λ _. tt) (λ _. ltb-false _ _ f)))
+    cond-ind (Room (s .free) (s .left)) (ltb (s .free) 2) (λ _. tt)
+    (λ f. cond-ind (Room (s .free) (s .left)) (ltb v orders) (λ _. ltb-false _ _ f)
+    (λ _. cond-ind (Room (s .free) (s .left)) (eqb (s .left) 0) (λ _. tt) (λ e. (ltb-false _ _ f, omega (arith, eqb-false (s .left) 0 e)))))
 room Stray s = tt
 
--- pairs and readings of a state: at most p and u; the pairs lie in a log as long as l and as l beyond them
-pub record Counted (l : List ℕ) (p u : ℕ) (s : State) : Type 0 where
+-- pairs and readings of a state: at most p and u; the pairs lie in a log as long as l and as l beyond them, the readings in rd
+pub record Counted (l rd : List ℕ) (p u : ℕ) (s : State) : Type 0 where
   pub log : length (s .log) ≡ length l
   pub pairs : s .pairs ≤ p
   pub used : s .used ≤ u
+  pub drawn : s .used ≤ length rd
   pub room : 2 * s .pairs ≤ length l
   pub rest : (i : ℕ) → 2 * s .pairs ≤ i → getD (s .log) i 0 ≡ getD l i 0
 
@@ -261,55 +262,56 @@ pair-rest l log n e x h i m =
     getD-set-other (set log (2 * n) e) (2 * n + 1) i x 0 (λ z. omega arith) ∙ getD-set-other log (2 * n) i e 0 (λ z. omega arith) ∙ h i (omega arith)
 
 -- one step adds at most one
-step-counts : (l : List ℕ) (p u : ℕ) (rd : List ℕ) (e : Effect) (s : State) → Counted l p u s → Room (length (s .log) - 2 * s .pairs) e → Counted l (p + 1) (u + 1) (applyOf rd e s)
+step-counts : (l : List ℕ) (p u : ℕ) (rd : List ℕ) (e : Effect) (s : State) → Counted l rd p u s → Room (length (s .log) - 2 * s .pairs) (length rd - s .used) e → Counted l rd (p + 1) (u + 1) (applyOf rd e s)
 unfolding applyOf
-step-counts l p u rd (Go to) s b r = record { log = b .log; pairs = omega arith; used = omega arith; room = b .room; rest = b .rest }
-step-counts l p u rd (Put d x) s b r = record { log = b .log; pairs = omega arith; used = omega arith; room = b .room; rest = b .rest }
-step-counts l p u rd (Cell i x) s b r = record { log = b .log; pairs = omega arith; used = omega arith; room = b .room; rest = b .rest }
+step-counts l p u rd (Go to) s b r = record { log = b .log; pairs = omega arith; used = omega arith; drawn = b .drawn; room = b .room; rest = b .rest }
+step-counts l p u rd (Put d x) s b r = record { log = b .log; pairs = omega arith; used = omega arith; drawn = b .drawn; room = b .room; rest = b .rest }
+step-counts l p u rd (Cell i x) s b r = record { log = b .log; pairs = omega arith; used = omega arith; drawn = b .drawn; room = b .room; rest = b .rest }
 step-counts l p u rd (Order v) s b r =
-    record { log = simp length-set (b .log); pairs = omega arith; used = omega arith; room = omega (arith, b .log); rest = pair-rest l (s .log) (s .pairs) v _ (b .rest) }
+    record { log = simp length-set (b .log); pairs = omega arith; used = omega arith; drawn = b .drawn; room = omega (arith, b .log); rest = pair-rest l (s .log) (s .pairs) v _ (b .rest) }
 step-counts l p u rd (Probe v) s b r =
-    record { log = simp length-set (b .log); pairs = omega arith; used = omega arith; room = omega (arith, b .log); rest = pair-rest l (s .log) (s .pairs) v _ (b .rest) }
-step-counts l p u rd (End t) s b r = record { log = b .log; pairs = omega arith; used = omega arith; room = b .room; rest = b .rest }
-step-counts l p u rd (Wait e) s b r = record { log = b .log; pairs = omega arith; used = omega arith; room = b .room; rest = b .rest }
+    record { log = simp length-set (b .log); pairs = omega arith; used = omega arith; drawn = omega arith; room = omega (arith, b .log); rest = pair-rest l (s .log) (s .pairs) v _ (b .rest) }
+step-counts l p u rd (End t) s b r = record { log = b .log; pairs = omega arith; used = omega arith; drawn = b .drawn; room = b .room; rest = b .rest }
+step-counts l p u rd (Wait e) s b r = record { log = b .log; pairs = omega arith; used = omega arith; drawn = b .drawn; room = b .room; rest = b .rest }
 
--- a run's counts: at most n steps, pairs and readings; the pairs within a log as long as l, and as l beyond them
-pub record RunCounts (l : List ℕ) (n : ℕ) (r : Ran) : Type 0 where
+-- a run's counts: at most n steps, pairs and readings; the pairs within a log as long as l, and as l beyond them; the readings within rd
+pub record RunCounts (l rd : List ℕ) (n : ℕ) (r : Ran) : Type 0 where
   pub steps : r .outcome .answer .steps ≤ n
   pub pairs : r .outcome .answer .pairs ≤ n
   pub used : r .outcome .answer .used ≤ n
+  pub drawn : r .outcome .answer .used ≤ length rd
   pub room : 2 * r .outcome .answer .pairs ≤ length l
   pub log : length (r .log) ≡ length l
   pub rest : (i : ℕ) → 2 * r .outcome .answer .pairs ≤ i → getD (r .log) i 0 ≡ getD l i 0
 
-over-counts : (l : List ℕ) (n k : ℕ) (t : Status) (s : State) (r : Ran) → k ≤ n → Counted l k k s → RunCounts l n r → RunCounts l n (unlessOver t (endedIn (endingOf (s .status)) k s) r)
-over-counts l n k Running s r h b q = q
-over-counts l n k Ended s r h b q = record { steps = h; pairs = omega arith; used = omega arith; room = b .room; log = b .log; rest = b .rest }
-over-counts l n k Stopped s r h b q = record { steps = h; pairs = omega arith; used = omega arith; room = b .room; log = b .log; rest = b .rest }
-over-counts l n k Faulted s r h b q = record { steps = h; pairs = omega arith; used = omega arith; room = b .room; log = b .log; rest = b .rest }
+over-counts : (l rd : List ℕ) (n k : ℕ) (t : Status) (s : State) (r : Ran) → k ≤ n → Counted l rd k k s → RunCounts l rd n r → RunCounts l rd n (unlessOver t (endedIn (endingOf (s .status)) k s) r)
+over-counts l rd n k Running s r h b q = q
+over-counts l rd n k Ended s r h b q = record { steps = h; pairs = omega arith; used = omega arith; drawn = b .drawn; room = b .room; log = b .log; rest = b .rest }
+over-counts l rd n k Stopped s r h b q = record { steps = h; pairs = omega arith; used = omega arith; drawn = b .drawn; room = b .room; log = b .log; rest = b .rest }
+over-counts l rd n k Faulted s r h b q = record { steps = h; pairs = omega arith; used = omega arith; drawn = b .drawn; room = b .room; log = b .log; rest = b .rest }
 
-wait-counts : (l : List ℕ) (n k : ℕ) (e : Effect) (s : State) (r : Ran) → k ≤ n → Counted l k k s → RunCounts l n r → RunCounts l n (unlessWait e (λ d. endedIn d k s) r)
-wait-counts l n k (Wait e) s r h b q = record { steps = h; pairs = omega arith; used = omega arith; room = b .room; log = b .log; rest = b .rest }
-wait-counts l n k (Go to) s r h b q = q
-wait-counts l n k (Put d x) s r h b q = q
-wait-counts l n k (Cell i x) s r h b q = q
-wait-counts l n k (Order v) s r h b q = q
-wait-counts l n k (Probe v) s r h b q = q
-wait-counts l n k (End t) s r h b q = q
+wait-counts : (l rd : List ℕ) (n k : ℕ) (e : Effect) (s : State) (r : Ran) → k ≤ n → Counted l rd k k s → RunCounts l rd n r → RunCounts l rd n (unlessWait e (λ d. endedIn d k s) r)
+wait-counts l rd n k (Wait e) s r h b q = record { steps = h; pairs = omega arith; used = omega arith; drawn = b .drawn; room = b .room; log = b .log; rest = b .rest }
+wait-counts l rd n k (Go to) s r h b q = q
+wait-counts l rd n k (Put d x) s r h b q = q
+wait-counts l rd n k (Cell i x) s r h b q = q
+wait-counts l rd n k (Order v) s r h b q = q
+wait-counts l rd n k (Probe v) s r h b q = q
+wait-counts l rd n k (End t) s r h b q = q
 
-from-counts : (lay : Layout) (ws rd l : List ℕ) (n m k : ℕ) (s : State) → k + m ≤ n → Counted l k k s → RunCounts l n (runFrom lay ws rd m k s)
+from-counts : (lay : Layout) (ws rd l : List ℕ) (n m k : ℕ) (s : State) → k + m ≤ n → Counted l rd k k s → RunCounts l rd n (runFrom lay ws rd m k s)
 unfolding runFrom
-from-counts lay ws rd l n zero k s h b = record { steps = omega arith; pairs = omega arith; used = omega arith; room = b .room; log = b .log; rest = b .rest }
+from-counts lay ws rd l n zero k s h b = record { steps = omega arith; pairs = omega arith; used = omega arith; drawn = b .drawn; room = b .room; log = b .log; rest = b .rest }
 from-counts lay ws rd l n (suc m) k s h b =
-    over-counts l n k (s .status) s _ (omega arith) b
-    (wait-counts l n k (nextOf lay ws rd s) s _ (omega arith) b
+    over-counts l rd n k (s .status) s _ (omega arith) b
+    (wait-counts l rd n k (nextOf lay ws rd s) s _ (omega arith) b
     (from-counts lay ws rd l n m (k + 1) (stepOf lay ws rd s) (omega arith)
     (step-counts l k k rd (nextOf lay ws rd s) s b (room (fetchOf ws (lay .base) (s .pc)) (seen lay rd s)))))
 
-pub run-counts : (lay : Layout) (ws : List ℕ) (m : Machine) (mem : List ℕ) (budget : ℕ) (rd log : List ℕ) → RunCounts log budget (runOf lay ws m mem budget rd log)
+pub run-counts : (lay : Layout) (ws : List ℕ) (m : Machine) (mem : List ℕ) (budget : ℕ) (rd log : List ℕ) → RunCounts log rd budget (runOf lay ws m mem budget rd log)
 unfolding runOf
 run-counts lay ws m mem budget rd log =
-    cond-ind (RunCounts log budget) (fits lay mem)
+    cond-ind (RunCounts log rd budget) (fits lay mem)
     (λ _. from-counts lay ws rd log budget budget 0 (startOf m mem log) (omega arith)
-    (record { log = refl; pairs = omega arith; used = omega arith; room = omega arith; rest = λ i h. refl }))
-    (λ _. record { steps = omega arith; pairs = omega arith; used = omega arith; room = omega arith; log = refl; rest = λ i h. refl })
+    (record { log = refl; pairs = omega arith; used = omega arith; drawn = omega arith; room = omega arith; rest = λ i h. refl }))
+    (λ _. record { steps = omega arith; pairs = omega arith; used = omega arith; drawn = omega arith; room = omega arith; log = refl; rest = λ i h. refl })

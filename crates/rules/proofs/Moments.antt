@@ -10,7 +10,7 @@ use Rattle.rules.specs.declared.Ending.{Ending}
 use Rattle.rules.specs.declared.Effect.{Effect}
 use Rattle.rules.specs.declared.Effect.the-variants.{Go, Put, Cell, Order, Probe, End, Wait}
 use Rattle.rules.specs.Machines.{State, nextOf, stepOf, endingOf, Ran, endedIn, leftIn, unlessOver, unlessWait, runFrom}
-use Rattle.rules.specs.Runs.{firstOf, begunFrom, Given, Carried, afterRun, Lends}
+use Rattle.rules.specs.Runs.{begins, begunFrom, Given, Carried, afterRun, Lends}
 use Rattle.rules.specs.Claims.{Splits, givenFor, Cuts}
 
 module _ (lay : Layout) (ws rd : List ℕ) (l : ℕ) where
@@ -50,7 +50,7 @@ module _ (lay : Layout) (ws rd : List ℕ) (l : ℕ) where
       let z : suc j + suc l ≡ suc (j + suc l) = omega arith in
       rw z
       (over-follows k b _ _ s (s .status) _ _ refl
-      (λ h. wait-follows k b _ _ s (nextOf lay ws rd s) _ _ h refl (follows j (k + 1) (b + firstOf lay (s .pc)) (stepOf lay ws rd s))))
+      (λ h. wait-follows k b _ _ s (nextOf lay ws rd s) _ _ h refl (follows j (k + 1) (b + begins lay (s .pc)) (stepOf lay ws rd s))))
 
 pub splits : Splits
 splits lay ws rd j l k b s =

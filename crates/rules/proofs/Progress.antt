@@ -23,10 +23,10 @@ use Rattle.rules.specs.declared.Effect.the-variants.{Go, Put, Cell, Orde
 use Rattle.rules.specs.Names.{orders, noArrow, bundleLength, hidden}
 use Rattle.rules.specs.Policies.{Policy}
 use Rattle.rules.specs.Commands.{fetchOf, holdsOf}
-use Rattle.rules.specs.Bundles.{addressOf, shapeOf, bundleAt}
+use Rattle.rules.specs.Bundles.{addressOf, positionOf, shapeOf, bundleAt}
 use Rattle.rules.specs.Machines.{State, View, regAt, ifCell, entryOf, onward, effectOf, applyOf, seen, nextOf, stepOf, unlessWait, runFrom, startOf, runOf, fits, installMemory}
 use Rattle.rules.specs.Guests.{Pair, Guest, rOf, guestStart}
-use Rattle.rules.specs.Runs.{firstOf, begunFrom, runOn, afterTaken, afterRun, after, eventIn}
+use Rattle.rules.specs.Runs.{begins, begunFrom, runOn, afterTaken, afterRun, after, eventIn}
 use Rattle.rules.specs.Claims.{Stands, Progress}
 use Rattle.rules.proofs.Facts.{Right, Bundled}
 use Rattle.rules.proofs.Bools.{no, cond-ind}
@@ -103,7 +103,7 @@ goes lay rd Stray s r = still-goes _ (still Stray _ refl)
 
 -- ---- where an effect leads: to the next address, or to a place of comparison
 abbrev StandsIn : Layout → State → Type 0
-StandsIn lay s = ((s .pc - lay .base) % bundleLength ≡ 0) ⊎ (s .status ≡ Running → ⊥)
+StandsIn lay s = (positionOf lay (s .pc) ≡ 0) ⊎ (s .status ≡ Running → ⊥)
 
 abbrev Moves : Layout → List ℕ → State → Effect → Type 0
 Moves lay rd s e = Goes e → (applyOf rd e s .pc ≡ onward (s .pc)) ⊎ StandsIn lay (applyOf rd e s)
@@ -185,7 +185,7 @@ module _ (lay : Layout) (ws rd : List ℕ) (s : State) (run : s .status ≡ Runn
   unfolding runFrom
   run-step j k = rw run (unwaiting (nextOf lay ws rd s) _ _ go)
 
-  begun-step : (j b : ℕ) → begunFrom lay ws rd (suc j) b s ≡ begunFrom lay ws rd j (b + firstOf lay (s .pc)) (stepOf lay ws rd s)
+  begun-step : (j b : ℕ) → begunFrom lay ws rd (suc j) b s ≡ begunFrom lay ws rd j (b + begins lay (s .pc)) (stepOf lay ws rd s)
   unfolding begunFrom
   begun-step j b = rw run (unwaiting (nextOf lay ws rd s) _ _ go)
 
@@ -201,7 +201,7 @@ came-now : (lay : Layout) (ws rd : List ℕ) (most k b : ℕ) (s : State) → St
 unfolding runFrom begunFrom
 came-now lay ws rd most k b s x = record { j = 0; few = omega arith; stands = x; begun = refl }
 
-came-then : (lay : Layout) (ws rd : List ℕ) (most k b b₂ : ℕ) (s : State) → s .status ≡ Running → Goes (nextOf lay ws rd s) → Came lay ws rd most (k + 1) (b + firstOf lay (s .pc)) b₂ (stepOf lay ws rd s) → Came lay ws rd (suc most) k b b₂ s
+came-then : (lay : Layout) (ws rd : List ℕ) (most k b b₂ : ℕ) (s : State) → s .status ≡ Running → Goes (nextOf lay ws rd s) → Came lay ws rd most (k + 1) (b + begins lay (s .pc)) b₂ (stepOf lay ws rd s) → Came lay ws rd (suc most) k b b₂ s
 came-then lay ws rd most k b b₂ s run go c =
     record {
       j = suc (c .j);
@@ -222,7 +222,7 @@ module _ (lay : Layout) (pol : Policy) (ws : List ℕ) (n : ℕ) (is : ℕ → I
   sim-moves s g k b run (live gg st h p lh lp pc m) = rw (fetched lay pol ws n is ok bs s h p lh lp pc) (mid-moves lay rd s pol n g h k b (is h) p m)
 
   -- a first command, by its bundle
-  sim-start : (s : State) (g : Guest) (k b : ℕ) → s .status ≡ Running → (s .pc - lay .base) % bundleLength ≡ 0 → Sim lay pol n is g k b s → (h : ℕ) × (h < n) × (s .pc ≡ addressOf lay h + 0)
+  sim-start : (s : State) (g : Guest) (k b : ℕ) → s .status ≡ Running → positionOf lay (s .pc) ≡ 0 → Sim lay pol n is g k b s → (h : ℕ) × (h < n) × (s .pc ≡ addressOf lay h + 0)
   sim-start s g k b run z (over f st h p lh lp pc q bk) = absurd (f (course-going (g .course) (sym st ∙ run)))
   sim-start s g k b run z (live gg st h p lh lp pc m) = (h, lh, omega arith)
 
@@ -233,7 +233,7 @@ module _ (lay : Layout) (pol : Policy) (ws : List ℕ) (n : ℕ) (is : ℕ → I
       rw (w .0, w .1, w .2) r
 
   -- from position p of bundle h, with r more commands after this one
-  reach : (r p h k b b₂ : ℕ) (s : State) → p + suc r ≡ bundleLength → h < n → b + firstOf lay (s .pc) ≡ b₂ → Known lay pol n is past u0 rd g0 b s → s .status ≡ Running → s .pc ≡ addressOf lay h + p → Room rd s → Came lay ws rd (suc r) k b b₂ s
+  reach : (r p h k b b₂ : ℕ) (s : State) → p + suc r ≡ bundleLength → h < n → b + begins lay (s .pc) ≡ b₂ → Known lay pol n is past u0 rd g0 b s → s .status ≡ Running → s .pc ≡ addressOf lay h + p → Room rd s → Came lay ws rd (suc r) k b b₂ s
   reach zero p h k b b₂ s e lh z w run pc room =
       let go = goes lay rd (fetchOf ws (lay .base) (s .pc)) s room in
       let t = tracks lay pol ws n is ok bs past u0 rd g0 b s w in

@@ -14,7 +14,7 @@ use Rattle.rules.specs.Commands.{isCommand, commandOf, wordOf, fetchOf, 
 use Rattle.rules.specs.Bundles.{shapeOf, bundleWord, rewritten, valid, readOff, bundleAt, isBundle, shapedAt, passesAt, checkFrom, checkAnswer}
 use Rattle.rules.specs.Machines.{installAnswer, installMemory, installMachine, effectOf, applyOf, runFrom, runOf}
 use Rattle.rules.specs.Guests.{sentOf, doOf, guestStep, guestAfter}
-use Rattle.rules.specs.Runs.{firstOf, begunFrom, runOn, afterTaken, afterRun, afterRuns, runsOf, Matches, Served}
+use Rattle.rules.specs.Runs.{begins, begunFrom, runOn, afterTaken, afterRun, afterRuns, runsOf, Matches, Served}
 use Rattle.rules.specs.Claims.{Each, Alike}
 use Rattle.rules.specs.Sample.{layout, policy, commands, memory, left, runs, SampleHolds}
 use Rattle.rules.proofs.Bools.{no}
@@ -58,7 +58,7 @@ given-alike x y = (
 )
 
 pub sample-holds : SampleHolds
-unfolding ones leadingZeros rightLayout rightPolicy instrOf routine bundlesFor wordOf shapeOf bundleWord rewritten isCommand commandOf fetchOf plainOf installAnswer installMemory installMachine effectOf applyOf runFrom runOf firstOf begunFrom runOn afterTaken afterRun afterRuns runsOf sentOf doOf guestStep guestAfter
+unfolding ones leadingZeros rightLayout rightPolicy instrOf routine bundlesFor wordOf shapeOf bundleWord rewritten isCommand commandOf fetchOf plainOf installAnswer installMemory installMachine effectOf applyOf runFrom runOf begins begunFrom runOn afterTaken afterRun afterRuns runsOf sentOf doOf guestStep guestAfter
 sample-holds =
     record {
       served = served-with;

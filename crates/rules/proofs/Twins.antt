@@ -28,7 +28,7 @@ use Rattle.rules.specs.Commands.{fetchOf}
 use Rattle.rules.specs.Machines.{viewOf, effectOf, State, stateOf, withPair, applyOf, seen, nextOf, stepOf, endingOf, Ran, endedIn, unlessOver, unlessWait, fits, startOf, runFrom, runOf, installMemory}
 use Rattle.rules.specs.Bundles.{shapeOf}
 use Rattle.rules.specs.Guests.{Pair, Guest, rOf, guestStart}
-use Rattle.rules.specs.Runs.{Given, pairsOf, Carried, carriedOf, atFirst, runOn, afterTaken, firstOf, afterRun, runsOf, Matches, Lent, Lends, Served}
+use Rattle.rules.specs.Runs.{Given, pairsOf, Carried, carriedOf, atFirst, runOn, afterTaken, begins, afterRun, runsOf, Matches, Lent, Lends, Served}
 use Rattle.rules.specs.Claims.{Each, Alike, Same}
 use Rattle.rules.proofs.Bools.{no, cases, both}
 use Rattle.rules.proofs.Facts.{Right, Valid, Bundled, Laid}
@@ -301,7 +301,7 @@ watched lay pol ws n is g0 ok bs =
           sim-safe lay pol ws n is s _ (t .0) (w .begun) ok bs (t .1 .agree .below) run (t .1 .sim);
       step =
           λ rd s w run go.
-          record { past = w .past; before = w .before; begun = w .begun + firstOf lay (s .pc); known = step-known lay pol ws n is ok bs (w .past) (w .before) rd g0 (w .begun) s (w .known) run go };
+          record { past = w .past; before = w .before; begun = w .begun + begins lay (s .pc); known = step-known lay pol ws n is ok bs (w .past) (w .before) rd g0 (w .begun) s (w .known) run go };
       enter = λ c g l lent w. record { past = c .records; before = c .used; begun = c .begun; known = enter lay pol ws n is ok bs g0 c g l lent w };
       leave = λ c g lent w. stays-run lay pol ws n is ok bs g0 c g _ refl lent w;
     }

@@ -1,5 +1,5 @@
 -- What is claimed of the definitions. Each claim is a type; its proof has the claim's name in small letters, in proofs/.
-use Prim.Native.Nat.{ℕ, suc, _+_, _-_, _*_, _/_, _%_, _^_, _<_, _≤_}
+use Prim.Native.Nat.{ℕ, suc, _+_, _*_, _/_, _%_, _^_, _<_, _≤_}
 use mathlib.Core.Path.{_≡_}
 use mathlib.Core.Bool.{true, false}
 use mathlib.Core.Logic.{_⊎_}
@@ -18,7 +18,7 @@ use Rattle.rules.specs.Policies.{Policy, allowed, stateOver}
 use Rattle.rules.specs.Words.{routine, bundlesFor}
 use Rattle.rules.specs.Bytes.{readAnswer, readOutput, writeAnswer, writeOutput}
 use Rattle.rules.specs.Commands.{shlOf, fetchOf}
-use Rattle.rules.specs.Bundles.{addressOf, lastAddress, shapeOf, bundleAt, baseRight, commandsOf, rewriteAnswer, rewriteOutput, checkAnswer}
+use Rattle.rules.specs.Bundles.{addressOf, lastAddress, positionOf, shapeOf, bundleAt, baseRight, commandsOf, rewriteAnswer, rewriteOutput, checkAnswer}
 use Rattle.rules.specs.Machines.{State, leftIn, runFrom, runOf, installMemory}
 use Rattle.rules.specs.Guests.{Course, going, ended, stopped, Guest, guestAfter, guestStart, boxOf}
 use Rattle.rules.specs.Runs.{begunFrom, Given, Carried, afterRun, allRuns, after, Run, recordedIn, Matches, Lent, Served, pairsOf, eventsOf, pendingAt}
@@ -147,7 +147,7 @@ statusOf stopped = Stopped
 
 -- on the first command of a bundle, or no longer running
 abbrev pub Stands : Layout → Machine → Type 0
-Stands lay m = ((m .pc - lay .base) % bundleLength ≡ 0) ⊎ (m .status ≡ Running → ⊥)
+Stands lay m = (positionOf lay (m .pc) ≡ 0) ⊎ (m .status ≡ Running → ⊥)
 
 -- 'on ending, r0 to r7, sandbox, state cell, records and readings used'; and on the instruction to come.
 -- The ending is the record's status: by Endings a run answers 20 or 21 exactly where it has ended or stopped

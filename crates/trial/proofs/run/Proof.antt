@@ -30,11 +30,11 @@ slice-aggregate-print-events : tie.Need-slice-aggregate-print-events
 slice-aggregate-print-events c = search needs
 
 -- a run's pairs lie within its log
-within : (o : Outcome) (mem log : List ℕ) (r : Ran) (g : List ℕ) (n : ℕ) → ranOf o mem log ≡ r → RunCounts g n r → 2 * o .answer .pairs ≤ length log
-within o mem log r g n e k = let c : RunCounts g n (ranOf o mem log) = rw e k in omega (arith, c .room, c .log)
+within : (o : Outcome) (mem log : List ℕ) (r : Ran) (g rd : List ℕ) (n : ℕ) → ranOf o mem log ≡ r → RunCounts g rd n r → 2 * o .answer .pairs ≤ length log
+within o mem log r g rd n e k = let c : RunCounts g rd n (ranOf o mem log) = rw e k in omega (arith, c .room, c .log)
 
 print-events-requires : tie.Need-print-events-requires
-print-events-requires c κs = within _ _ _ _ _ _ (c .before .before .before .run-lent .ensures) (run-counts _ _ _ _ _ _ _)
+print-events-requires c κs = within _ _ _ _ _ _ _ (c .before .before .before .run-lent .ensures) (run-counts _ _ _ _ _ _ _)
 
 ending-number-requires : tie.Need-ending-number-requires
 ending-number-requires c κs = search needs
