@@ -1,13 +1,13 @@
 -- Laws of the loops that read, in the form in which the proofs of the functions cite them.
-use mathlib.Core.Path.{_≡_, sym, ap, subst, _∙_}
+use mathlib.Core.Path.{_≡_, sym, ap, _∙_}
 use mathlib.Core.Bool.{true, _&&_}
-use mathlib.Core.List.{List, _++_}
+use mathlib.Core.List.{List}
 use Prim.Native.Nat.{ℕ, zero, suc, _+_, _-_, _*_, _^_, _≤_, _<_}
 use native.Mathlib.Omega.{arith}
-use native.Mathlib.Nat.{mod-eq-of-lt, le-of-eq, zero-add, zero-mul, one-mul, mul-one}
+use native.Mathlib.Nat.{mod-eq-of-lt, le-of-eq, zero-mul, one-mul, mul-one}
 use native.Mathlib.Numerals.{add-one}
 use lib.ListN.{length, getD, take, drop, set, length-drop}
-use lib.Seq.{sets as stores, sets-eq, length-sets, take-all, drop-cons, take-append-seam}
+use lib.Seq.{sets as stores, sets-eq, length-sets, take-all, drop-cons, take-at}
 use lib.Dec.{ltb, eqb}
 use borrow.Author.Tests.{eq-eqb, ne-eqb, eqb-true, ltb-true}
 use Rattle.rules.specs.declared.Fields.{Fields}
@@ -18,6 +18,7 @@ use Rattle.rules.specs.declared.Refusal.the-variants.{Taken, Trailing}
 use Rattle.rules.specs.Names.{mostInstructions, numberOf, answer, refusal}
 use Rattle.rules.specs.Words.{judgeOf, judgeWord, fieldsOf, zeroOf, packFields, cutOf}
 use Rattle.rules.specs.Bytes.{byteAt, mapOf, sizeOf, gap, oneFields, oneOf, scanOf, wordsOf, countOf, wordsIn, readAnswer, readOutput}
+use Rattle.rules.proofs.Refusals.{output-kept, output-written}
 use Rattle.rules.proofs.Bytes.{one-read, fields-word, read-scan, ReadOk, read-ok}
 use Rattle.rules.proofs.Bools.{both}
 use Rattle.rules.proofs.Packing.{InBits, pack-kind, pack-d, pack-a, pack-b, pack-c, pack-v, pack-zero}
@@ -170,7 +171,7 @@ module _ (s : List ℕ) (room : ℕ) (a : Answer) (e : a ≡ readAnswer s room) 
 module _ (s out : List ℕ) (a : Answer) (e : a ≡ readAnswer s (length out)) where
   pub refused : (a .number ≡ 0 → ⊥) → out ≡ readOutput s out
   unfolding readOutput
-  refused z = simp (← e, ne-eqb _ _ z)
+  refused z = rw (← e) (output-kept a (wordsIn s) out z)
 
   pub filled : a .number ≡ 0 → (x y : List ℕ) → length y ≡ mostInstructions → (a .number ≡ 0 → y ≡ stores x 0 (wordsIn s))
       → (o : List ℕ) → o ≡ stores out 0 (take (a .place) y) → o ≡ readOutput s out
@@ -178,10 +179,9 @@ module _ (s out : List ℕ) (a : Answer) (e : a ≡ readAnswer s (length out)) w
   filled z x y l f o eo =
       let k : ReadOk s (length out) (a .place) = ok s (length out) a e z in
       let n : ℕ = a .place in
-      let ws : List ℕ = wordsOf n (drop 2 s) in
-      let lx : length y ≡ length x = ap length (f z) ∙ length-sets x 0 (wordsIn s) in
+      let ws : List ℕ = wordsIn s in
+      let lx : length y ≡ length x = ap length (f z) ∙ length-sets x 0 ws in
       let g : 0 + length ws ≤ length x = omega (arith, k .words, k .count, k .few) in
-      let h : 0 + length ws ≤ length out = omega (arith, k .words, k .fits) in
-      let ey : y ≡ ws ++ drop (0 + length ws) x = f z ∙ rw (← (k .count)) (sets-eq ws x 0 g) in
-      let et : take n y ≡ ws = rw ey (subst (λ (m : ℕ). take m (ws ++ drop (0 + length ws) x) ≡ ws) (k .words) (take-append-seam ws (drop (0 + length ws) x))) in
-      eo ∙ rw (et, sets-eq ws out 0 h, zero-add, k .words) (simp (← e, eq-eqb _ _ z, ← (k .count)))
+      let h : length ws ≤ length out = omega (arith, k .words, k .fits) in
+      let et : take n y ≡ ws = rw (f z, sets-eq ws x 0 g) (take-at ws (drop (0 + length ws) x) n (k .words)) in
+      eo ∙ rw (et, ← e) (output-written a ws out z h)

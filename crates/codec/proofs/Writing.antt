@@ -3,18 +3,17 @@ use mathlib.Core.Path.{_≡_, sym, _∙_}
 use mathlib.Core.List.{List, [], _∷_, _++_}
 use Prim.Native.Nat.{ℕ, suc, _+_, _/_, _%_, _≤_, _<_}
 use native.Mathlib.Omega.{arith}
-use native.Mathlib.Nat.{zero-add, add-zero, add-suc, suc-add, add-assoc}
+use native.Mathlib.Nat.{add-zero, add-suc, suc-add, add-assoc}
 use native.Mathlib.Numerals.{add-one, towards-suc}
 use lib.ListN.{length, getD, drop, set, length-append, drop-of-length-le}
-use lib.Seq.{sets as stores, sets-eq, drop-cons}
-use borrow.Author.Tests.{eq-eqb, ne-eqb}
+use lib.Seq.{sets as stores, drop-cons}
 use Rattle.rules.specs.declared.Answer.{Answer}
 use Rattle.rules.specs.declared.Fields.{Fields}
 use Rattle.rules.specs.Names.{mostInstructions, answer}
 use Rattle.rules.specs.Words.{bitOf, fieldsOf, judgeWord, firstRefused}
 use Rattle.rules.specs.Bytes.{mapOf, byteOut, quadOut, regsOut, fieldsOut, oneOut, bytesOf, routineOf, writeAnswer, writeOutput}
 use Rattle.rules.proofs.Bytes.{byte-none, byte-some, length-byte, quad-none, quad-some, length-two, length-regs, length-fields, length-routine, WriteOk, write-ok}
-use Rattle.rules.proofs.Refusals.{refused-done}
+use Rattle.rules.proofs.Refusals.{refused-done, output-kept, output-written}
 use Rattle.codec.specs.Widths.{weightOf, Small}
 
 -- ---- a run of stores, and another after it
@@ -133,8 +132,8 @@ module _ (ws : List ℕ) (room : ℕ) (a : Answer) (e : a ≡ writeAnswer ws roo
 module _ (ws out : List ℕ) (a : Answer) (e : a ≡ writeAnswer ws (length out)) where
   pub kept : (a .number ≡ 0 → ⊥) → out ≡ writeOutput ws out
   unfolding writeOutput
-  kept z = simp (← e, ne-eqb _ _ z)
+  kept z = rw (← e) (output-kept a (routineOf ws) out z)
 
   pub written : a .number ≡ 0 → (o : List ℕ) → o ≡ stores out 0 (routineOf ws) → o ≡ writeOutput ws out
   unfolding writeOutput
-  written z o eo = eo ∙ rw (sets-eq (routineOf ws) out 0 (rw zero-add (fit ws (length out) a e z .fits)), zero-add) (simp (← e, eq-eqb _ _ z))
+  written z o eo = eo ∙ rw (← e) (output-written a (routineOf ws) out z (fit ws (length out) a e z .fits))

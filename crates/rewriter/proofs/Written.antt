@@ -4,11 +4,10 @@ use mathlib.Core.Bool.{true}
 use mathlib.Core.List.{List}
 use Prim.Native.Nat.{ℕ, _^_, _≤_, _<_}
 use native.Mathlib.Omega.{arith}
-use native.Mathlib.Nat.{zero-add}
 use lib.Dec.{ltb}
 use lib.ListN.{length}
-use lib.Seq.{sets, sets-eq}
-use borrow.Author.Tests.{lt-ltb, le-leb, eq-eqb, ne-eqb, ltb-false}
+use lib.Seq.{sets}
+use borrow.Author.Tests.{lt-ltb, le-leb, ltb-false}
 use Rattle.rules.specs.declared.Layout.{Layout}
 use Rattle.rules.specs.declared.Instr.{Instr}
 use Rattle.rules.specs.declared.Instr.the-variants.{HALT, PLAIN, LOAD, STORE, GOIF, GOX, EVENT}
@@ -19,7 +18,7 @@ use Rattle.rules.specs.Words.{judgeAt, routine, bundlesFor}
 use Rattle.rules.specs.Bundles.{baseRight, commandCount, commandsOf, placeAnswer, rewritten, rewriteAnswer, rewriteOutput, valid}
 use Rattle.rules.proofs.Facts.{Valid}
 use Rattle.rules.proofs.Bools.{cond-ind}
-use Rattle.rules.proofs.Refusals.{taken-then}
+use Rattle.rules.proofs.Refusals.{taken-then, output-kept, output-written}
 use Rattle.rules.proofs.Conditions.{Taken, taken-of, size-laws, count-most, routine-valid, routine-length}
 use Rattle.rewriter.specs.Rewriting.{Ready}
 
@@ -77,9 +76,8 @@ module _ (l : Layout) (ws out : List ℕ) (a : Answer) (ea : a ≡ rewriteAnswer
       let n : rewriteAnswer l ws (length out) .number ≡ 0 = zero-is l ws (length out) a ea z in
       let t = taken l ws (length out) a ea z in
       let s = routine-length l ws t in
-      eo ∙ rw (ek, eq-eqb _ 0 n)
-      (sets-eq (commandsOf l ws) out 0 (omega (arith, s, roomy l ws (length out) n)) ∙ rw (zero-add, s))
+      eo ∙ rw ek (output-written (rewriteAnswer l ws (length out)) (commandsOf l ws) out n (omega (arith, s, roomy l ws (length out) n)))
 
   pub refused : (a .number ≡ 0 → ⊥) → out ≡ rewriteOutput l ws out
   unfolding rewriteOutput
-  refused z = rw (← ea, ne-eqb (a .number) 0 z)
+  refused z = rw (← ea) (output-kept a (commandsOf l ws) out z)

@@ -13,7 +13,7 @@ use Rattle.rules.specs.declared.One.the-variants.{Word, Bad}
 use Rattle.rules.specs.declared.Refusal.the-variants.{Taken, Short, Foreign, Oversize, SmallOutput}
 use Rattle.rules.specs.Names.{mostInstructions, numberOf, answer, refusal, orElse, roomFor}
 use Rattle.rules.specs.Words.{bitOf, judgeOf, judgeWord, firstRefused, packFields}
-use Rattle.rules.specs.Bytes.{mapOf, sizeOf, fieldsAt, gap, oneFields, oneMap, oneOf, goOn, scanOf, andOn, wordsOf, countOf, readAnswer}
+use Rattle.rules.specs.Bytes.{mapOf, sizeOf, fieldsAt, gap, oneFields, oneMap, oneOf, goOn, scanOf, andOn, wordsOf, countOf, wordsIn, readAnswer}
 use Rattle.rules.specs.Bytes.{byteOut, quadOut, regsOut, fieldsOut, bytesOf, routineOf, writeAnswer}
 use Rattle.rules.proofs.Bools.{cond-ind}
 use Rattle.rules.proofs.Refusals.{TakesEach, takes-each, none-refused, taken-then, refused-map}
@@ -152,7 +152,7 @@ pub record ReadOk (s : List ℕ) (room n : ℕ) : Type 0 where
   pub few : countOf s ≤ mostInstructions
   pub fits : n ≤ room
   pub count : n ≡ countOf s
-  pub words : length (wordsOf n (drop 2 s)) ≡ n
+  pub words : length (wordsIn s) ≡ n
   pub scan : scanOf (countOf s) 0 (drop 2 s) .number ≡ 0
 
 pub read-ok : (s : List ℕ) (room : ℕ) → readAnswer s room .number ≡ 0 → ReadOk s room (readAnswer s room .place)
@@ -170,7 +170,7 @@ read-ok s room =
       few = ltb-false mostInstructions n h1;
       fits = omega (arith, ltb-false room n h2);
       count = same-count;
-      words = rw same-count (all .0);
+      words = all .0 ∙ sym same-count;
       scan = e;
     })))
 

@@ -8,8 +8,8 @@ use native.Mathlib.Omega.{arith}
 use borrow.Author.Tests.{ltb-true, ltb-false, lt-ltb, le-ltb, le-leb, eq-eqb, ne-eqb}
 use lib.Dec.{ltb}
 use lib.Count.{trailingZeros}
-use lib.ListN.{length, getD, drop}
-use lib.Seq.{ext-getD, take-at}
+use lib.ListN.{length, getD}
+use lib.Seq.{ext-getD}
 use Rattle.rules.specs.declared.Layout.{Layout}
 use Rattle.rules.specs.declared.Answer.{Answer}
 use Rattle.rules.specs.declared.Instr.{Instr}
@@ -22,7 +22,7 @@ use Rattle.rules.specs.Claims.{RewriteLeaves, RewrittenPasses, Rewrites,
 use Rattle.rules.proofs.Facts.{Valid}
 use Rattle.rules.proofs.Bools.{cases}
 use Rattle.rules.proofs.Masks.{one-bit, sizes}
-use Rattle.rules.proofs.Refusals.{none-refused}
+use Rattle.rules.proofs.Refusals.{none-refused, output-start}
 use Rattle.rules.proofs.Counts.{length-commands, rewrite-taken as answer-taken}
 use Rattle.rules.proofs.Packing.{pack-kind, pack-d, pack-a, pack-b, pack-c, pack-v}
 use Rattle.rules.proofs.GuestWords.{guestWord, guest-taken, guest-instr}
@@ -208,7 +208,7 @@ pub rewrite-leaves : RewriteLeaves
 unfolding rewriteOutput
 rewrite-leaves lay code out e =
     let n = length-commands lay code ∙ ap (λ (a : Answer). a .place) (sym (answer-taken lay code (length out) e)) in
-    rw (eq-eqb _ _ e) (take-at (commandsOf lay code) (drop (commandCount (length code)) out) _ n)
+    output-start (rewriteAnswer lay code (length out)) (commandsOf lay code) out e _ n
 
 pub passed-decodes : PassedDecodes
 passed-decodes lay ws e = bundled-of lay ws e .each

@@ -1,15 +1,16 @@
--- Laws of the first refusal among words.
+-- Laws of refusals: the first among words, and what an output holds after one or none.
 use mathlib.Core.Path.{_≡_, refl, sym, subst, _∙_}
-use mathlib.Core.List.{List, [], _∷_}
+use mathlib.Core.List.{List, [], _∷_, _++_}
 use Prim.Native.Nat.{ℕ, zero, suc, _+_, _≤_, _<_}
 use native.Mathlib.Omega.{arith}
+use native.Mathlib.Nat.{zero-add}
 use native.Mathlib.Numerals.{add-one}
-use lib.ListN.{length, getD, drop, drop-of-length-le}
-use lib.Seq.{drop-cons}
+use lib.ListN.{length, getD, take, drop, drop-of-length-le}
+use lib.Seq.{drop-cons, take-at, sets, sets-eq}
 use lib.Dec.{eqb}
 use borrow.Author.Tests.{eq-eqb, ne-eqb, eqb-true, eqb-false}
 use Rattle.rules.specs.declared.Answer.{Answer}
-use Rattle.rules.specs.Names.{answer}
+use Rattle.rules.specs.Names.{answer, outputOf}
 use Rattle.rules.specs.Words.{firstRefused}
 use Rattle.rules.proofs.Bools.{cond-ind, cond-map}
 
@@ -58,3 +59,18 @@ module _ (judge : ℕ → ℕ) where
     pub refused-done : length ws ≤ i → z ≡ a
     unfolding firstRefused
     refused-done h = sym (ea ∙ rw (drop-of-length-le ws h))
+
+-- ---- an output
+module _ (a : Answer) (xs out : List ℕ) where
+  pub output-kept : (a .number ≡ 0 → ⊥) → out ≡ outputOf a xs out
+  output-kept n = rw (ne-eqb _ _ n)
+
+  module _ (z : a .number ≡ 0) where
+    pub output-is : outputOf a xs out ≡ xs ++ drop (length xs) out
+    output-is = rw (eq-eqb _ _ z)
+
+    pub output-written : length xs ≤ length out → sets out 0 xs ≡ outputOf a xs out
+    output-written h = sets-eq xs out 0 (rw zero-add h) ∙ rw zero-add (sym output-is)
+
+    pub output-start : (n : ℕ) → length xs ≡ n → take n (outputOf a xs out) ≡ xs
+    output-start n l = rw output-is (take-at xs (drop (length xs) out) n l)

@@ -6,9 +6,9 @@ use native.Mathlib.Omega.{arith}
 use native.Mathlib.Nat.{le-add-right, zero-add, add-zero}
 use native.Mathlib.Numerals.{towards-suc}
 use lib.ListN.{length, getD, take, drop, length-append}
-use lib.Seq.{drop-cons, drop-at, take-at, getD-at, getD-drop, getD-append-add}
+use lib.Seq.{drop-cons, drop-at, getD-at, getD-drop, getD-append-add}
 use lib.Dec.{eqb}
-use borrow.Author.Tests.{eq-eqb, ne-eqb, eqb-true, le-ltb}
+use borrow.Author.Tests.{ne-eqb, eqb-true, le-ltb}
 use Rattle.rules.specs.declared.One.{One}
 use Rattle.rules.specs.declared.One.the-variants.{Word, Bad}
 use Rattle.rules.specs.declared.Answer.{Answer}
@@ -19,7 +19,7 @@ use Rattle.rules.specs.Bytes.{mapOf, sizeOf, byteAt, quadAt, fieldsAt, g
 use Rattle.rules.specs.Bytes.{byteOut, quadOut, regsOut, fieldsOut, oneOut, bytesOf, routineOf, writeAnswer, writeOutput}
 use Rattle.rules.specs.Claims.{WordsBack, BytesBack}
 use Rattle.rules.proofs.Bools.{cond-ind}
-use Rattle.rules.proofs.Refusals.{TakesEach}
+use Rattle.rules.proofs.Refusals.{TakesEach, output-start}
 use Rattle.rules.proofs.WordLaws.{bounds, clean, fields-pack, pack-fields}
 use Rattle.rules.proofs.Bytes.{one-read, one-fields, fields-are, fields-word, read-ok, named, Named, read-scan}
 use Rattle.rules.proofs.Bytes.{byte-some, byte-none, quad-some, quad-none, length-byte, length-fields, write-ok, write-taken}
@@ -226,15 +226,13 @@ routine-back ws room room′ g l =
     (sym (read-scan s room′ two n e few l (answer 0 n) (sym (b .0 ∙ rw zero-add))), rw (← e) (b .1), sym e)
 
 -- what success leaves
-module _ (ws out : List ℕ) (e : writeAnswer ws (length out) .number ≡ 0) where
-  taken-bytes : (n : ℕ) → length (routineOf ws) ≡ n → take n (writeOutput ws out) ≡ routineOf ws
-  unfolding writeOutput
-  taken-bytes n l = rw (eq-eqb _ _ e) (take-at (routineOf ws) (drop (length (routineOf ws)) out) n l)
+taken-bytes : (ws out : List ℕ) → writeAnswer ws (length out) .number ≡ 0 → (n : ℕ) → length (routineOf ws) ≡ n → take n (writeOutput ws out) ≡ routineOf ws
+unfolding writeOutput
+taken-bytes ws out e n l = output-start (writeAnswer ws (length out)) (routineOf ws) out e n l
 
-module _ (s words : List ℕ) (e : readAnswer s (length words) .number ≡ 0) where
-  taken-words : (n : ℕ) → length (wordsIn s) ≡ n → take n (readOutput s words) ≡ wordsIn s
-  unfolding readOutput
-  taken-words n l = rw (eq-eqb _ _ e) (take-at (wordsIn s) (drop (countOf s) words) n l)
+taken-words : (s words : List ℕ) → readAnswer s (length words) .number ≡ 0 → (n : ℕ) → length (wordsIn s) ≡ n → take n (readOutput s words) ≡ wordsIn s
+unfolding readOutput
+taken-words s words e n l = output-start (readAnswer s (length words)) (wordsIn s) words e n l
 
 pub words-back : WordsBack
 words-back ws out words e l =
@@ -315,7 +313,7 @@ routine-front s room room′ B e l =
     let b0 = B 0 in
     let b1 = B 1 in
     let count : readAnswer s room .place ≡ n = k .count in
-    let len : length ws ≡ n = rw count at (k .words) in
+    let len : length ws ≡ n = k .words ∙ count in
     let two : 2 ≤ length s = k .two in
     let h0 : n % 256 ≡ getD s 0 0 = omega arith in
     let h1 : n / 256 ≡ getD s 1 0 = omega arith in
@@ -330,10 +328,10 @@ pub bytes-back : BytesBack
 unfolding Bytes
 bytes-back s words out B e l =
     let k = read-ok s (length words) e in
-    let ws = taken-words s words e _ (rw (k .count) at (k .words)) in
+    let ws = taken-words s words e _ (k .words) in
     let front = routine-front s (length words) (length out) B e l in
     let n : writeAnswer (wordsIn s) (length out) .number ≡ 0 = ap (λ (a : Answer). a .number) (front .1) in
     record {
-      answers = rw (k .count, ws) (front .1);
-      leaves = rw (k .count, ws) (taken-bytes (wordsIn s) out n (length s) (ap length (front .0)) ∙ front .0);
+      answers = rw ws (front .1);
+      leaves = rw ws (taken-bytes (wordsIn s) out n (length s) (ap length (front .0)) ∙ front .0);
     }

@@ -9,7 +9,7 @@ use Rattle.rules.specs.declared.Answer.{Answer}
 use Rattle.rules.specs.declared.One.{One}
 use Rattle.rules.specs.declared.One.the-variants.{Word, Bad}
 use Rattle.rules.specs.declared.Refusal.the-variants.{Taken, Short, Foreign, Oversize, Trailing, SmallOutput}
-use Rattle.rules.specs.Names.{mostInstructions, numberOf, answer, refusal, roomFor}
+use Rattle.rules.specs.Names.{mostInstructions, numberOf, answer, refusal, outputOf, roomFor}
 use Rattle.rules.specs.Words.{bitOf, judgeOf, judgeWord, firstRefused, fieldsOf, packFields}
 
 -- 'a map byte: bit 0 kind, 1 d, 2 a, 3 b, 4 c, 5 v'; 'a field that is 0 is absent'
@@ -97,12 +97,9 @@ readAnswer s room =
     (cond (ltb mostInstructions (countOf s)) (refusal Oversize 0)
     (cond (ltb room (countOf s)) (refusal SmallOutput 0) (scanOf (countOf s) 0 (drop 2 s))))
 
--- what the output holds after reading: the words from its start, or all as it was where it is refused
+-- what the output holds after reading
 unfoldable pub readOutput : List ℕ → List ℕ → List ℕ
-readOutput s out =
-    cond (eqb (readAnswer s (length out) .number) 0)
-    (wordsIn s ++ drop (countOf s) out)
-    out
+readOutput s out = outputOf (readAnswer s (length out)) (wordsIn s) out
 
 -- ---- writing
 
@@ -137,7 +134,4 @@ writeAnswer ws room =
 
 -- what the output holds after writing
 unfoldable pub writeOutput : List ℕ → List ℕ → List ℕ
-writeOutput ws out =
-    cond (eqb (writeAnswer ws (length out) .number) 0)
-    (routineOf ws ++ drop (length (routineOf ws)) out)
-    out
+writeOutput ws out = outputOf (writeAnswer ws (length out)) (routineOf ws) out

@@ -2,7 +2,7 @@
 use Prim.Native.Nat.{ℕ, _+_}
 use mathlib.Core.Bool.{cond}
 use mathlib.Core.List.{List, [], _∷_, _++_}
-use lib.ListN.{length, getD, take, drop}
+use lib.ListN.{length, getD, take}
 use lib.Dec.{eqb}
 use Rattle.rules.specs.declared.Layout.{Layout}
 use Rattle.rules.specs.declared.Machine.{Machine}
@@ -11,7 +11,7 @@ use Rattle.rules.specs.declared.RunAnswer.{RunAnswer}
 use Rattle.rules.specs.declared.Installed.{Installed}
 use Rattle.rules.specs.declared.Status.{Status}
 use Rattle.rules.specs.declared.Status.the-variants.{Running, Ended, Stopped, Faulted}
-use Rattle.rules.specs.Names.{mostInstructions, registers, answer, orElse, endingNumber, first}
+use Rattle.rules.specs.Names.{mostInstructions, registers, answer, ifTaken, orElse, outputOf, endingNumber, first}
 use Rattle.rules.specs.Layouts.{layoutOf}
 use Rattle.rules.specs.Policies.{Policy}
 use Rattle.rules.specs.Bytes.{wordsIn, readAnswer}
@@ -30,16 +30,13 @@ loadAnswer lay pol s room mem =
 
 -- a refusal leaves commands and memory as they were, and yields the record of a refused installation
 unfoldable pub loadCommands : Layout → Policy → List ℕ → List ℕ → List ℕ → List ℕ
-loadCommands lay pol s out mem =
-    cond (eqb (loadAnswer lay pol s (length out) mem .number) 0)
-    (commandsOf lay (wordsIn s) ++ drop (commandCount (length (wordsIn s))) out)
-    out
+loadCommands lay pol s out mem = outputOf (loadAnswer lay pol s (length out) mem) (commandsOf lay (wordsIn s)) out
 
 unfoldable pub loadMemory : Layout → Policy → List ℕ → ℕ → List ℕ → List ℕ
-loadMemory lay pol s room mem = cond (eqb (loadAnswer lay pol s room mem .number) 0) (installMemory lay pol mem) mem
+loadMemory lay pol s room mem = ifTaken (loadAnswer lay pol s room mem) (installMemory lay pol mem) mem
 
 unfoldable pub loadMachine : Layout → Policy → List ℕ → ℕ → List ℕ → Machine
-loadMachine lay pol s room mem = cond (eqb (loadAnswer lay pol s room mem .number) 0) (installMachine lay pol mem) machineRefused
+loadMachine lay pol s room mem = ifTaken (loadAnswer lay pol s room mem) (installMachine lay pol mem) machineRefused
 
 abbrev pub loadOf : Layout → Policy → List ℕ → ℕ → List ℕ → Installed
 loadOf lay pol s room mem = record { machine = loadMachine lay pol s room mem; answer = loadAnswer lay pol s room mem }

@@ -1,7 +1,8 @@
 -- The numbers of document 01, each named once, and the numbers of its refusals and endings.
 use Prim.Native.Nat.{ℕ, _+_, _-_, _^_}
 use mathlib.Core.Bool.{Bool, cond}
-use mathlib.Core.List.{List, [], _∷_}
+use mathlib.Core.List.{List, [], _∷_, _++_}
+use lib.ListN.{length, drop}
 use lib.Dec.{eqb, ltb}
 use Rattle.rules.specs.declared.Refusal.{Refusal}
 use Rattle.rules.specs.declared.Refusal.the-variants.{Taken, Short, Foreign, UnknownKind, OffRange, Oversize, Trailing, BadLayout, BadLanding, SmallOutput, BadPolicy, BadBundle, BadCount, BadBase}
@@ -114,9 +115,17 @@ answer x p = record { number = x; place = p }
 abbrev pub refusal : Refusal → ℕ → Answer
 refusal x p = answer (numberOf x) p
 
+-- the first where an answer refuses nothing, else the second
+abbrev pub ifTaken : {A : Type 0} → Answer → A → A → A
+ifTaken a x y = cond (eqb (a .number) 0) x y
+
 -- the first answer if it is a refusal, else the second
 abbrev pub orElse : Answer → Answer → Answer
-orElse a b = cond (eqb (a .number) 0) b a
+orElse a b = ifTaken a b a
+
+-- an output to the start of which xs are written: 'A refusal leaves all lent memory and records untouched; success leaves output past the result untouched'
+abbrev pub outputOf : Answer → List ℕ → List ℕ → List ℕ
+outputOf a xs out = ifTaken a (xs ++ drop (length xs) out) out
 
 -- 9 where an output of length room is too short for k; else k, 'as place, the words, bytes or commands written'
 abbrev pub roomFor : ℕ → ℕ → Answer

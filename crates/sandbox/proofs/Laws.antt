@@ -18,7 +18,7 @@ use Rattle.rules.specs.Names.{mostInstructions, answer, refusal, orElse}
 use Rattle.rules.specs.Layouts.{rightLayout}
 use Rattle.rules.specs.Policies.{Policy}
 use Rattle.rules.specs.Words.{judgeAt, firstRefused, bundlesFor}
-use Rattle.rules.specs.Bytes.{countOf, wordsIn, readAnswer, readOutput}
+use Rattle.rules.specs.Bytes.{wordsIn, readAnswer, readOutput}
 use Rattle.rules.specs.Bundles.{baseRight, commandsOf, commandCount, placeAnswer, rewriteAnswer, rewriteOutput, checkAnswer}
 use Rattle.rules.specs.Machines.{machineRefused, installAnswer, installMemory, installMachine, installOf}
 use Rattle.rules.specs.Loading.{loadAnswer, loadCommands, loadMemory, loadMachine, loadOf}
@@ -67,9 +67,9 @@ module _ (s : List ℕ) (a : Answer) (e : a ≡ readAnswer s mostInstructions) w
 
   module _ (z : a .number ≡ 0) (w₀ words : List ℕ) (f : words ≡ readOutput s w₀) (l : length w₀ ≡ mostInstructions) where
     taken : length (wordsIn s) ≡ a .place
-    taken = let ok = read-ok s mostInstructions (rw e at z) in rw e (rw (← ok .count) (ok .words))
+    taken = rw e (read-ok s mostInstructions (rw e at z) .words)
 
-    words-are : words ≡ wordsIn s ++ drop (countOf s) w₀
+    words-are : words ≡ wordsIn s ++ drop (length (wordsIn s)) w₀
     unfolding readOutput
     words-are = f ∙ rw (l, ← e, eq-eqb _ _ z)
 
@@ -77,7 +77,7 @@ module _ (s : List ℕ) (a : Answer) (e : a ≡ readAnswer s mostInstructions) w
     read-words = rw words-are (take-at _ _ _ taken)
 
     pub read-length : a .place ≤ length words
-    read-length = rw words-are (omega (arith, taken, length-append (wordsIn s) (drop (countOf s) w₀)))
+    read-length = rw words-are (omega (arith, taken, length-append (wordsIn s) (drop (length (wordsIn s)) w₀)))
 
     pub rewrote : (lay : Layout) (out : List ℕ) (b : Answer) (out′ : List ℕ) → b ≡ rewriteAnswer lay (take (a .place) words) (length out) → out′ ≡ rewriteOutput lay (take (a .place) words) out → (b ≡ writtenAnswer lay s (length out)) × (out′ ≡ writtenOutput lay s out)
     unfolding writtenAnswer writtenOutput
@@ -155,7 +155,7 @@ module _ (lay : Layout) (s l₀ list : List ℕ) (room : ℕ) (most : mostComman
     also : rewriteAnswer lay code (length l₀) .number ≡ 0
     also = room-none room (rewriteAnswer lay code (length l₀)) (rw (rewrite-room lay code room (length l₀) most) (parts .1))
 
-    list-is : list ≡ commandsOf lay code ++ drop (commandCount (length code)) l₀
+    list-is : list ≡ commandsOf lay code ++ drop (length (commandsOf lay code)) l₀
     unfolding writtenOutput rewriteOutput
     list-is = el ∙ rw (eq-eqb _ _ (parts .0), eq-eqb _ _ also)
 
@@ -163,7 +163,7 @@ module _ (lay : Layout) (s l₀ list : List ℕ) (room : ℕ) (most : mostComman
     listed = rw (list-is, counted) (take-at _ _ _ (length-commands lay code))
 
     pub long : b .place ≤ length list
-    long = rw (list-is, counted) (omega (arith, length-commands lay code, length-append (commandsOf lay code) (drop (commandCount (length code)) l₀)))
+    long = rw (list-is, counted) (omega (arith, length-commands lay code, length-append (commandsOf lay code) (drop (length (commandsOf lay code)) l₀)))
 
   module _ (r : Answer) (er : r ≡ checkedAnswer lay list b) where
     abbrev last : Answer
@@ -243,4 +243,4 @@ module _ (lay : Layout) (pol : Policy) (s out mem : List ℕ) where
           let same : loads ≡ a = loads-are a e ∙ else-next a _ z ∙ else-next installs a (rw same-answer at y) in
           let n : a .place ≤ length out′ = omega (arith, length-take-le (a .place) list (l z .within), length-append (take (a .place) list) (drop (length (take (a .place) list)) out), ap length eo) in
           rw (same, eq-eqb _ _ z)
-          (ap (λ (x : Installed). record { machine = x .machine; answer = a }) ei, (eo ∙ rw (l z .commands, length-commands lay (wordsIn s)), (em, λ _. n)))
+          (ap (λ (x : Installed). record { machine = x .machine; answer = a }) ei, (eo ∙ rw (l z .commands), (em, λ _. n)))

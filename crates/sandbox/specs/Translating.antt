@@ -1,13 +1,11 @@
 -- From a routine's bytes to commands that passed: what stands before installing.
 use Prim.Native.Nat.{ℕ, _≤_}
 use mathlib.Core.Path.{_≡_}
-use mathlib.Core.Bool.{cond}
 use mathlib.Core.List.{List}
 use lib.ListN.{length, take}
-use lib.Dec.{eqb}
 use Rattle.rules.specs.declared.Layout.{Layout}
 use Rattle.rules.specs.declared.Answer.{Answer}
-use Rattle.rules.specs.Names.{mostInstructions, answer, orElse, roomFor}
+use Rattle.rules.specs.Names.{mostInstructions, answer, ifTaken, orElse, roomFor}
 use Rattle.rules.specs.Bytes.{wordsIn, readAnswer}
 use Rattle.rules.specs.Bundles.{commandsOf, commandCount, rewriteAnswer, rewriteOutput, checkAnswer}
 
@@ -16,7 +14,7 @@ unfoldable pub writtenAnswer : Layout → List ℕ → ℕ → Answer
 writtenAnswer lay s room = orElse (readAnswer s mostInstructions) (rewriteAnswer lay (wordsIn s) room)
 
 unfoldable pub writtenOutput : Layout → List ℕ → List ℕ → List ℕ
-writtenOutput lay s out = cond (eqb (readAnswer s mostInstructions .number) 0) (rewriteOutput lay (wordsIn s) out) out
+writtenOutput lay s out = ifTaken (readAnswer s mostInstructions) (rewriteOutput lay (wordsIn s) out) out
 
 -- an answer of nothing refused, once the room for the commands that it counts is looked at
 unfoldable pub inRoom : ℕ → Answer → Answer
