@@ -16,12 +16,12 @@ use Rattle.rules.specs.declared.One.{One}
 use Rattle.rules.specs.declared.One.the-variants.{Word, Bad}
 use Rattle.rules.specs.declared.Refusal.the-variants.{Taken, Trailing}
 use Rattle.rules.specs.Names.{mostInstructions, numberOf, answer, refusal}
-use Rattle.rules.specs.Words.{judgeOf, judgeWord, fieldsOf, zeroOf, packFields, cutOf}
+use Rattle.rules.specs.Words.{judgeOf, judgeWord, fieldsOf, packFields, cutOf}
 use Rattle.rules.specs.Bytes.{byteAt, mapOf, sizeOf, gap, oneFields, oneOf, scanOf, wordsOf, countOf, wordsIn, readAnswer, readOutput}
 use Rattle.rules.proofs.Refusals.{output-kept, output-written}
 use Rattle.rules.proofs.Bytes.{one-read, fields-word, read-scan, ReadOk, read-ok}
 use Rattle.rules.proofs.Bools.{both}
-use Rattle.rules.proofs.Packing.{InBits, pack-kind, pack-d, pack-a, pack-b, pack-c, pack-v, pack-zero}
+use Rattle.rules.proofs.WordLaws.{bits-pack}
 use Rattle.words.proofs.Judging.{uncut}
 
 -- ---- one instruction
@@ -77,18 +77,10 @@ whole-good m f n en w ew x ex t u eu =
     let hc : f .c < 2 ^ 4 = ltb-true (f .c) 16 (t5 .1) in
     let hv : f .v < 2 ^ 32 = ltb-true (f .v) 4294967296 (t6 .1) in
     let z : x ≡ 0 = eqb-true x 0 (t7 .1) in
-    let h : InBits (f .kind) (f .d) (f .a) (f .b) (f .c) = (hk, hd, ha, hb, hc) in
     let ep : w ≡ packFields f =
     ew ∙ rw (mod-eq-of-lt hk, mod-eq-of-lt hd, mod-eq-of-lt ha, mod-eq-of-lt hb, mod-eq-of-lt hc, mod-eq-of-lt hv) in
-    let k = pack-kind _ _ _ _ _ (f .v) h in
-    let d = pack-d _ _ _ _ _ (f .v) h in
-    let a = pack-a _ _ _ _ _ (f .v) h in
-    let b = pack-b _ _ _ _ _ (f .v) h in
-    let c = pack-c _ _ _ _ _ (f .v) h in
-    let v = pack-v _ _ _ _ _ (f .v) h in
-    let ef : fieldsOf (packFields f) ≡ f = λ i. record { kind = k i; d = d i; a = a i; b = b i; c = c i; v = v i } in
-    let e0 : zeroOf (packFields f) ≡ 0 = pack-zero _ _ _ _ _ (f .v) h in
-    let ej : x ≡ judgeOf 0 f = ex ∙ ap judgeWord ep ∙ ap (λ (q : ℕ). judgeOf q (fieldsOf (packFields f))) e0 ∙ ap (judgeOf 0) ef in
+    let back = bits-pack f (hk, hd, ha, hb, hc) in
+    let ej : x ≡ judgeOf 0 f = ex ∙ ap judgeWord ep ∙ ap (λ (q : ℕ). judgeOf q (fieldsOf (packFields f))) (back .1) ∙ ap (judgeOf 0) (back .0) in
     fields-word m f n en 0 (no-gap m n em) x ej z w u ep eu
 
 -- ---- the loops

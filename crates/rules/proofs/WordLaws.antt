@@ -109,10 +109,9 @@ module _ (x : ℕ) (f : Fields) (e : judgeOf x f ≡ 0) where
 
 -- ---- fields packed and taken apart
 
--- fields in their bounds, from the word that holds them
-pub fields-pack : (f : Fields) → Bounds f → (fieldsOf (packFields f) ≡ f) × (zeroOf (packFields f) ≡ 0)
-fields-pack f g =
-    let h : InBits (f .kind) (f .d) (f .a) (f .b) (f .c) = (omega (arith, g .kind), omega (arith, g .d), omega (arith, g .a), omega (arith, g .b), omega (arith, g .c)) in
+-- fields that fit their bits, or are in their bounds, from the word that holds them
+pub bits-pack : (f : Fields) → InBits (f .kind) (f .d) (f .a) (f .b) (f .c) → (fieldsOf (packFields f) ≡ f) × (zeroOf (packFields f) ≡ 0)
+bits-pack f h =
     let k = pack-kind _ _ _ _ _ (f .v) h in
     let d = pack-d _ _ _ _ _ (f .v) h in
     let a = pack-a _ _ _ _ _ (f .v) h in
@@ -120,6 +119,10 @@ fields-pack f g =
     let c = pack-c _ _ _ _ _ (f .v) h in
     let v = pack-v _ _ _ _ _ (f .v) h in
     ((λ i. record { kind = k i; d = d i; a = a i; b = b i; c = c i; v = v i }), pack-zero _ _ _ _ _ (f .v) h)
+
+pub fields-pack : (f : Fields) → Bounds f → (fieldsOf (packFields f) ≡ f) × (zeroOf (packFields f) ≡ 0)
+fields-pack f g =
+    bits-pack f (omega (arith, g .kind), omega (arith, g .d), omega (arith, g .a), omega (arith, g .b), omega (arith, g .c))
 
 telescope : (w q8 q12 q16 q20 q24 v k d a b c : ℕ) → w ≡ k + q8 * 2 ^ 8 → q8 ≡ d + q12 * 2 ^ 4 → q12 ≡ a + q16 * 2 ^ 4 → q16 ≡ b + q20 * 2 ^ 4
     → q20 ≡ c + q24 * 2 ^ 4 → q24 ≡ v * 2 ^ 8 → packOf k d a b c v ≡ w
