@@ -14,7 +14,7 @@ use Rattle.rules.specs.declared.Instr.the-variants.{PLAIN}
 use Rattle.rules.specs.declared.Bundle.{Bundle}
 use Rattle.rules.specs.declared.Answer.{Answer}
 use Rattle.rules.specs.declared.Refusal.the-variants.{BadBase, BadBundle, BadCount, BadLayout, Taken}
-use Rattle.rules.specs.Names.{mostBundles, bundleLength, numberOf, answer, refusal}
+use Rattle.rules.specs.Names.{mostBundles, mostCommands, bundleLength, numberOf, answer, refusal}
 use Rattle.rules.specs.Layouts.{rightLayout}
 use Rattle.rules.specs.Words.{kindOf, dOf, aOf, bOf, cOf, vOf, zeroOf, packOf, judgeAt, instrOf}
 use Rattle.rules.specs.Commands.{wordOf}
@@ -144,7 +144,7 @@ module _ (l : Layout) (ws : List ℕ) (t : Bool) (et : t ≡ rightLayout l) wher
 
     -- a right count is of 1 to 1,024 bundles
     module _ (f : c ≡ true) where
-      count-facts : (length ws ≤ bundleLength * mostBundles) × (length ws % bundleLength ≡ 0) × (ones (length ws / bundleLength) ≡ 1)
+      count-facts : (length ws ≤ mostCommands) × (length ws % bundleLength ≡ 0) × (ones (length ws / bundleLength) ≡ 1)
       count-facts =
           let h = both _ _ (sym ec ∙ f) in
           let g = both _ _ (h .0) in

@@ -13,7 +13,7 @@ use Rattle.rules.specs.declared.One.the-variants.{Word, Bad}
 use Rattle.rules.specs.declared.Refusal.the-variants.{Taken, Short, Foreign, Oversize, SmallOutput}
 use Rattle.rules.specs.Names.{mostInstructions, numberOf, answer, refusal, orElse, roomFor}
 use Rattle.rules.specs.Words.{bitOf, judgeOf, judgeWord, firstRefused, packFields}
-use Rattle.rules.specs.Bytes.{mapOf, sizeOf, fieldsAt, gap, oneFields, oneMap, oneOf, goOn, scanOf, andOn, wordsOf, countOf, wordsIn, readAnswer}
+use Rattle.rules.specs.Bytes.{mapOf, sizeOf, fieldsAt, gap, oneFields, oneMap, oneOf, thenAnswer, scanOf, thenWords, wordsOf, countOf, wordsIn, readAnswer}
 use Rattle.rules.specs.Bytes.{byteOut, quadOut, regsOut, fieldsOut, bytesOf, routineOf, writeAnswer}
 use Rattle.rules.proofs.Bools.{cond-ind}
 use Rattle.rules.proofs.Refusals.{TakesEach, takes-each, none-refused, taken-then, refused-map}
@@ -123,8 +123,8 @@ scan-ok (suc n) i s e = go (oneOf s) (named s) (λ u. scan-ok n (i + 1) (drop u 
   where
     go : (o : One) → Named o
         → ((u : ℕ) → scanOf n (i + 1) (drop u s) .number ≡ 0 → (length (wordsOf n (drop u s)) ≡ n) × (scanOf n (i + 1) (drop u s) .place ≡ i + 1 + n))
-        → goOn o i (λ u. scanOf n (i + 1) (drop u s)) .number ≡ 0
-        → (length (andOn o (λ u. wordsOf n (drop u s))) ≡ suc n) × (goOn o i (λ u. scanOf n (i + 1) (drop u s)) .place ≡ i + suc n)
+        → thenAnswer o i (λ u. scanOf n (i + 1) (drop u s)) .number ≡ 0
+        → (length (thenWords o (λ u. wordsOf n (drop u s))) ≡ suc n) × (thenAnswer o i (λ u. scanOf n (i + 1) (drop u s)) .place ≡ i + suc n)
     go (Word w u) p ih f = (ap suc (ih u f .0), omega (arith, ih u f .1))
     go (Bad x) p ih f = absurd (omega arith)
 

@@ -14,7 +14,7 @@ use Rattle.rules.specs.declared.Layout.{Layout}
 use Rattle.rules.specs.declared.Answer.{Answer}
 use Rattle.rules.specs.declared.Instr.{Instr}
 use Rattle.rules.specs.declared.Instr.the-variants.{HALT, PLAIN, LOAD, STORE, GOIF, GOX, EVENT}
-use Rattle.rules.specs.Names.{mostInstructions, mostBundles, bundleLength, events, noArrow}
+use Rattle.rules.specs.Names.{mostInstructions, mostBundles, mostCommands, bundleLength, events, noArrow}
 use Rattle.rules.specs.Layouts.{rightLayout, tableEnd}
 use Rattle.rules.specs.Policies.{Policy, entriesRight, rightPolicy}
 use Rattle.rules.specs.Words.{judgeAt, instrOf, routine, bundlesFor}
@@ -63,7 +63,7 @@ passed-of lay ws =
     (λ b e.
     let c₁ = both _ _ c in
     let c₀ = both _ _ (c₁ .0) in
-    let most : length ws ≤ bundleLength * mostBundles = leb-true _ _ (c₀ .0) in
+    let most : length ws ≤ mostCommands = leb-true _ _ (c₀ .0) in
     let fours : length ws % bundleLength ≡ 0 = eqb-true _ _ (c₀ .1) in
     record {
       right = r;

@@ -20,9 +20,9 @@ use Rattle.rules.specs.declared.Effect.{Effect}
 use Rattle.rules.specs.declared.Effect.the-variants.{Go, Put, Cell, Order, Probe, End, Wait}
 use Rattle.rules.specs.declared.Command.{Command}
 use Rattle.rules.specs.declared.Command.the-variants.{Nop, Halt, Plain, Load, Store, GoIf, GoReg, Look, StopIf, Keep, Event, Stray}
-use Rattle.rules.specs.Names.{mostInstructions, mostBundles, bundleLength, topKind, orders, noArrow, answer, orElse, roomFor}
+use Rattle.rules.specs.Names.{mostInstructions, mostCommands, bundleLength, topKind, orders, noArrow, answer, orElse, roomFor}
 use Rattle.rules.specs.Words.{strayFields, highFields, fieldSets, numberTops, judgeOf, judgeWord, judgeAt, firstRefused, kindOf, vOf, fieldsOf, routine, bundlesFor}
-use Rattle.rules.specs.Bytes.{sizeOf, gap, mapOf, fieldsAt, oneFields, oneMap, oneOf, goOn, scanOf, countOf, wordsIn, readAnswer, oneOut, bytesOf, writeAnswer}
+use Rattle.rules.specs.Bytes.{sizeOf, gap, mapOf, fieldsAt, oneFields, oneMap, oneOf, thenAnswer, scanOf, countOf, wordsIn, readAnswer, oneOut, bytesOf, writeAnswer}
 use Rattle.rules.specs.Layouts.{rightLayout}
 use Rattle.rules.specs.Policies.{Policy, rightPolicy}
 use Rattle.rules.specs.Commands.{fetchOf}
@@ -38,9 +38,6 @@ use Rattle.rules.proofs.Conditions.{length-bundles}
 -- a routine is at most 2 bytes and 10 for each instruction
 abbrev pub mostBytes : ℕ
 mostBytes = 2 + 10 * mostInstructions
-
-abbrev pub mostCommands : ℕ
-mostCommands = bundleLength * mostBundles
 
 -- ---- answers
 
@@ -108,7 +105,7 @@ scan-bound zero i m s h =
     (λ _. at-start _ _ _ (lit< tt))
 scan-bound (suc n) i m s h = by (oneOf s) (one-small s) (λ u. scan-bound n (i + 1) m (drop u s) (omega arith))
   where
-    by : (o : One) → SmallOne o → ((u : ℕ) → Bounded m m (scanOf n (i + 1) (drop u s))) → Bounded m m (goOn o i (λ u. scanOf n (i + 1) (drop u s)))
+    by : (o : One) → SmallOne o → ((u : ℕ) → Bounded m m (scanOf n (i + 1) (drop u s))) → Bounded m m (thenAnswer o i (λ u. scanOf n (i + 1) (drop u s)))
     by (Word w u) q go = go u
     by (Bad x) q go = record { number = q; place = omega arith; taken = λ _. omega arith }
 

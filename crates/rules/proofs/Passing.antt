@@ -14,7 +14,7 @@ use Rattle.rules.specs.declared.Layout.{Layout}
 use Rattle.rules.specs.declared.Answer.{Answer}
 use Rattle.rules.specs.declared.Instr.{Instr}
 use Rattle.rules.specs.declared.Instr.the-variants.{HALT, PLAIN, LOAD, STORE, GOIF, GOX, EVENT}
-use Rattle.rules.specs.Names.{mostInstructions, mostBundles, bundleLength, bundleShift, hidden, guestRegisters, topCondition, events, answer}
+use Rattle.rules.specs.Names.{mostInstructions, mostCommands, bundleLength, bundleShift, hidden, guestRegisters, topCondition, events, answer}
 use Rattle.rules.specs.Words.{judgeAt, instrOf, routine, bundlesFor}
 use Rattle.rules.specs.Commands.{limitsOf, wordOf}
 use Rattle.rules.specs.Bundles.{addressOf, shapeOf, bundleWord, commandsOf, commandCount, placeAnswer, rewriteAnswer, rewriteOutput, valid, readOff, bundleAt, isBundle, shapedAt, isHalt, passesAt, checkFrom, checkAnswer}
@@ -94,7 +94,7 @@ unfolding checkAnswer
 check-taken lay ws n p =
     let q : length ws / bundleLength ≡ n = omega (arith, p .count) in
     let fours : length ws % bundleLength ≡ 0 = omega (arith, p .count) in
-    let most : length ws ≤ bundleLength * mostBundles = omega (arith, p .count, p .most) in
+    let most : length ws ≤ mostCommands = omega (arith, p .count, p .most) in
     rw (p .right, q, fours, le-leb _ _ most, eq-eqb _ _ (p .single), p .base) (check-all lay n ws 0 n (λ j l. p .each j (omega arith)))
 
 pub rewritten-passes : RewrittenPasses

@@ -15,7 +15,7 @@ use Rattle.rules.specs.declared.Answer.{Answer}
 use Rattle.rules.specs.declared.Fields.{Fields}
 use Rattle.rules.specs.Names.{mostInstructions, topWord, answer}
 use Rattle.rules.specs.Words.{bitOf, judgeOf, packFields, fieldsOf, zeroOf, judgeWord}
-use Rattle.rules.specs.Bytes.{mapOf, sizeOf, byteAt, quadAt, fieldsAt, gap, oneOf, goOn, scanOf, andOn, wordsOf, countOf, wordsIn, readAnswer, readOutput}
+use Rattle.rules.specs.Bytes.{mapOf, sizeOf, byteAt, quadAt, fieldsAt, gap, oneOf, thenAnswer, scanOf, thenWords, wordsOf, countOf, wordsIn, readAnswer, readOutput}
 use Rattle.rules.specs.Bytes.{byteOut, quadOut, regsOut, fieldsOut, oneOut, bytesOf, routineOf, writeAnswer, writeOutput}
 use Rattle.rules.specs.Claims.{WordsBack, BytesBack}
 use Rattle.rules.proofs.Bools.{cond-ind}
@@ -290,8 +290,8 @@ write-back (suc n) i s B e =
   where
     go : (o : One) → o ≡ oneOf s → Named o
         → ((u : ℕ) → scanOf n (i + 1) (drop u s) .number ≡ 0 → (bytesOf (wordsOf n (drop u s)) ≡ drop u s) × TakesEach judgeWord (wordsOf n (drop u s)))
-        → goOn o i (λ u. scanOf n (i + 1) (drop u s)) .number ≡ 0
-        → (bytesOf (andOn o (λ u. wordsOf n (drop u s))) ≡ s) × TakesEach judgeWord (andOn o (λ u. wordsOf n (drop u s)))
+        → thenAnswer o i (λ u. scanOf n (i + 1) (drop u s)) .number ≡ 0
+        → (bytesOf (thenWords o (λ u. wordsOf n (drop u s))) ≡ s) × TakesEach judgeWord (thenWords o (λ u. wordsOf n (drop u s)))
     go (Word w u) eo p ih f =
         let w1 = one-front s w u B eo in
         let r = ih u f in

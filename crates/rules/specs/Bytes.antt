@@ -47,6 +47,7 @@ fieldsAt m s =
 abbrev pub gap : ℕ → ℕ → ℕ
 gap x y = (x - y) + (y - x)
 
+-- an instruction, or its refusal x
 abbrev pub orBad : ℕ → One → One
 orBad x o = cond (eqb x 0) o (Bad x)
 
@@ -64,23 +65,25 @@ oneMap m s =
 unfoldable pub oneOf : List ℕ → One
 oneOf s = cond (eqb (length s) 0) (Bad (numberOf Short)) (oneMap (getD s 0 0) s)
 
-abbrev pub goOn : One → ℕ → (ℕ → Answer) → Answer
-goOn (Word w u) i go = go u
-goOn (Bad x) i go = answer x i
+-- the answer for what follows an instruction's bytes, or the instruction's own refusal at place i
+abbrev pub thenAnswer : One → ℕ → (ℕ → Answer) → Answer
+thenAnswer (Word w u) i go = go u
+thenAnswer (Bad x) i go = answer x i
 
 -- n instructions from s on, the first of them at place i, then 6
 unfoldable pub scanOf : ℕ → ℕ → List ℕ → Answer
 scanOf zero i s = cond (eqb (length s) 0) (answer (numberOf Taken) i) (refusal Trailing 0)
-scanOf (suc n) i s = goOn (oneOf s) i (λ u. scanOf n (i + 1) (drop u s))
+scanOf (suc n) i s = thenAnswer (oneOf s) i (λ u. scanOf n (i + 1) (drop u s))
 
-abbrev pub andOn : One → (ℕ → List ℕ) → List ℕ
-andOn (Word w u) go = w ∷ go u
-andOn (Bad x) go = []
+-- an instruction's word and the words of what follows its bytes, or none where it is refused
+abbrev pub thenWords : One → (ℕ → List ℕ) → List ℕ
+thenWords (Word w u) go = w ∷ go u
+thenWords (Bad x) go = []
 
 -- the words of n instructions from s on
 unfoldable pub wordsOf : ℕ → List ℕ → List ℕ
 wordsOf zero s = []
-wordsOf (suc n) s = andOn (oneOf s) (λ u. wordsOf n (drop u s))
+wordsOf (suc n) s = thenWords (oneOf s) (λ u. wordsOf n (drop u s))
 
 -- 'n in two bytes, low first'
 abbrev pub countOf : List ℕ → ℕ

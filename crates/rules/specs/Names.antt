@@ -1,5 +1,5 @@
 -- The numbers of document 01, each named once, and the numbers of its refusals and endings.
-use Prim.Native.Nat.{ℕ, _+_, _-_, _^_}
+use Prim.Native.Nat.{ℕ, _+_, _-_, _*_, _^_}
 use mathlib.Core.Bool.{Bool, cond}
 use mathlib.Core.List.{List, [], _∷_, _++_}
 use lib.ListN.{length, drop}
@@ -39,6 +39,9 @@ mostBundles = 1024
 
 abbrev pub bundleLength : ℕ
 bundleLength = 4
+
+abbrev pub mostCommands : ℕ
+mostCommands = bundleLength * mostBundles
 
 -- a bundle number shifted by it is times 4: 4 is 2 ^ 2
 abbrev pub bundleShift : ℕ

@@ -2,17 +2,16 @@
 -- and a second list alike in all but free cells and what the logs held.
 use Prim.Native.Nat.{ℕ}
 use mathlib.Core.Path.{_≡_}
-use mathlib.Core.List.{List, [], _∷_, _++_}
+use mathlib.Core.List.{List, [], _∷_, _++_, map}
 use lib.ListN.{getD, set, replicate}
 use Rattle.rules.specs.declared.Layout.{Layout}
-use Rattle.rules.specs.declared.Ending.{Ending}
 use Rattle.rules.specs.declared.Ending.the-variants.{NoArrow, Spent, Refused}
 use Rattle.rules.specs.declared.RunAnswer.{RunAnswer}
 use Rattle.rules.specs.Layouts.{layoutOf}
 use Rattle.rules.specs.Policies.{Policy, policyOf}
 use Rattle.rules.specs.Words.{packOf, routine}
 use Rattle.rules.specs.Bundles.{commandsOf}
-use Rattle.rules.specs.Machines.{installMemory}
+use Rattle.rules.specs.Machines.{installMemory, runAnswer}
 use Rattle.rules.specs.Guests.{pairOf, guestAfter, guestStart}
 use Rattle.rules.specs.Runs.{Given, atFirst, afterRun, Run, recordedIn, Matches, Served, allRuns, after}
 use Rattle.rules.specs.Claims.{Each, Alike, Same}
@@ -56,12 +55,8 @@ lastRun x = given (set (left x) 600 x) 1000 x
 abbrev pub runs : ℕ → List Given
 runs x = firstRun x ∷ given [] 6 x ∷ lastRun x ∷ []
 
-abbrev pub answerIs : Ending → ℕ → ℕ → ℕ → RunAnswer
-answerIs e k n u = record { ending = e; steps = k; pairs = n; used = u }
-
 abbrev pub answersIn : List Run → List RunAnswer
-answersIn [] = []
-answersIn (r ∷ rs) = r .ran .outcome .answer ∷ answersIn rs
+answersIn rs = map (λ r. r .ran .outcome .answer) rs
 
 -- whatever x and y free cells and logs held, the runs are on the premises of Isolation and of its (d);
 -- fourteen steps in all, and the last run stops where gas has no arrow, after four bundles, as the guest does
@@ -70,7 +65,7 @@ pub record SampleHolds : Type 0 where
   pub matches : (x y : ℕ) → Matches layout (installMemory layout policy (memory x)) (installMemory layout policy (memory y))
   pub alike : (x y : ℕ) → Each Alike (runs x) (runs y)
   pub same : (x y : ℕ) → Each (Same layout) (allRuns layout policy commands (memory x) (runs x)) (allRuns layout policy commands (memory y) (runs y))
-  pub answers : (x : ℕ) → answersIn (allRuns layout policy commands (memory x) (runs x)) ≡ answerIs Spent 6 0 0 ∷ answerIs Refused 0 0 0 ∷ answerIs NoArrow 8 2 0 ∷ []
+  pub answers : (x : ℕ) → answersIn (allRuns layout policy commands (memory x) (runs x)) ≡ runAnswer Spent 6 0 0 ∷ runAnswer Refused 0 0 0 ∷ runAnswer NoArrow 8 2 0 ∷ []
   pub recorded : (x : ℕ) → recordedIn (allRuns layout policy commands (memory x) (runs x)) ≡ pairOf 0 70 ∷ pairOf 2 70 ∷ []
   pub state : (x : ℕ) → getD (after layout policy commands (memory x) (runs x) .memory) (layout .cell) 0 ≡ 1
   pub begun : (x : ℕ) → after layout policy commands (memory x) (runs x) .begun ≡ 4

@@ -14,7 +14,7 @@ use Rattle.rules.specs.declared.Machine.{Machine}
 use Rattle.rules.specs.declared.Answer.{Answer}
 use Rattle.rules.specs.declared.Installed.{Installed}
 use Rattle.rules.specs.declared.Refusal.the-variants.{SmallOutput}
-use Rattle.rules.specs.Names.{mostInstructions, answer, refusal, orElse}
+use Rattle.rules.specs.Names.{mostInstructions, mostCommands, answer, refusal, orElse}
 use Rattle.rules.specs.Layouts.{rightLayout}
 use Rattle.rules.specs.Policies.{Policy}
 use Rattle.rules.specs.Words.{judgeAt, firstRefused, bundlesFor}
@@ -25,7 +25,7 @@ use Rattle.rules.specs.Loading.{loadAnswer, loadCommands, loadMemory, loadMachi
 use Rattle.rules.proofs.Bools.{cond-ind, cond-map, cases}
 use Rattle.rules.proofs.Refusals.{refused-map}
 use Rattle.rules.proofs.Bytes.{read-ok}
-use Rattle.rules.proofs.Counts.{mostCommands, count-bound, length-commands, rewrite-taken, rewrite-bound}
+use Rattle.rules.proofs.Counts.{count-bound, length-commands, rewrite-taken, rewrite-bound}
 use Rattle.sandbox.specs.Translating.{writtenAnswer, writtenOutput, inRoom, checkedAnswer, translateAnswer, Listed}
 
 -- the first answer where it is a refusal, else the second

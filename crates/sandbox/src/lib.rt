@@ -13,10 +13,9 @@ ghost use Prim.Native.Nat.{_≤_};
 ghost use mathlib.Core.Path.{_≡_};
 ghost use mathlib.Core.List.{_++_};
 ghost use lib.ListN.{length, drop};
-ghost use Rattle.rules.specs.Names.{endingNumber};
+ghost use Rattle.rules.specs.Names.{mostCommands, endingNumber};
 ghost use Rattle.rules.specs.Policies.{policyOf};
 ghost use Rattle.rules.specs.Loading.{loadOf, loadCommands, loadMemory};
-ghost use Rattle.rules.proofs.Counts.{mostCommands};
 ghost use Rattle.sandbox.specs.Translating.{writtenAnswer, writtenOutput, inRoom, checkedAnswer, translateAnswer, Listed};
 
 // The commands of a routine's bytes, written to a list.
