@@ -28,7 +28,7 @@ too-long lay mem h = ⊎-elim (λ t. absurd (omega (arith, within lay mem t))) (
 
 module _ (lay : Layout) (ws : List ℕ) (m : Machine) (mem : List ℕ) (budget : ℕ) (rd log : List ℕ) where
   -- what a caller learns of outcome, memory and log
-  abbrev Previewed : Outcome → List ℕ → Type 0
+  abbrev pub Previewed : Outcome → List ℕ → Type 0
   Previewed o log′ = (o ≡ runOf lay ws m mem budget rd log .outcome) × ((mem ≡ mem) × (log′ ≡ runOf lay ws m mem budget rd log .log))
 
   pub refused-long : mostCells < length mem → (o : Outcome) → o ≡ outcomeOf m Refused 0 0 0 → Previewed o log
