@@ -10,8 +10,9 @@
  *
  * Buffers. Each pointer comes with the number of its elements, and no call
  * reaches past it. The buffers of one call must not overlap, nor overlap the
- * layout, machine or answer arrays. No call keeps a pointer. A pointer to an
- * empty buffer is not followed, but must not be null.
+ * layout, machine, after or answer arrays, which are apart from each other too.
+ * No call keeps a pointer. A pointer to an empty buffer is not followed, but
+ * must not be null.
  *
  * layout[7], in this order:
  *   U   memory cells, 1 to 4096
@@ -106,6 +107,14 @@ void hemdroas_load   (const uint32_t layout[7], uint32_t states, uint32_t start,
  * After a pause, lend the same machine and memory again. */
 void hemdroas_run    (const uint32_t layout[7], const uint64_t *commands, size_t n, uint32_t machine[11], uint32_t *memory, size_t cells,
                       uint32_t budget, const uint32_t *readings, size_t r, uint32_t *log, size_t g, uint32_t answer[4]);
+
+/* Looks ahead: answers as hemdroas_run would, with these readings, writes the
+ * log as that would, and yields in after the machine record that it would
+ * leave, which is machine's own numbers if it is refused. Neither machine nor
+ * memory changes. The run is done on a copy of the memory, which takes about
+ * 17 KB of stack. */
+void hemdroas_preview(const uint32_t layout[7], const uint64_t *commands, size_t n, const uint32_t machine[11], const uint32_t *memory, size_t cells,
+                      uint32_t budget, const uint32_t *readings, size_t r, uint32_t *log, size_t g, uint32_t after[11], uint32_t answer[4]);
 
 #ifdef __cplusplus
 }

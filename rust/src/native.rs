@@ -74,6 +74,21 @@ extern "C" {
         g: usize,
         answer: *mut [u32; 4],
     );
+    fn hemdroas_preview(
+        layout: *const [u32; 7],
+        commands: *const u64,
+        n: usize,
+        machine: *const [u32; 11],
+        memory: *const u32,
+        cells: usize,
+        budget: u32,
+        readings: *const u32,
+        r: usize,
+        log: *mut u32,
+        g: usize,
+        after: *mut [u32; 11],
+        answer: *mut [u32; 4],
+    );
 }
 
 fn answer([number, place]: [u32; 2]) -> Answer {
@@ -83,6 +98,18 @@ fn answer([number, place]: [u32; 2]) -> Answer {
     match Refusal::from_number(number) {
         Some(refusal) => Answer::Refused { refusal, place },
         None => panic!("the library answered {number}, which is no refusal"),
+    }
+}
+
+fn run_answer([number, steps, pairs, readings]: [u32; 4]) -> RunAnswer {
+    match Ending::from_number(number) {
+        Some(ending) => RunAnswer {
+            ending,
+            steps,
+            pairs,
+            readings,
+        },
+        None => panic!("the library answered {number}, which is no ending"),
     }
 }
 
@@ -271,14 +298,58 @@ pub fn run_record(
             &mut four,
         );
     }
-    let [number, steps, pairs, readings] = four;
-    match Ending::from_number(number) {
-        Some(ending) => RunAnswer {
-            ending,
-            steps,
-            pairs,
-            readings,
-        },
-        None => panic!("the library answered {number}, which is no ending"),
+    run_answer(four)
+}
+
+/// What [`run`] would answer and write to the log, and the machine that it
+/// would leave; machine and memory stay as they are.
+pub fn preview(
+    layout: &Layout,
+    commands: &[u64],
+    machine: &Machine,
+    memory: &[u32],
+    budget: u32,
+    readings: &[u32],
+    log: &mut [u32],
+) -> (RunAnswer, Machine) {
+    let record = machine.to_record();
+    let mut after = record;
+    let answer = preview_record(
+        layout, commands, &record, memory, budget, readings, log, &mut after,
+    );
+    (answer, after.to_machine())
+}
+
+/// [`preview`] with records of the C interface: `after` becomes what
+/// [`run_record`] would make of `record`.
+#[allow(clippy::too_many_arguments)]
+pub fn preview_record(
+    layout: &Layout,
+    commands: &[u64],
+    record: &Record,
+    memory: &[u32],
+    budget: u32,
+    readings: &[u32],
+    log: &mut [u32],
+    after: &mut Record,
+) -> RunAnswer {
+    let mut four = [0; 4];
+    unsafe {
+        hemdroas_preview(
+            &layout.to_array(),
+            commands.as_ptr(),
+            commands.len(),
+            &record.0,
+            memory.as_ptr(),
+            memory.len(),
+            budget,
+            readings.as_ptr(),
+            readings.len(),
+            log.as_mut_ptr(),
+            log.len(),
+            &mut after.0,
+            &mut four,
+        );
     }
+    run_answer(four)
 }

@@ -10,7 +10,7 @@ use hemdroas::model::{self, bundle_count};
 use hemdroas::{native, Answer, Ending, Layout, Machine, Policy, Record, RunAnswer};
 
 /// The operations, and the numbers that each can answer.
-const OPERATIONS: [(&str, &[usize]); 7] = [
+const OPERATIONS: [(&str, &[usize]); 8] = [
     ("read", &[0, 1, 2, 3, 4, 5, 6, 9]),
     ("write", &[0, 2, 3, 4, 5, 9]),
     ("rewrite", &[0, 2, 3, 4, 5, 7, 8, 9, 13]),
@@ -20,6 +20,7 @@ const OPERATIONS: [(&str, &[usize]); 7] = [
     // the checker refuses nothing that was rewritten.
     ("load", &[0, 1, 2, 3, 4, 5, 6, 7, 8, 9, 10, 13]),
     ("run", &[7, 20, 21, 22, 23, 24, 25]),
+    ("preview", &[7, 20, 21, 22, 23, 24, 25]),
 ];
 const READ: usize = 0;
 const WRITE: usize = 1;
@@ -28,6 +29,7 @@ const CHECK: usize = 3;
 const INSTALL: usize = 4;
 const LOAD: usize = 5;
 const RUN: usize = 6;
+const PREVIEW: usize = 7;
 
 /// Each number of each operation must be seen at least so often.
 const LEAST: u64 = 200;
@@ -36,13 +38,15 @@ const LEAST_CASES: u64 = 100_000;
 /// How often each number was answered.
 #[derive(Default)]
 struct Tally {
-    seen: [[u64; 26]; 7],
+    seen: [[u64; 26]; 8],
     /// Runs whose record came in with a status above 3.
     strange_status: u64,
     /// Layouts with a code base beyond 16 bits.
     far_base: u64,
     /// Loads under such a layout that reading refused before it was looked at.
     far_unread: u64,
+    /// Previews of a memory with more cells than a layout can have.
+    long_memory: u64,
     /// Loads under a right layout that installing refused for the memory.
     other_memory: u64,
     /// Steps, pairs and readings over all runs.
@@ -203,6 +207,15 @@ fn run(
         readings,
         &mut ours.log,
     );
+    preview(
+        tally,
+        layout,
+        commands,
+        lent,
+        budget,
+        readings,
+        (expected, &ours),
+    );
     let answer = native::run_record(
         layout,
         commands,
@@ -232,6 +245,47 @@ fn run(
     tally.pairs += u64::from(answer.pairs);
     tally.readings += u64::from(answer.readings);
     answer
+}
+
+/// Previews with the library, and compares with what the model's run answered
+/// and left; record and memory stay as they were.
+fn preview(
+    tally: &mut Tally,
+    layout: &Layout,
+    commands: &[u64],
+    lent: &Lent,
+    budget: u32,
+    readings: &[u32],
+    (expected, left): (RunAnswer, &Lent),
+) {
+    let mut theirs = lent.clone();
+    let mut after = Record([0xc0ff_ee00; 11]);
+    let answer = native::preview_record(
+        layout,
+        commands,
+        &theirs.record,
+        &theirs.memory,
+        budget,
+        readings,
+        &mut theirs.log,
+        &mut after,
+    );
+    let input = || {
+        format!(
+            "{commands:x?} from {:?} under {layout:?}, budget {budget}, readings {readings:?}",
+            lent.record
+        )
+    };
+    assert_eq!(answer, expected, "previewing {}", input());
+    assert_eq!(after, left.record, "record previewed of {}", input());
+    assert_eq!(theirs.log, left.log, "log previewed of {}", input());
+    assert_eq!(theirs.record, lent.record, "a preview keeps the record");
+    assert_eq!(theirs.memory, lent.memory, "a preview keeps the memory");
+    if answer.ending == Ending::BadLayout {
+        assert_eq!((after, theirs.log), (lent.record, lent.log.clone()));
+    }
+    tally.long_memory += u64::from(lent.memory.len() > 4096);
+    tally.count(PREVIEW, answer.ending.number());
 }
 
 /// A refusal leaves the output as it was, and a success what is past it.
@@ -816,6 +870,30 @@ fn hand_made_runs(tally: &mut Tally, rng: &mut Rng) {
     }
 }
 
+/// Memories of about the most cells that a layout can have.
+fn long_memories(tally: &mut Tally, rng: &mut Rng) {
+    for _ in 0..2_000 {
+        let mut layout = right_layout(rng, 1);
+        layout.cells = rng.between(4095, 4098) as u32;
+        let length = rng.between(3, 40);
+        let list: Vec<u64> = (0..length)
+            .map(|_| any_command(rng, &layout, length))
+            .collect();
+        let mut record = some_record(rng);
+        record.0[9] = layout.code_base;
+        record.0[10] = 0;
+        let mut lent = Lent {
+            record,
+            memory: rng.cells(layout.cells as usize),
+            log: some_log(rng),
+        };
+        let budget = some_budget(rng);
+        let readings = some_readings(rng);
+        let answer = run(tally, &layout, &list, &mut lent, budget, &readings);
+        assert_eq!(answer.ending == Ending::BadLayout, layout.cells > 4096);
+    }
+}
+
 /// Passed lists, installed and run several times, with the host writing free
 /// cells in between.
 fn runs_in_a_row(tally: &mut Tally, rng: &mut Rng) {
@@ -890,6 +968,17 @@ fn sample() {
     assert_eq!(answer, (Answer::Taken(32), machine));
     assert_eq!((loaded, cells), (commands, memory));
     let mut log = [0; 64];
+    let ahead = native::preview(
+        &TRIAL,
+        &commands,
+        &machine,
+        &memory,
+        1000,
+        &TRIAL_READINGS,
+        &mut log,
+    );
+    assert_eq!((log[..4].to_vec(), memory[0]), (vec![0, 70, 2, 70], 0));
+    let mut log = [0; 64];
     let answer = native::run(
         &TRIAL,
         &commands,
@@ -906,6 +995,7 @@ fn sample() {
         readings: 0,
     };
     assert_eq!(answer, expected);
+    assert_eq!((answer, machine), ahead);
     assert_eq!((log[..4].to_vec(), memory[0]), (vec![0, 70, 2, 70], 1));
 }
 
@@ -913,7 +1003,7 @@ fn sample() {
 fn the_library_does_what_the_model_does() {
     sample();
     type Part = fn(&mut Tally, &mut Rng);
-    let parts: [(&str, Part); 12] = [
+    let parts: [(&str, Part); 13] = [
         ("reading", reading),
         ("writing", writing),
         ("each bit of an instruction", each_bit_of_an_instruction),
@@ -926,6 +1016,7 @@ fn the_library_does_what_the_model_does() {
         ("each bit of a command", each_bit_of_a_command),
         ("hand-made runs", hand_made_runs),
         ("runs in a row", runs_in_a_row),
+        ("long memories", long_memories),
     ];
     let mut tally = Tally::default();
     for (at, (name, part)) in parts.into_iter().enumerate() {
@@ -953,8 +1044,8 @@ fn the_library_does_what_the_model_does() {
     let sums: Vec<String> = numbers.map(|n| format!("{n}: {}", sums[n])).collect();
     say(&format!("all: {}", sums.join(", ")));
     say(&format!(
-        "{} cases; {} steps, {} pairs, {} readings; {} records with a status above 3, {} bases above 65,535; {} loads refused by reading under such a base, {} for the memory alone",
-        tally.cases(), tally.steps, tally.pairs, tally.readings, tally.strange_status, tally.far_base, tally.far_unread, tally.other_memory
+        "{} cases; {} steps, {} pairs, {} readings; {} records with a status above 3, {} bases above 65,535; {} loads refused by reading under such a base, {} for the memory alone; {} previews of more than 4,096 cells",
+        tally.cases(), tally.steps, tally.pairs, tally.readings, tally.strange_status, tally.far_base, tally.far_unread, tally.other_memory, tally.long_memory
     ));
 
     for ((name, numbers), seen) in OPERATIONS.iter().zip(&tally.seen) {
@@ -972,5 +1063,6 @@ fn the_library_does_what_the_model_does() {
     assert!(tally.cases() >= LEAST_CASES);
     assert!(tally.strange_status >= LEAST && tally.far_base >= LEAST);
     assert!(tally.far_unread >= LEAST && tally.other_memory >= LEAST);
+    assert!(tally.long_memory >= LEAST);
     assert!(tally.pairs >= 10_000 && tally.readings >= 10_000);
 }

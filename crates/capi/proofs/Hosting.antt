@@ -1,7 +1,7 @@
 -- What the parts answer and leave, said of the numbers of a C host.
 use Prim.Native.Nat.{ℕ, zero, suc, _+_, _^_, _≤_, _<_}
 use mathlib.Core.Path.{_≡_, refl, sym, _∙_, ap, subst}
-use mathlib.Core.Bool.{Bool, true, false, _&&_, cond}
+use mathlib.Core.Bool.{Bool, true, false, cond}
 use mathlib.Core.List.{List, [], _∷_, _++_}
 use native.Mathlib.Omega.{arith}
 use lib.ListN.{length, getD, take, drop}
@@ -26,6 +26,7 @@ use Rattle.rules.specs.Loading.{loadAnswer, loadCommands, loadMemory, loadMachi
 use Rattle.rules.proofs.Bools.{cond-ind}
 use Rattle.rules.proofs.Layouts.{layout-facts}
 use Rattle.rules.proofs.Counts.{Bounded, RunCounts, run-counts}
+use Rattle.preview.proofs.Laws.{Previewed}
 use Rattle.capi.specs.Hosts.{layoutHeld, runFor}
 
 -- ---- arrays
@@ -90,6 +91,11 @@ counts l ws mem rd log mem′ log′ budget m o q h =
     let b = subst (RunCounts log rd budget) (sym q) (run-counts l ws m mem budget rd log) in
     (omega (arith, b .pairs), omega (arith, b .used))
 
+-- a preview is the run whose outcome and log it gives
+pub ran-as : (l : Layout) (ws mem rd log log′ : List ℕ) (budget : ℕ) (m : Machine) (o : Outcome) → Previewed l ws m mem budget rd log o log′
+    → ranOf o (runOf l ws m mem budget rd log .mem) log′ ≡ runOf l ws m mem budget rd log
+ran-as l ws mem rd log log′ budget m o q = λ i. ranOf (q .0 i) (runOf l ws m mem budget rd log .mem) (q .1 .1 i)
+
 -- loading reads before it looks at the layout: under one that is not right, bytes that reading refuses have reading's refusal, all others 7
 abbrev unlaid : List ℕ → Answer
 unlaid s = orElse (readAnswer s mostInstructions) (refusal BadLayout 0)
@@ -149,14 +155,23 @@ module _ (xs : List ℕ) (l : Layout) (e : l ≡ layoutHeld xs) where
         q ∙ held (λ (k : Layout). runOf k ws m mem budget rd log) (ranOf (outcomeOf m Refused 0 0 0) mem log) (λ k f. rw f) xs l e
         ∙ ap (λ (x : Machine). runOf (layoutFrom xs) ws x mem budget rd log) p
 
-    pub left : (r : Bool) (ms′ ns : List ℕ) → r ≡ rightLayout l → ms′ ≡ cond (r && eqb (length mem) (l .size)) (machineTo (o .machine)) ms → ns ≡ runAnswerTo (o .answer)
+    pub left : (r : Bool) (ms′ ns : List ℕ) → r ≡ fits l mem → ms′ ≡ cond r (machineTo (o .machine)) ms → ns ≡ runAnswerTo (o .answer)
         → (ns ≡ runAnswerTo (runFor xs ws ms mem budget rd log .outcome .answer)) × ((ms′ ≡ recordAfter (layoutFrom xs) mem ms (runFor xs ws ms mem budget rd log))
         × ((mem′ ≡ runFor xs ws ms mem budget rd log .mem) × (log′ ≡ runFor xs ws ms mem budget rd log .log)))
     left r ms′ ns s t u =
-        let f : (r && eqb (length mem) (l .size)) ≡ fits (layoutFrom xs) mem = ap (λ (b : Bool). b && eqb (length mem) (l .size)) s ∙ held (λ (k : Layout). fits k mem) false (λ k f. rw f) xs l e in (
+        let f : r ≡ fits (layoutFrom xs) mem = s ∙ held (λ (k : Layout). fits k mem) false (λ k f. rw f) xs l e in (
           u ∙ ap (λ (x : Ran). runAnswerTo (x .outcome .answer)) ran,
           (
             t ∙ ap (λ (b : Bool). cond b (machineTo (o .machine)) ms) f ∙ ap (λ (x : Ran). recordAfter (layoutFrom xs) mem ms x) ran,
             (ap (λ (x : Ran). x .mem) ran, ap (λ (x : Ran). x .log) ran),
           ),
         )
+
+  -- a preview leaves what a run would, but memory and record as they were
+  pub looked : (ws ms mem rd log log′ : List ℕ) (budget : ℕ) (m : Machine) (o : Outcome) → m ≡ machineFrom ms → Previewed l ws m mem budget rd log o log′
+      → (r : Bool) (ms′ ns : List ℕ) → r ≡ fits l mem → ms′ ≡ cond r (machineTo (o .machine)) ms → ns ≡ runAnswerTo (o .answer)
+      → (ns ≡ runAnswerTo (runFor xs ws ms mem budget rd log .outcome .answer)) × ((ms′ ≡ recordAfter (layoutFrom xs) mem ms (runFor xs ws ms mem budget rd log))
+      × ((ms ≡ ms) × ((mem ≡ mem) × (log′ ≡ runFor xs ws ms mem budget rd log .log))))
+  looked ws ms mem rd log log′ budget m o p q r ms′ ns s t u =
+      let h = left ws ms mem rd log _ log′ budget m o p (ran-as l ws mem rd log log′ budget m o q) r ms′ ns s t u in
+      (h .0, (h .1 .0, (refl, (refl, h .1 .1 .1))))

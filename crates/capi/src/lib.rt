@@ -7,9 +7,11 @@ use rules::RunAnswer;
 use rules::Status;
 use words::layout::right;
 ghost use mathlib.Core.Path.{_≡_};
-ghost use mathlib.Core.Bool.{cond};
+ghost use mathlib.Core.Bool.{_&&_, cond};
 ghost use Prim.Native.Nat.{_<_, _^_};
 ghost use lib.ListN.{length};
+ghost use lib.Dec.{eqb};
+ghost use Rattle.rules.specs.Layouts.{rightLayout};
 ghost use Rattle.rules.specs.Policies.{policyOf};
 ghost use Rattle.rules.specs.Bytes.{readAnswer, readOutput, writeAnswer, writeOutput};
 ghost use Rattle.rules.specs.Bundles.{rewriteAnswer, rewriteOutput, checkAnswer};
@@ -99,11 +101,18 @@ fn record_of(m: Machine) -> [u32; 11]
     ]
 }
 
-// The record after a run; a refused run leaves the numbers as they were.
-fn record_after(fits: bool, m: Machine, xs: [u32; 11]) -> [u32; 11]
-    ensures { λ r. ⌜ r ≡ cond fits (machineTo m) xs ⌝ }
+// Whether a run is not refused.
+fn memory_fits(lay: Layout, cells: usize) -> bool
+    ensures { λ r. ⌜ r ≡ (rightLayout lay && eqb cells (lay .size)) ⌝ }
 {
-    if fits {
+    right(lay) & (cells == lay.size as usize)
+}
+
+// The record after a run; a refused run leaves the numbers as they were.
+fn record_after(taken: bool, m: Machine, xs: [u32; 11]) -> [u32; 11]
+    ensures { λ r. ⌜ r ≡ cond taken (machineTo m) xs ⌝ }
+{
+    if taken {
         return record_of(m);
     }
     xs
@@ -230,9 +239,36 @@ pub extern "C" fn hemdroas_run(
     ensures log { λ _. ⌜ now (log .exit) ≡ runFor (now (layout .entry)) (now (commands .entry)) (now (machine .entry)) (now (memory .entry)) budget (now (readings .entry)) (now (log .entry)) .log ⌝ }
 {
     let lay = layout_of(*layout);
-    let fits = right(lay) & (memory.len() == lay.size as usize);
+    let taken = memory_fits(lay, memory.len());
     let m = machine_of(*machine);
     let out = machine::run_value(lay, commands, m, memory, budget, readings, log);
-    *machine = record_after(fits, out.machine, *machine);
+    *machine = record_after(taken, out.machine, *machine);
+    *answer = run_answer_of(out.answer);
+}
+
+// Previews a run: the answer, the log and, in `after`, the record that `hemdroas_run` would leave.
+#[no_mangle]
+pub extern "C" fn hemdroas_preview(
+    layout: &[u32; 7],
+    commands: &[u64],
+    machine: &[u32; 11],
+    memory: &[u32],
+    budget: u32,
+    readings: &[u32],
+    log: &mut [u32],
+    after: &mut [u32; 11],
+    answer: &mut [u32; 4],
+)
+    ensures answer { λ _. ⌜ now (answer .exit) ≡ runAnswerTo (runFor (now (layout .entry)) (now (commands .entry)) (now (machine .entry)) (now (memory .entry)) budget (now (readings .entry)) (now (log .entry)) .outcome .answer) ⌝ }
+    ensures after { λ _. ⌜ now (after .exit) ≡ recordAfter (layoutFrom (now (layout .entry))) (now (memory .entry)) (now (machine .entry)) (runFor (now (layout .entry)) (now (commands .entry)) (now (machine .entry)) (now (memory .entry)) budget (now (readings .entry)) (now (log .entry))) ⌝ }
+    ensures machine { λ _. ⌜ now (machine .exit) ≡ now (machine .entry) ⌝ }
+    ensures memory { λ _. ⌜ now (memory .exit) ≡ now (memory .entry) ⌝ }
+    ensures log { λ _. ⌜ now (log .exit) ≡ runFor (now (layout .entry)) (now (commands .entry)) (now (machine .entry)) (now (memory .entry)) budget (now (readings .entry)) (now (log .entry)) .log ⌝ }
+{
+    let lay = layout_of(*layout);
+    let taken = memory_fits(lay, memory.len());
+    let m = machine_of(*machine);
+    let out = preview::preview(lay, commands, m, memory, budget, readings, log);
+    *after = record_after(taken, out.machine, *machine);
     *answer = run_answer_of(out.answer);
 }

@@ -4,17 +4,31 @@ use borrow.Author.Needs.{needs}
 use Rattle.capi.proofs.hemdroas_run.Statement.{statement}
 use Rattle.capi.proofs.hemdroas_run.Tie as tie
 
+run-answer-of-requires : tie.Need-run-answer-of-requires
+run-answer-of-requires c κs =
+    let v = c .before .before .before .before .before .before in
+    let m = v .before .before .before in
+    let s = m .before .before .before .before .before .before .before .before .before in
+    counts _ _ _ _ _ _ _ _ _ _ (v .run-value .ensures) (s .fits .budget .fits)
+
+returns : tie.Need-returns
+returns c =
+    let v = c .before .before .before .before .before .before .before in
+    let m = v .before .before .before in
+    let f = m .before .before in
+    let s = f .before .before .before .before .before .before .before in
+    left _ _ (f .before .layout-of .ensures) _ (now (s .args .machine)) _ _ _ _ _ _ _ _ (m .machine-of .ensures) (v .run-value .ensures) _ _ _ (f .memory-fits .ensures) (c .before .record-after .ensures) (c .run-answer-of .ensures)
+
 pub hemdroas-run-spec : {M : Type 1} → statement M
 hemdroas-run-spec =
     tie.close
     (tie.spec
     (λ c κs. search needs)
     (λ c κs. search needs)
-    (λ c. search needs)
     (λ c κs. search needs)
     (λ c κs. search needs)
     (λ c κs. search needs)
-    (λ c κs. counts _ _ _ _ _ _ _ _ _ _ (c .before .before .before .before .before .before .run-value .ensures) (c .before .before .before .before .before .before .before .before .before .before .before .before .before .before .before .before .before .before .before .fits .budget .fits))
+    run-answer-of-requires
     (λ c. search needs)
     (λ c. search needs)
-    (λ c. left _ _ (c .before .before .before .before .before .before .before .before .before .before .before .before .before .before .layout-of .ensures) _ (now (c .before .before .before .before .before .before .before .before .before .before .before .before .before .before .before .before .before .before .before .before .args .machine)) _ _ _ _ _ _ _ _ (c .before .before .before .before .before .before .before .before .before .before .machine-of .ensures) (c .before .before .before .before .before .before .before .run-value .ensures) _ _ _ (c .before .before .before .before .before .before .before .before .before .before .before .before .before .right .ensures) (c .before .record-after .ensures) (c .run-answer-of .ensures)))
+    returns)

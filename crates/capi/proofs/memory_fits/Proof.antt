@@ -1,0 +1,11 @@
+use borrow.Author.Needs.{needs}
+use Rattle.capi.proofs.memory_fits.Statement.{statement}
+use Rattle.capi.proofs.memory_fits.Tie as tie
+
+pub memory-fits-spec : {M : Type 1} → statement M
+memory-fits-spec =
+    tie.close
+    (tie.spec
+    (λ c κs. search needs)
+    (λ c. search needs)
+    (λ c. rw (c .before .right .ensures)))
