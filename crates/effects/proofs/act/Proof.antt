@@ -1,5 +1,5 @@
 use Rattle.words.proofs.Laws.{named-in, number-in, kind-in, past}
-use Rattle.machine.proofs.Laws.{arm}
+use Rattle.effects.proofs.Laws.{arm}
 use Rattle.rules.specs.Machines.{effectOf}
 use Rattle.rules.specs.Words.{kindOf}
 use Rattle.rules.specs.Commands.{isCommand, plainOf}
@@ -9,8 +9,8 @@ use mathlib.Core.Path.{_≡_, refl, ap}
 use mathlib.Core.Bool.{true}
 use Prim.Native.Nat.{zero-le, _<_, _≤_}
 use borrow.Author.Needs.{needs}
-use Rattle.machine.proofs.act.Statement.{statement}
-use Rattle.machine.proofs.act.Tie as tie
+use Rattle.effects.proofs.act.Statement.{statement}
+use Rattle.effects.proofs.act.Tie as tie
 
 -- what the function requires, where the match begins
 ok : (c : tie.After-y) → isCommand (c .before .before .before .args .w) ≡ true

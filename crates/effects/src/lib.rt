@@ -1,0 +1,174 @@
+// What the word at pc would do: a pure decision, applied by the machine.
+use cells::arith;
+use rules::Effect;
+use rules::Ending;
+use rules::Policy;
+use rules::Status;
+use words::command;
+ghost use mathlib.Core.Path.{_≡_};
+ghost use mathlib.Core.Bool.{true, cond};
+ghost use Prim.Native.Nat.{_+_, _*_};
+ghost use lib.ListN.{length, getD};
+ghost use lib.Dec.{ltb, eqb};
+ghost use Rattle.rules.specs.declared.Status.the-variants.{Stopped, Faulted};
+ghost use Rattle.rules.specs.declared.Effect.the-variants.{Go, Put, Cell, End};
+ghost use Rattle.rules.specs.Names.{events, noArrow};
+ghost use Rattle.rules.specs.Commands.{isCommand, commandOf, holdsOf, fetchOf};
+ghost use Rattle.rules.specs.Machines.{onward, viewOf, effectOf, eventEffect};
+
+// The next pc is formed only in the arms that need it, which keeps a register free across the match.
+fn target(c: u64, x: u32, y: u32, to: u32, pc: u32) -> Effect
+    ensures { λ r. ⌜ r ≡ Go (cond (holdsOf c x y) to (onward pc)) ⌝ }
+{
+    if arith::holds(c, x, y) {
+        return Effect::Go(to);
+    }
+    Effect::Go(arith::add(pc, 1))
+}
+
+fn load(d: usize, at: u32, memory: &[u32]) -> Effect
+    ensures { λ r. ⌜ r ≡ cond (ltb at (length (now (memory .entry)))) (Put d (getD (now (memory .entry)) at 0)) (End Faulted) ⌝ }
+{
+    let i = at as usize;
+    if i < memory.len() {
+        return Effect::Put(d, memory[i]);
+    }
+    Effect::End(Status::Faulted)
+}
+
+fn store(at: u32, x: u32, memory: &[u32]) -> Effect
+    ensures { λ r. ⌜ r ≡ cond (ltb at (length (now (memory .entry)))) (Cell at x) (End Faulted) ⌝ }
+{
+    let i = at as usize;
+    if i < memory.len() {
+        return Effect::Cell(i, x);
+    }
+    Effect::End(Status::Faulted)
+}
+
+// The policy's entry for event v in the present state; the address is summed without wrap.
+fn look(d: usize, cell: u32, table: u32, v: u32, memory: &[u32]) -> Effect
+    ensures { λ r. ⌜ r ≡ cond (ltb cell (length (now (memory .entry)))) (cond (ltb (table + events * getD (now (memory .entry)) cell 0 + v) (length (now (memory .entry)))) (Put d (getD (now (memory .entry)) (table + events * getD (now (memory .entry)) cell 0 + v) 0)) (End Faulted)) (End Faulted) ⌝ }
+{
+    let i = cell as usize;
+    if i < memory.len() {
+        let at = table as usize + Policy::EVENTS as usize * (memory[i] as usize) + v as usize;
+        if at < memory.len() {
+            return Effect::Put(d, memory[at]);
+        }
+        return Effect::End(Status::Faulted);
+    }
+    Effect::End(Status::Faulted)
+}
+
+fn stop_if(x: u32, pc: u32) -> Effect
+    ensures { λ r. ⌜ r ≡ cond (eqb x noArrow) (End Stopped) (Go (onward pc)) ⌝ }
+{
+    if x == Policy::NO_ARROW {
+        return Effect::End(Status::Stopped);
+    }
+    Effect::Go(arith::add(pc, 1))
+}
+
+// An event, or the pause before it: the log comes before the readings.
+fn event(v: u32, free: usize, left: usize) -> Effect
+    ensures { λ r. ⌜ r ≡ eventEffect v free left ⌝ }
+{
+    if free < 2 {
+        return Effect::Wait(Ending::LogFull);
+    }
+    if v < Policy::ORDERS {
+        return Effect::Order(v);
+    }
+    if left == 0 {
+        return Effect::Wait(Ending::Silent);
+    }
+    Effect::Probe(v)
+}
+
+// What a command would do. Single numbers, no range: so the match becomes one jump.
+fn act(
+    w: u64,
+    regs: &[u32; 9],
+    pc: u32,
+    cell: u32,
+    table: u32,
+    memory: &[u32],
+    free: usize,
+    left: usize,
+) -> Effect
+    requires { ⌜ isCommand w ≡ true ⌝ }
+    ensures { λ r. ⌜ r ≡ effectOf (commandOf w) (viewOf (now (regs .entry)) pc (now (memory .entry)) cell table free left) ⌝ }
+{
+    let k = w % 256;
+    let d = ((w >> 8) % 16) as usize;
+    let a = ((w >> 12) % 16) as usize;
+    let b = ((w >> 16) % 16) as usize;
+    let c = (w >> 20) % 16;
+    let v = (w >> 32) as u32;
+    let x = regs[a];
+    let y = regs[b];
+    match k {
+        0 => Effect::Go(arith::add(pc, 1)),
+        1 => Effect::End(Status::Ended),
+        2 => Effect::Put(d, v),
+        3 => Effect::Put(d, x),
+        4 => Effect::Put(d, arith::add(x, y)),
+        5 => Effect::Put(d, arith::sub(x, y)),
+        6 => Effect::Put(d, x & y),
+        7 => Effect::Put(d, x | y),
+        8 => Effect::Put(d, arith::sar(x, v)),
+        9 => Effect::Put(d, x & v),
+        10 => Effect::Put(d, x | v),
+        11 => Effect::Put(d, arith::shl(x, v)),
+        12 => load(d, x, memory),
+        13 => store(x, y, memory),
+        14 => target(c, x, y, v, pc),
+        15 => target(c, x, y, regs[d], pc),
+        16 => look(d, cell, table, v, memory),
+        17 => stop_if(regs[d], pc),
+        18 => store(cell, regs[d], memory),
+        19 => event(v, free, left),
+        _ => Effect::End(Status::Faulted),
+    }
+}
+
+// What a word would do.
+fn decide(
+    w: u64,
+    regs: &[u32; 9],
+    pc: u32,
+    cell: u32,
+    table: u32,
+    memory: &[u32],
+    free: usize,
+    left: usize,
+) -> Effect
+    ensures { λ r. ⌜ r ≡ effectOf (commandOf w) (viewOf (now (regs .entry)) pc (now (memory .entry)) cell table free left) ⌝ }
+{
+    if command::is_command(w) {
+        return act(w, regs, pc, cell, table, memory, free, left);
+    }
+    Effect::End(Status::Faulted)
+}
+
+// What the word at pc would do; the list stands at the base. A pc below it is far past the list's end.
+pub fn next_effect(
+    commands: &[u64],
+    base: u16,
+    regs: &[u32; 9],
+    pc: u32,
+    cell: u32,
+    table: u32,
+    memory: &[u32],
+    free: usize,
+    left: usize,
+) -> Effect
+    ensures { λ r. ⌜ r ≡ effectOf (fetchOf (now (commands .entry)) base pc) (viewOf (now (regs .entry)) pc (now (memory .entry)) cell table free left) ⌝ }
+{
+    let at = std::num::wrapping_sub_usize(pc as usize, base as usize);
+    if at < commands.len() {
+        return decide(commands[at], regs, pc, cell, table, memory, free, left);
+    }
+    Effect::End(Status::Faulted)
+}
