@@ -7,25 +7,101 @@ use rules::Policy;
 use rules::Refusal;
 use words::layout;
 ghost use mathlib.Core.Path.{_≡_};
-ghost use Prim.Native.Nat.{_+_, _≤_};
-ghost use lib.ListN.{length};
+ghost use Prim.Native.Nat.{_+_, _*_, _≤_, _<_};
+ghost use lib.ListN.{length, take, drop};
 ghost use lib.Seq.{sets};
-ghost use Rattle.rules.specs.Names.{answer};
-ghost use Rattle.rules.specs.Policies.{policyOf, entriesRight, rightPolicy};
+ghost use Rattle.rules.specs.Names.{mostStates, answer};
+ghost use Rattle.rules.specs.Policies.{policyOf, entriesRight, lowBytes, wordBytes, statesRight, wordRight, rightPolicy};
 ghost use Rattle.rules.specs.Machines.{machineRefused, installOf, installMemory};
 
-// Whether every byte of a table is a state or no arrow. No early exit, so that many are tested at once.
-fn entries_right(states: u32, table: &[u8]) -> bool
-    ensures { λ r. ⌜ r ≡ entriesRight states (now (table .entry)) ⌝ }
+// A number in each of a word's four bytes: 1, the low seven bits, and the top bit.
+const ONES: u32 = 0x0101_0101;
+
+const LOWS: u32 = 0x7F7F_7F7F;
+
+const TOPS: u32 = 0x8080_8080;
+
+// The bytes of a word.
+const WORD: usize = 4;
+
+// Whether a right layout can have so many states.
+fn states_right(states: u32) -> bool
+    ensures { λ r. ⌜ r ≡ statesRight states ⌝ }
+{
+    (1 <= states) & (states <= Layout::MOST_STATES)
+}
+
+// Whether S is from 1 to 16 and each of a word's four bytes is a state or no arrow. The four are tested at once: 128 − S
+// more than a byte's low seven bits carry into its top bit if they are S or more, and 1 more if they are 127. No sum
+// reaches the next byte. So `over` has the top bits of the bytes that are no state, `full` of those that are 255.
+pub fn word_right(states: u32, w: u32) -> bool
+    ensures { λ r. ⌜ r ≡ wordRight states w ⌝ }
+{
+    if !states_right(states) {
+        return false;
+    }
+    let low = w & LOWS;
+    let over = ((low + (128 - states) * ONES) | w) & TOPS;
+    let full = (low + ONES) & w & TOPS;
+    over == full
+}
+
+fn wide(b: u8) -> u32
+    ensures { λ r. ⌜ (r ≡ b) × (r < 256) ⌝ }
+{
+    b as u32
+}
+
+// The word whose bytes, low first, are four of a table.
+fn word_at(table: &[u8], at: usize) -> u32
+    requires { ⌜ at + wordBytes ≤ length (now table) ⌝ }
+    ensures { λ r. ⌜ lowBytes wordBytes r ≡ take wordBytes (drop at (now (table .entry))) ⌝ }
+{
+    wide(table[at])
+        + (wide(table[at + 1]) << 8)
+        + (wide(table[at + 2]) << 16)
+        + (wide(table[at + 3]) << 24)
+}
+
+// A table's first bytes, by words. No early exit, so that many are tested at once.
+fn words_right(states: u32, table: &[u8], words: usize) -> bool
+    requires { ⌜ (1 ≤ states) × (states ≤ mostStates) × (wordBytes * words ≤ length (now table)) ⌝ }
+    ensures { λ r. ⌜ r ≡ entriesRight states (take (wordBytes * words) (now (table .entry))) ⌝ }
 {
     let mut ok = true;
     let mut i: usize = 0;
+    while i < words {
+        ok = ok & word_right(states, word_at(table, WORD * i));
+        i = i + 1;
+    }
+    ok
+}
+
+// A table's bytes from one on, byte by byte.
+fn bytes_right(states: u32, table: &[u8], from: usize) -> bool
+    requires { ⌜ from ≤ length (now table) ⌝ }
+    ensures { λ r. ⌜ r ≡ entriesRight states (drop from (now (table .entry))) ⌝ }
+{
+    let mut ok = true;
+    let mut i = from;
     while i < table.len() {
         let b = table[i] as u32;
         ok = ok & ((b < states) | (b == Policy::NO_ARROW));
         i = i + 1;
     }
     ok
+}
+
+// Whether every byte of a table is a state or no arrow: by words, then the bytes that make no word. No word is right for a
+// state count that no right layout has; there all go byte by byte.
+fn entries_right(states: u32, table: &[u8]) -> bool
+    ensures { λ r. ⌜ r ≡ entriesRight states (now (table .entry)) ⌝ }
+{
+    if !states_right(states) {
+        return bytes_right(states, table, 0);
+    }
+    let words = table.len() / WORD;
+    words_right(states, table, words) & bytes_right(states, table, WORD * words)
 }
 
 // The table's bytes into the cells from an address on.

@@ -16,7 +16,7 @@ use Rattle.rules.specs.declared.Instr.{Instr}
 use Rattle.rules.specs.declared.Instr.the-variants.{HALT, PLAIN, LOAD, STORE, GOIF, GOX, EVENT}
 use Rattle.rules.specs.Names.{mostInstructions, mostBundles, mostCommands, bundleLength, events, noArrow}
 use Rattle.rules.specs.Layouts.{rightLayout, tableEnd}
-use Rattle.rules.specs.Policies.{Policy, entriesRight, rightPolicy}
+use Rattle.rules.specs.Policies.{Policy, entryRight, entriesRight, rightPolicy}
 use Rattle.rules.specs.Words.{judgeAt, instrOf, routine, bundlesFor}
 use Rattle.rules.specs.Commands.{commandOf, fetchOf}
 use Rattle.rules.specs.Bundles.{bundleWord, bundlesFrom, rewritten, commandsOf, commandCount, baseRight, placeAnswer, rewriteAnswer, valid, bundleAt, isBundle, shapedAt, isHalt, passesAt, checkFrom, countRight, checkAnswer}
@@ -228,7 +228,7 @@ policy-facts lay pol e =
 entry : (s : ℕ) (bs : List ℕ) → entriesRight s bs ≡ true → (i : ℕ) → (getD bs i noArrow ≡ noArrow → ⊥) → getD bs i noArrow < s
 entry s [] t i f = absurd (f refl)
 entry s (b ∷ bs) t zero f = ⊎-elim (λ l. ltb-true b s l) (λ e. absurd (f (eqb-true b noArrow e))) (either _ _ (both _ _ t .0))
-entry s (b ∷ bs) t (suc i) f = entry s bs (both (ltb b s || eqb b noArrow) (entriesRight s bs) t .1) i f
+entry s (b ∷ bs) t (suc i) f = entry s bs (both (entryRight s b) (entriesRight s bs) t .1) i f
 
 -- a run of stores: the stored elements, and those beside them
 sets-beside : (vs l : List ℕ) (i j : ℕ) → (j < i) ⊎ (i + length vs ≤ j) → getD (sets l i vs) j 0 ≡ getD l j 0

@@ -1,31 +1,24 @@
-use Prim.Native.Nat.{zero-le, _-_, _≤_}
-use mathlib.Core.Path.{_≡_, refl}
-use mathlib.Core.Bool.{_&&_}
-use native.Mathlib.Omega.{arith}
+use Prim.Native.Nat.{_*_, _/_}
+use denote.Ref.{now}
 use borrow.Author.Needs.{needs}
-use lib.ListN.{length, drop}
-use Rattle.rules.specs.Policies.{entriesRight}
-use Rattle.installer.proofs.Installs.{all-more, all-done}
+use lib.ListN.{length}
+use Rattle.rules.specs.Policies.{wordBytes}
+use Rattle.installer.proofs.Words.{fit}
+use Rattle.installer.proofs.Installs.{parts}
 use Rattle.installer.proofs.entries_right.Statement.{statement}
 use Rattle.installer.proofs.entries_right.Tie as tie
-
--- the bytes that are left decide, if none before was wrong
-abbrev Inv-loop : tie.InvT-loop
-Inv-loop states table ok₀ i₀ ok i = ((ok && entriesRight states (drop i table)) ≡ entriesRight states table) × (i ≤ length table)
-
-abbrev μ-loop : tie.MeasureT-loop
-μ-loop states table ok₀ i₀ ok i = length table - i
 
 pub entries-right-spec : {M : Type 1} → statement M
 entries-right-spec =
     tie.close
     (tie.spec
-    Inv-loop
-    μ-loop
-    (λ c. (refl, zero-le))
+    (λ c κs. search needs)
+    (λ c κs. search needs)
     (λ c. search needs)
-    (λ c. omega (arith, c .shared-slice-known .given (c .before .before .loop .i)))
+    (λ c κs. let f = fit _ _ (c .before .states-right .ensures) (c .if1 .left) in (f .0, f .1, search needs))
     (λ c. search needs)
-    (λ c. search needs)
-    (λ c. (search (all-more, needs), search needs))
-    (λ c. search (all-done, needs)))
+    (λ c κs. search needs)
+    (λ c.
+    let a = c .before .before .before .before .before .args in
+    let t = now (a .table) in
+    parts (a .states) (wordBytes * (length t / wordBytes)) t _ _ (c .before .words-right .ensures) (c .bytes-right2 .ensures)))

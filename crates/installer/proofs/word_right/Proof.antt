@@ -1,0 +1,20 @@
+use mathlib.Core.Path.{refl}
+use borrow.Author.Needs.{needs}
+use native.Mathlib.Omega.{arith}
+use lib.Bits.{and-le-r}
+use Rattle.rules.specs.Policies.{wordBytes}
+use Rattle.installer.proofs.Words.{fit, unfit, fill, together}
+use Rattle.installer.proofs.word_right.Statement.{statement}
+use Rattle.installer.proofs.word_right.Tie as tie
+
+pub word-right-spec : {M : Type 1} → statement M
+word-right-spec =
+    tie.close
+    (tie.spec
+    (λ c κs. search needs)
+    (λ c. unfit _ _ _ (c .before .states-right .ensures) (c .if1 .taken))
+    (λ c. let f = fit (c .before .before .args .states) _ (c .before .states-right .ensures) (c .if1 .left) in omega (arith, f .1))
+    (λ c. search needs)
+    (λ c. let f = fit (c .before .before .args .states) _ (c .before .states-right .ensures) (c .if1 .left) in record { fits = omega (arith, f .0, and-le-r (c .before .before .args .w) (fill 127 wordBytes)) })
+    (λ c. record { fits = omega (arith, and-le-r (c .before .before .args .w) (fill 127 wordBytes)) })
+    (λ c. let f = fit (c .before .before .args .states) _ (c .before .states-right .ensures) (c .if1 .left) in together (c .before .before .args .states) (f .0) (f .1) _ _ _ _ _ (omega arith) refl refl refl))
