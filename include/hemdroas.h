@@ -75,6 +75,11 @@ void hemdroas_rewrite(const uint32_t layout[7], const uint64_t *words, size_t n,
 /* Checks that n commands, run under this layout, keep to sandbox and policy. */
 void hemdroas_check  (const uint32_t layout[7], const uint64_t *commands, size_t n, uint32_t answer[2]);
 
+/* 1 if states is 1 to 16 and each of the word's four bytes is below states or
+ * 255, else 0: the test that installing makes of the policy's table, four
+ * bytes together. */
+uint32_t hemdroas_word_right(uint32_t states, uint32_t word);
+
 /* Writes the start state to cell M and the policy's table from cell P on, and
  * yields a machine at the first command. states must be the layout's S, len
  * 16 times that; table[16 * s + e] is the state after event e in state s, or

@@ -182,6 +182,58 @@ fn running(name: &str, words: &[u64], table: &[u8]) {
     );
 }
 
+/// A word of a table tested byte by byte; a call of its own, as the library's
+/// test of a word is.
+#[inline(never)]
+extern "C" fn byte_by_byte(states: u32, word: u32) -> bool {
+    let known = |&to: &u8| u32::from(to) < states || to == 255;
+    (1..=16).contains(&states) && word.to_le_bytes().iter().all(known)
+}
+
+/// How many words of the next table are right. Each call takes the next of the
+/// tables; with many, as each installation has its own, none is learnt by heart.
+fn tester<'a>(
+    tables: &'a [[u32; 64]],
+    test: impl Fn(u32, u32) -> bool + 'a,
+) -> impl FnMut() -> usize + 'a {
+    let mut turn = 0;
+    move || {
+        turn = (turn + 1) % tables.len();
+        let states = black_box(16);
+        let right = |&&word: &&u32| test(states, word);
+        tables[turn].iter().filter(right).count()
+    }
+}
+
+fn table_test(name: &str, tables: &[[u32; 64]]) {
+    let mut by_word = tester(tables, native::word_right);
+    let mut by_byte = tester(tables, |states, word| byte_by_byte(states, word));
+    assert_eq!((by_word(), by_byte()), (64, 64));
+    figure(
+        name,
+        64,
+        "word",
+        &mut || _ = black_box(by_word()),
+        &mut || _ = black_box(by_byte()),
+    );
+}
+
+/// Tables of sixteen states; half of the entries is no arrow.
+fn right_tables() -> Vec<[u32; 64]> {
+    let mut state = 11_u64;
+    let mut byte = || {
+        state = state
+            .wrapping_mul(6_364_136_223_846_793_005)
+            .wrapping_add(1);
+        match state >> 60 {
+            0..8 => 255,
+            _ => (state >> 56) as u8 % 16,
+        }
+    };
+    let mut word = || u32::from_le_bytes([byte(), byte(), byte(), byte()]);
+    (0..100).map(|_| [(); 64].map(|()| word())).collect()
+}
+
 fn main() {
     println!(
         "Nanoseconds per unit, over {ROUNDS} rounds of at least {} microseconds each.\n",
@@ -255,6 +307,10 @@ fn main() {
         &mut || _ = black_box(native::write(black_box(&words), black_box(&mut theirs))),
         &mut || _ = black_box(model::write(black_box(&words), black_box(&mut ours))),
     );
+
+    let tables = right_tables();
+    table_test("table test: by word / by byte", &tables);
+    table_test("table test, one table over and over", &tables[..1]);
 
     let policy = Policy {
         states: 16,

@@ -11,4 +11,4 @@ pub use bundles::{bundle_count, check, rewrite};
 pub use bytes::{read, write};
 pub use layout::{is_right, mask};
 pub use loading::{load, load_record};
-pub use machine::{install, install_record, run, run_record};
+pub use machine::{install, install_record, run, run_record, word_right};

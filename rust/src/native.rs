@@ -34,6 +34,7 @@ extern "C" {
         n: usize,
         answer: *mut [u32; 2],
     );
+    fn hemdroas_word_right(states: u32, word: u32) -> u32;
     fn hemdroas_install(
         layout: *const [u32; 7],
         states: u32,
@@ -175,6 +176,17 @@ pub fn check(layout: &Layout, commands: &[u64]) -> Answer {
         );
     }
     answer(pair)
+}
+
+/// Whether there are 1 to 16 states and each of a word's four bytes is one of
+/// them or no arrow: the test of a policy's table, four bytes together.
+#[inline]
+pub fn word_right(states: u32, word: u32) -> bool {
+    match unsafe { hemdroas_word_right(states, word) } {
+        0 => false,
+        1 => true,
+        number => panic!("the library answered {number}, which is neither yes nor no"),
+    }
 }
 
 /// Writes the policy into memory and yields a machine at the first command;

@@ -701,6 +701,29 @@ fn installing(tally: &mut Tally, rng: &mut Rng) {
     }
 }
 
+/// Each number of states, with bytes at the bounds in each place of the table.
+fn each_byte_of_a_table(tally: &mut Tally, rng: &mut Rng) {
+    for states in 1..=16 {
+        let mut layout = right_layout(rng, 1);
+        while layout.states != states {
+            layout = right_layout(rng, 1);
+        }
+        let (start, table) = policy(rng, states, 50);
+        for at in 0..table.len() {
+            let near = states as u8;
+            for byte in [near - 1, near, 16, 127, 128, 254, 255] {
+                let mut table = table.clone();
+                table[at] = byte;
+                let start_and_table = (start, table);
+                let mut memory = rng.cells(layout.cells as usize);
+                let record = some_record(rng);
+                let installed = as_policy(&layout, &start_and_table);
+                let _ = install(tally, &layout, &installed, &mut memory, record);
+            }
+        }
+    }
+}
+
 fn loading(tally: &mut Tally, rng: &mut Rng) {
     for _ in 0..30_000 {
         let bytes = some_bytes(rng);
@@ -999,6 +1022,42 @@ fn sample() {
     assert_eq!((log[..4].to_vec(), memory[0]), (vec![0, 70, 2, 70], 1));
 }
 
+/// Each byte in each place of a word, beside bytes that are right and one that
+/// may be wrong, for every number of states from 0 to 20 and some far ones.
+#[test]
+fn the_test_of_one_word_is_that_of_its_bytes() {
+    let (mut cases, mut right) = (0_u64, 0_u64);
+    let mut compare = |states: u32, bytes: [u8; 4]| {
+        let word = u32::from_le_bytes(bytes);
+        let answer = native::word_right(states, word);
+        let expected = model::word_right(states, word);
+        assert_eq!(answer, expected, "{word:08x} for {states} states");
+        cases += 1;
+        right += u64::from(answer);
+    };
+    let mut rng = Rng::new(seed(3));
+    for states in (0..=20).chain([31, 32, 127, 128, 129, 255, 256, 272, 1 << 31, u32::MAX]) {
+        let last = states.wrapping_sub(1) as u8;
+        for beside in [0, last, 255, 254, last.wrapping_add(1)] {
+            for place in 0..4 {
+                for byte in 0..=255 {
+                    let mut bytes = [beside; 4];
+                    bytes[place] = byte;
+                    compare(states, bytes);
+                }
+            }
+        }
+        for _ in 0..20_000 {
+            let mut near =
+                || rng.pick(&[0, last, last, last.wrapping_add(1), 127, 128, 254, 255, 255]);
+            compare(states, [near(), near(), near(), near()]);
+            compare(states, rng.word().to_le_bytes());
+        }
+    }
+    say(&format!("words: {cases} cases, {right} of them right"));
+    assert!(cases >= 1_000_000 && right >= 10_000);
+}
+
 #[test]
 fn the_library_does_what_the_model_does() {
     sample();
@@ -1012,6 +1071,7 @@ fn the_library_does_what_the_model_does() {
         ("each bit of a bundle", each_bit_of_a_bundle),
         ("checking", checking),
         ("installing", installing),
+        ("each byte of a table", each_byte_of_a_table),
         ("loading", loading),
         ("each bit of a command", each_bit_of_a_command),
         ("hand-made runs", hand_made_runs),

@@ -12,12 +12,12 @@ ghost use Prim.Native.Nat.{_<_, _^_};
 ghost use lib.ListN.{length};
 ghost use lib.Dec.{eqb};
 ghost use Rattle.rules.specs.Layouts.{rightLayout};
-ghost use Rattle.rules.specs.Policies.{policyOf};
+ghost use Rattle.rules.specs.Policies.{policyOf, wordRight};
 ghost use Rattle.rules.specs.Bytes.{readAnswer, readOutput, writeAnswer, writeOutput};
 ghost use Rattle.rules.specs.Bundles.{rewriteAnswer, rewriteOutput, checkAnswer};
 ghost use Rattle.rules.specs.Machines.{installAnswer, installMachine, installMemory};
 ghost use Rattle.rules.specs.Loading.{loadAnswer, loadMachine, loadCommands, loadMemory, layoutFrom, statusFrom, statusNumber, machineFrom, machineTo, answerTo, runAnswerTo, recordAfter};
-ghost use Rattle.capi.specs.Hosts.{layoutHeld, runFor};
+ghost use Rattle.capi.specs.Hosts.{layoutHeld, runFor, yesOrNo};
 
 // The greatest B.
 const TOP_BASE: u32 = 65535;
@@ -174,6 +174,17 @@ pub extern "C" fn hemdroas_check(layout: &[u32; 7], commands: &[u64], answer: &m
     ensures { λ _. ⌜ now (answer .exit) ≡ answerTo (checkAnswer (layoutFrom (now (layout .entry))) (now (commands .entry))) ⌝ }
 {
     *answer = answer_of(checker::check(layout_of(*layout), commands));
+}
+
+// Whether four bytes of a policy's table, as one word, are right: 1 for yes, 0 for no.
+#[no_mangle]
+pub extern "C" fn hemdroas_word_right(states: u32, word: u32) -> u32
+    ensures { λ r. ⌜ r ≡ yesOrNo (wordRight states word) ⌝ }
+{
+    if installer::word_right(states, word) {
+        return 1;
+    }
+    0
 }
 
 // Installs a policy.
