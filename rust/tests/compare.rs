@@ -1062,7 +1062,7 @@ fn the_test_of_one_word_is_that_of_its_bytes() {
 fn the_library_does_what_the_model_does() {
     sample();
     type Part = fn(&mut Tally, &mut Rng);
-    let parts: [(&str, Part); 13] = [
+    let parts: [(&str, Part); 14] = [
         ("reading", reading),
         ("writing", writing),
         ("each bit of an instruction", each_bit_of_an_instruction),
