@@ -4,7 +4,7 @@ use mathlib.Core.Path.{_≡_, refl, sym, _∙_, ap, subst}
 use mathlib.Core.Bool.{Bool, true, false, cond}
 use mathlib.Core.Logic.{_⊎_, inl, inr, ⊎-elim}
 use mathlib.Core.List.{List, []}
-use Prim.Native.Nat.{ℕ, zero, suc, _+_, _-_, _*_, _/_, _%_, _<_, _≤_}
+use Prim.Native.Nat.{ℕ, zero, suc, _+_, _-_, _*_, _/_, _%_, _^_, _<_, _≤_}
 use native.Mathlib.Omega.{arith}
 use borrow.Author.Tests.{le-ltb, ne-eqb, eq-eqb}
 use lib.Dec.{eqb, ltb}
@@ -24,7 +24,7 @@ use Rattle.rules.specs.Names.{orders, noArrow, bundleLength, hidden}
 use Rattle.rules.specs.Policies.{Policy}
 use Rattle.rules.specs.Commands.{fetchOf, holdsOf}
 use Rattle.rules.specs.Bundles.{addressOf, positionOf, shapeOf, bundleAt}
-use Rattle.rules.specs.Machines.{State, View, regAt, ifCell, entryOf, onward, effectOf, applyOf, seen, nextOf, stepOf, unlessWait, runFrom, startOf, runOf, fits, installMemory}
+use Rattle.rules.specs.Machines.{State, Ran, View, regAt, ifCell, entryOf, onward, effectOf, applyOf, seen, nextOf, stepOf, unlessWait, runFrom, startOf, runOf, fits, installMemory}
 use Rattle.rules.specs.Guests.{Pair, Guest, rOf, guestStart}
 use Rattle.rules.specs.Runs.{begins, begunFrom, runOn, afterTaken, afterRun, after, eventIn}
 use Rattle.rules.specs.Claims.{Stands, Progress}
@@ -196,18 +196,21 @@ record Came (lay : Layout) (ws rd : List ℕ) (most k b b₂ : ℕ) (s : State) 
   stands : Stands lay (runFrom lay ws rd j k s .outcome .machine)
   begun : begunFrom lay ws rd j b s ≡ b₂
 
+one-more : (j most : ℕ) → j ≤ most → suc j ≤ suc most
+one-more j most l = omega arith
+
 -- now, and after one step
 came-now : (lay : Layout) (ws rd : List ℕ) (most k b : ℕ) (s : State) → StandsIn lay s → Came lay ws rd most k b b s
 unfolding runFrom begunFrom
 came-now lay ws rd most k b s x = record { j = 0; few = omega arith; stands = x; begun = refl }
 
-came-then : (lay : Layout) (ws rd : List ℕ) (most k b b₂ : ℕ) (s : State) → s .status ≡ Running → Goes (nextOf lay ws rd s) → Came lay ws rd most (k + 1) (b + begins lay (s .pc)) b₂ (stepOf lay ws rd s) → Came lay ws rd (suc most) k b b₂ s
-came-then lay ws rd most k b b₂ s run go c =
+came-then : (lay : Layout) (ws rd : List ℕ) (most k b b₁ b₂ : ℕ) (s : State) → s .status ≡ Running → Goes (nextOf lay ws rd s) → b + begins lay (s .pc) ≡ b₁ → Came lay ws rd most (k + 1) b₁ b₂ (stepOf lay ws rd s) → Came lay ws rd (suc most) k b b₂ s
+came-then lay ws rd most k b b₁ b₂ s run go z c =
     record {
       j = suc (c .j);
-      few = omega (arith, c .few);
-      stands = rw (run-step lay ws rd s run go (c .j) k) (c .stands);
-      begun = begun-step lay ws rd s run go (c .j) b ∙ c .begun;
+      few = one-more (c .j) most (c .few);
+      stands = subst (λ (r : Ran). Stands lay (r .outcome .machine)) (sym (run-step lay ws rd s run go (c .j) k)) (c .stands);
+      begun = begun-step lay ws rd s run go (c .j) b ∙ ap (λ (x : ℕ). begunFrom lay ws rd (c .j) x (stepOf lay ws rd s)) z ∙ c .begun;
     }
 
 running : (t : Status) → (t ≡ Running) ⊎ (t ≡ Running → ⊥)
@@ -215,6 +218,26 @@ running Running = inl refl
 running Ended = inr (λ x. no (cc))
 running Stopped = inr (λ x. no (cc))
 running Faulted = inr (λ x. no (cc))
+
+-- ---- addresses, as numbers: one on from position p of bundle h
+goes-on : (base n h p pc to : ℕ) → base + bundleLength * n ≤ 2 ^ 32 → h < n → p < 3 → pc ≡ base + bundleLength * h + p → to ≡ onward pc → to ≡ base + bundleLength * h + suc p
+goes-on base n h p pc to room lh lp e f = omega arith
+
+goes-next : (base n h p pc to : ℕ) → base + bundleLength * n ≤ 2 ^ 32 → h < n → p + 1 ≡ bundleLength → pc ≡ base + bundleLength * h + p → to ≡ onward pc → (to - base) % bundleLength ≡ 0
+goes-next base n h p pc to room lh lp e f = omega arith
+
+within : (base h p to : ℕ) → p < 3 → to ≡ base + bundleLength * h + suc p → (to - base) % bundleLength ≡ 0 → ⊥
+within base h p to lp e z = omega arith
+
+plus-none : (b x : ℕ) → x ≡ 0 → b + x ≡ b
+plus-none b x e = omega arith
+
+-- positions left after the next one
+left : (r p : ℕ) → p + suc (suc r) ≡ bundleLength → suc p + suc r ≡ bundleLength
+left r p e = omega arith
+
+more-left : (r p : ℕ) → p + suc (suc r) ≡ bundleLength → p < 3
+more-left r p e = omega arith
 
 module _ (lay : Layout) (pol : Policy) (ws : List ℕ) (n : ℕ) (is : ℕ → Instr) (ok : Right lay pol n) (bs : Bundled lay ws n is) (past : List Pair) (u0 rd : List ℕ) (g0 : Guest) where
   sim-moves : (s : State) (g : Guest) (k b : ℕ) → s .status ≡ Running → Sim lay pol n is g k b s → Moves lay rd s (nextOf lay ws rd s)
@@ -237,18 +260,19 @@ module _ (lay : Layout) (pol : Policy) (ws : List ℕ) (n : ℕ) (is : ℕ → I
   reach zero p h k b b₂ s e lh z w run pc room =
       let go = goes lay rd (fetchOf ws (lay .base) (s .pc)) s room in
       let t = tracks lay pol ws n is ok bs past u0 rd g0 b s w in
-      came-then lay ws rd 0 k b b₂ s run go
-      (rw z (came-now lay ws rd 0 (k + 1) b₂ (stepOf lay ws rd s) (⊎-elim (λ y. inl (omega (arith, y, ok .room))) (λ y. y) (sim-moves s _ (t .0) b run (t .1 .sim) go))))
+      came-then lay ws rd 0 k b b₂ b₂ s run go z
+      (came-now lay ws rd 0 (k + 1) b₂ (stepOf lay ws rd s) (⊎-elim (λ y. inl (goes-next (lay .base) n h p (s .pc) _ (ok .room) lh e pc y)) (λ y. y) (sim-moves s _ (t .0) b run (t .1 .sim) go)))
   reach (suc r) p h k b b₂ s e lh z w run pc room =
       let go = goes lay rd (fetchOf ws (lay .base) (s .pc)) s room in
       let t = tracks lay pol ws n is ok bs past u0 rd g0 b s w in
+      let lp = more-left r p e in
       let now : StandsIn lay (stepOf lay ws rd s) → Came lay ws rd (suc r) (k + 1) b₂ b₂ (stepOf lay ws rd s) = λ y. came-now lay ws rd (suc r) (k + 1) b₂ (stepOf lay ws rd s) y in
       let more : stepOf lay ws rd s .pc ≡ onward (s .pc) → stepOf lay ws rd s .status ≡ Running → Came lay ws rd (suc r) (k + 1) b₂ b₂ (stepOf lay ws rd s) =
       λ y l.
-      let to : stepOf lay ws rd s .pc ≡ addressOf lay h + suc p = omega (arith, y, ok .room) in
-      reach r (suc p) h (k + 1) b₂ b₂ (stepOf lay ws rd s) (omega arith) lh (omega (arith, first-no lay (stepOf lay ws rd s .pc) (λ x. omega arith))) (rw z at (step-known lay pol ws n is ok bs past u0 rd g0 b s w run go)) l to (room-on s h p lh (omega arith) pc room) in
-      came-then lay ws rd (suc r) k b b₂ s run go
-      (rw z (⊎-elim (λ y. ⊎-elim (λ l. more y l) (λ l. now (inr l)) (running (stepOf lay ws rd s .status))) (λ y. now y) (sim-moves s _ (t .0) b run (t .1 .sim) go)))
+      let to : stepOf lay ws rd s .pc ≡ addressOf lay h + suc p = goes-on (lay .base) n h p (s .pc) _ (ok .room) lh lp pc y in
+      reach r (suc p) h (k + 1) b₂ b₂ (stepOf lay ws rd s) (left r p e) lh (plus-none b₂ _ (first-no lay (stepOf lay ws rd s .pc) (within (lay .base) h p _ lp to))) (subst (λ (x : ℕ). Known lay pol n is past u0 rd g0 x (stepOf lay ws rd s)) z (step-known lay pol ws n is ok bs past u0 rd g0 b s w run go)) l to (room-on s h p lh lp pc room) in
+      came-then lay ws rd (suc r) k b b₂ b₂ s run go z
+      (⊎-elim (λ y. ⊎-elim (λ l. more y l) (λ l. now (inr l)) (running (stepOf lay ws rd s .status))) (λ y. now y) (sim-moves s _ (t .0) b run (t .1 .sim) go))
 
   from-stand : (b : ℕ) (s : State) → Known lay pol n is past u0 rd g0 b s → s .status ≡ Running → StandsIn lay s → Room rd s → Came lay ws rd bundleLength 0 b (b + 1) s
   from-stand b s w run (inr x) room = absurd (x run)
