@@ -204,6 +204,9 @@ module _ (x : ℕ) where
       cond-ind (λ (l : List ℕ). length l ≡ 4 * bitOf x) (eqb x 0)
       (λ h. omega (arith, eqb-true x 0 h)) (λ h. omega (arith, eqb-false x 0 h))
 
+pub bit-le : (x : ℕ) → bitOf x ≤ 1
+bit-le x = omega arith
+
 rearrange : (p q r t x y : ℕ) → suc (p + (q + r + (t + x) + 4 * y)) ≡ 1 + p + q + r + t + x + 4 * y
 rearrange p q r t x y = omega arith
 

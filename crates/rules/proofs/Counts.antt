@@ -1,6 +1,6 @@
 -- Bounds of what the parts answer: numbers fit a byte, places and counts their outputs.
 use Prim.Native.Nat.{ℕ, zero, suc, _+_, _-_, _*_, _/_, _^_, _≤_, _<_}
-use mathlib.Core.Path.{_≡_, refl, sym, _∙_, ap}
+use mathlib.Core.Path.{_≡_, refl, sym, _∙_, ap, subst}
 use mathlib.Core.Bool.{_&&_}
 use mathlib.Core.List.{List, [], _∷_}
 use native.Mathlib.Omega.{arith}
@@ -31,7 +31,7 @@ use Rattle.rules.specs.Machines.{View, State, Ran, fits, installAnswer, 
 use Rattle.rules.specs.Loading.{loadAnswer}
 use Rattle.rules.proofs.Bools.{cond-ind, both}
 use Rattle.rules.proofs.Refusals.{taken-then}
-use Rattle.rules.proofs.Bytes.{length-fields, length-routine}
+use Rattle.rules.proofs.Bytes.{bit-le, length-fields, length-routine}
 use Rattle.rules.proofs.Masks.{sizes}
 use Rattle.rules.proofs.Conditions.{length-bundles}
 
@@ -117,10 +117,17 @@ read-bound s room =
     (λ e. cond-ind (Bounded mostInstructions room) (ltb room (countOf s)) (λ _. at-start _ _ _ (lit< tt))
     (λ f. widen (ltb-false _ _ e) (ltb-false _ _ f) (scan-bound (countOf s) 0 (countOf s) (drop 2 s) (omega arith)))))
 
+-- a map, five bytes and a number of four
+ten-each : (n k d a b c v x r : ℕ) → k ≤ 1 → d ≤ 1 → a ≤ 1 → b ≤ 1 → c ≤ 1 → v ≤ 1 → x ≡ 1 + k + d + a + b + c + 4 * v → r ≤ 10 * n → x + r ≤ 10 * suc n
+ten-each n k d a b c v x r lk ld la lb lc lv e l = omega arith
+
 bytes-bound : (ws : List ℕ) → length (bytesOf ws) ≤ 10 * length ws
 unfolding bytesOf
 bytes-bound [] = omega arith
-bytes-bound (w ∷ ws) = omega (arith, length-append (oneOut w) (bytesOf ws), length-fields (fieldsOf w), bytes-bound ws)
+bytes-bound (w ∷ ws) =
+    let f = fieldsOf w in
+    subst (λ (x : ℕ). x ≤ 10 * suc (length ws)) (sym (length-append (oneOut w) (bytesOf ws)))
+    (ten-each (length ws) _ _ _ _ _ _ _ _ (bit-le (f .kind)) (bit-le (f .d)) (bit-le (f .a)) (bit-le (f .b)) (bit-le (f .c)) (bit-le (f .v)) (length-fields f) (bytes-bound ws))
 
 pub write-bound : (ws : List ℕ) (room : ℕ) → Bounded mostBytes room (writeAnswer ws room)
 unfolding writeAnswer

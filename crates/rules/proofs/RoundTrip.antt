@@ -22,7 +22,7 @@ use Rattle.rules.proofs.Bools.{cond-ind}
 use Rattle.rules.proofs.Refusals.{TakesEach, output-start}
 use Rattle.rules.proofs.WordLaws.{bounds, clean, fields-pack, pack-fields}
 use Rattle.rules.proofs.Bytes.{one-read, one-fields, fields-are, fields-word, read-ok, named, Named, read-scan}
-use Rattle.rules.proofs.Bytes.{byte-some, byte-none, quad-some, quad-none, length-byte, length-fields, write-ok, write-taken}
+use Rattle.rules.proofs.Bytes.{byte-some, byte-none, quad-some, quad-none, bit-le, length-byte, length-fields, write-ok, write-taken}
 
 -- each element of a list of bytes
 Bytes : List ℕ → Type 0
@@ -102,9 +102,6 @@ record Bits (m : ℕ) (f : Fields) : Type 0 where
 
 regroup2 : (x0 x1 x2 x3 x4 x5 : ℕ) → x0 + 2 * x1 + 4 * x2 + 8 * x3 + 16 * x4 + 32 * x5 ≡ x0 + 2 * (x1 + 2 * (x2 + 2 * (x3 + 2 * (x4 + 2 * x5))))
 regroup2 x0 x1 x2 x3 x4 x5 = omega arith
-
-bit-le : (x : ℕ) → bitOf x ≤ 1
-bit-le x = omega arith
 
 bits : (m : ℕ) (f : Fields) → m ≡ mapOf f → Bits m f
 bits m f e =

@@ -1,11 +1,11 @@
 -- The premises of the claims can be met, and the definitions compute.
 use mathlib.Core.Path.{_≡_, refl, sym, _∙_, ap}
 use mathlib.Core.Bool.{false, _||_}
-use mathlib.Core.List.{List}
+use mathlib.Core.List.{List, [], _∷_}
 use Prim.Native.Nat.{ℕ}
 use native.Mathlib.Omega.{arith}
 use lib.Count.{ones, leadingZeros}
-use lib.ListN.{set}
+use lib.ListN.{set, replicate}
 use lib.Seq.{getD-set-other}
 use Rattle.rules.specs.Layouts.{rightLayout, inBox, inTable, protected}
 use Rattle.rules.specs.Policies.{rightPolicy}
@@ -13,10 +13,10 @@ use Rattle.rules.specs.Words.{instrOf, routine, bundlesFor}
 use Rattle.rules.specs.Commands.{isCommand, commandOf, wordOf, fetchOf, plainOf}
 use Rattle.rules.specs.Bundles.{shapeOf, bundleWord, rewritten, valid, readOff, bundleAt, isBundle, shapedAt, passesAt, checkFrom, checkAnswer}
 use Rattle.rules.specs.Machines.{installAnswer, installMemory, installMachine, effectOf, applyOf, runFrom, runOf}
-use Rattle.rules.specs.Guests.{sentOf, doOf, guestStep, guestAfter}
-use Rattle.rules.specs.Runs.{begins, begunFrom, runOn, afterTaken, afterRun, afterRuns, runsOf, Matches, Served}
-use Rattle.rules.specs.Claims.{Each, Alike}
-use Rattle.rules.specs.Sample.{layout, policy, commands, memory, left, runs, SampleHolds}
+use Rattle.rules.specs.Guests.{going, stopped, pairOf, Guest, guestOf, sentOf, doOf, guestStep, guestAfter, guestStart}
+use Rattle.rules.specs.Runs.{begins, begunFrom, runOn, afterTaken, afterRun, afterRuns, runsOf, Matches, Served, allRuns}
+use Rattle.rules.specs.Claims.{Each, Alike, Same}
+use Rattle.rules.specs.Sample.{layout, policy, code, commands, memory, left, runs, SampleHolds}
 use Rattle.rules.proofs.Bools.{no}
 use Rattle.rules.proofs.Isolation.{isolation}
 
@@ -57,18 +57,34 @@ given-alike x y = (
   ),
 )
 
+same-with : (x y : ℕ) → Each (Same layout) (allRuns layout policy commands (memory x) (runs x)) (allRuns layout policy commands (memory y) (runs y))
+same-with x y = isolation layout policy commands (memory x) (runs x) (served-with x) .alone policy (memory y) (runs y) (served-with y) (alike-in x y) (given-alike x y)
+
+-- the guest, instruction by instruction
+guest-with : (x : ℕ) → guestAfter layout policy 8 (routine code) [] (guestStart layout policy (installMemory layout policy (memory x))) 4 .records ≡ pairOf 0 70 ∷ pairOf 2 70 ∷ []
+unfolding guestAfter guestStep doOf sentOf plainOf instrOf routine
+guest-with x =
+    let g = guestStart layout policy (installMemory layout policy (memory x)) in
+    let step : Guest → Guest = guestStep layout policy 8 (routine code) [] in
+    let regs : List ℕ = 70 ∷ replicate 7 0 in
+    let one : step g ≡ guestOf regs 1 (g .box) 0 [] 0 going = refl in
+    let two : step (step g) ≡ guestOf regs 2 (g .box) 0 (pairOf 0 70 ∷ []) 0 going = ap step one in
+    let three : step (step (step g)) ≡ guestOf regs 3 (g .box) 1 (pairOf 0 70 ∷ pairOf 2 70 ∷ []) 0 going = ap step two in
+    let four : step (step (step (step g))) ≡ guestOf regs 3 (g .box) 1 (pairOf 0 70 ∷ pairOf 2 70 ∷ []) 0 stopped = ap step three in
+    ap (λ (y : Guest). y .records) four
+
 pub sample-holds : SampleHolds
-unfolding ones leadingZeros rightLayout rightPolicy instrOf routine bundlesFor wordOf shapeOf bundleWord rewritten isCommand commandOf fetchOf plainOf installAnswer installMemory installMachine effectOf applyOf runFrom runOf begins begunFrom runOn afterTaken afterRun afterRuns runsOf sentOf doOf guestStep guestAfter
+unfolding ones leadingZeros rightLayout rightPolicy instrOf routine bundlesFor wordOf shapeOf bundleWord rewritten isCommand commandOf fetchOf plainOf installAnswer installMemory installMachine effectOf applyOf runFrom runOf begins begunFrom runOn afterTaken afterRun afterRuns runsOf
 sample-holds =
     record {
       served = served-with;
       matches = alike-in;
       alike = given-alike;
-      same = λ x y. isolation layout policy commands (memory x) (runs x) (served-with x) .alone policy (memory y) (runs y) (served-with y) (alike-in x y) (given-alike x y);
+      same = same-with;
       answers = λ x. refl;
       recorded = λ x. refl;
       state = λ x. refl;
       begun = λ x. refl;
-      guest = λ x. refl;
+      guest = guest-with;
       reading = λ x. refl;
     }
