@@ -6,7 +6,7 @@ use mathlib.Core.List.{List, [], _∷_}
 use Prim.Native.Nat.{ℕ, zero, suc, _+_, _-_, _*_, _/_, _%_, _^_, _<_, _≤_}
 use native.Mathlib.Omega.{arith}
 use borrow.Author.Tests.{ltb-true, ltb-false, lt-ltb, le-ltb, le-leb, eq-eqb, ne-eqb}
-use lib.Dec.{ltb}
+use lib.Dec.{ltb, lit<}
 use lib.Count.{trailingZeros}
 use lib.ListN.{length, getD}
 use lib.Seq.{ext-getD}
@@ -24,30 +24,56 @@ use Rattle.rules.proofs.Bools.{cases}
 use Rattle.rules.proofs.Masks.{one-bit, sizes}
 use Rattle.rules.proofs.Refusals.{none-refused, output-start}
 use Rattle.rules.proofs.Counts.{length-commands, rewrite-taken as answer-taken}
-use Rattle.rules.proofs.Packing.{pack-kind, pack-d, pack-a, pack-b, pack-c, pack-v}
+use Rattle.rules.proofs.Packing.{InBits, guest-bits, condition-bits, pack-kind, pack-d, pack-a, pack-b, pack-c, pack-v}
 use Rattle.rules.proofs.GuestWords.{guestWord, guest-taken, guest-instr}
 use Rattle.rules.proofs.Conditions.{Passed, passed-of, passed-valid, passed-word, passed-last, Taken, taken-of, past-end, some-ones, size-laws, count-most, routine-valid, routine-last, routine-length, routine-word, bundled-of}
 
 -- ---- an instruction is read off its bundle
+
+-- a command kind of a plain instruction is none of the others' first kinds
+record PlainKind (k : ℕ) : Type 0 where
+  in-bits : k + 1 < 2 ^ 8
+  no-halt : k + 1 ≡ 1 → ⊥
+  no-and : k + 1 ≡ 9 → ⊥
+  no-shl : k + 1 ≡ 11 → ⊥
+  no-goif : k + 1 ≡ 14 → ⊥
+  no-look : k + 1 ≡ 16 → ⊥
+  back : k + 1 - 1 ≡ k
+
+plain-kind : (k : ℕ) → 1 ≤ k → k ≤ 7 → PlainKind k
+plain-kind k l h = omega arith
+
+-- the bundle at an address
+bundle-of : (base v : ℕ) → (base + bundleLength * v - base) / bundleLength ≡ v
+bundle-of base v = omega arith
 
 module _ (lay : Layout) (n : ℕ) where
   bundle-back : (i : Instr) → Valid n i → readOff lay (bundleWord lay n i 0) (bundleWord lay n i 2) (bundleWord lay n i 3) ≡ i
   unfolding readOff bundleWord shapeOf wordOf
   bundle-back HALT g = refl
   bundle-back (PLAIN k d a b v) g =
-      let one : k + 1 - 1 ≡ k = omega arith in
-      rw (pack-kind (k + 1) d a b 0 v (omega arith), pack-d (k + 1) d a b 0 v (omega arith), pack-a (k + 1) d a b 0 v (omega arith), pack-b (k + 1) d a b 0 v (omega arith), pack-v (k + 1) d a b 0 v (omega arith))
-      (rw (ne-eqb (k + 1) 1 (omega arith), ne-eqb (k + 1) 9 (omega arith), ne-eqb (k + 1) 14 (omega arith), ne-eqb (k + 1) 11 (omega arith), ne-eqb (k + 1) 16 (omega arith), one))
+      let l = plain-kind k (g .0) (g .1) in
+      let h : InBits (k + 1) d a b 0 = (l .in-bits, guest-bits d (g .2), guest-bits a (g .3), guest-bits b (g .4), lit< tt) in
+      rw (pack-kind (k + 1) d a b 0 v h, pack-d (k + 1) d a b 0 v h, pack-a (k + 1) d a b 0 v h, pack-b (k + 1) d a b 0 v h, pack-v (k + 1) d a b 0 v h)
+      (rw (ne-eqb (k + 1) 1 (l .no-halt), ne-eqb (k + 1) 9 (l .no-and), ne-eqb (k + 1) 14 (l .no-goif), ne-eqb (k + 1) 11 (l .no-shl), ne-eqb (k + 1) 16 (l .no-look), l .back))
   bundle-back (LOAD d a) g =
-      rw (pack-kind 9 hidden a 0 0 (lay .high) (omega arith), pack-kind 12 d hidden 0 0 0 (omega arith), pack-d 12 d hidden 0 0 0 (omega arith), pack-a 9 hidden a 0 0 (lay .high) (omega arith))
+      let h : InBits 9 hidden a 0 0 = (lit< tt, lit< tt, guest-bits a (g .1), lit< tt, lit< tt) in
+      let j : InBits 12 d hidden 0 0 = (lit< tt, guest-bits d (g .0), lit< tt, lit< tt, lit< tt) in
+      rw (pack-kind 9 hidden a 0 0 (lay .high) h, pack-kind 12 d hidden 0 0 0 j, pack-d 12 d hidden 0 0 0 j, pack-a 9 hidden a 0 0 (lay .high) h)
   bundle-back (STORE a b) g =
-      rw (pack-kind 9 hidden a 0 0 (lay .high) (omega arith), pack-kind 13 0 hidden b 0 0 (omega arith), pack-a 9 hidden a 0 0 (lay .high) (omega arith), pack-b 13 0 hidden b 0 0 (omega arith))
+      let h : InBits 9 hidden a 0 0 = (lit< tt, lit< tt, guest-bits a (g .0), lit< tt, lit< tt) in
+      let j : InBits 13 0 hidden b 0 = (lit< tt, lit< tt, lit< tt, guest-bits b (g .1), lit< tt) in
+      rw (pack-kind 9 hidden a 0 0 (lay .high) h, pack-kind 13 0 hidden b 0 0 j, pack-a 9 hidden a 0 0 (lay .high) h, pack-b 13 0 hidden b 0 0 j)
   bundle-back (GOIF a b c v) g =
-      let w : (addressOf lay v - lay .base) / bundleLength ≡ v = omega arith in
-      rw (pack-kind 14 0 a b c (addressOf lay v) (omega arith), pack-a 14 0 a b c (addressOf lay v) (omega arith), pack-b 14 0 a b c (addressOf lay v) (omega arith), pack-c 14 0 a b c (addressOf lay v) (omega arith), pack-v 14 0 a b c (addressOf lay v) (omega arith), w)
+      let h : InBits 14 0 a b c = (lit< tt, lit< tt, guest-bits a (g .0), guest-bits b (g .1), condition-bits c (g .2)) in
+      rw (pack-kind 14 0 a b c (addressOf lay v) h, pack-a 14 0 a b c (addressOf lay v) h, pack-b 14 0 a b c (addressOf lay v) h, pack-c 14 0 a b c (addressOf lay v) h, pack-v 14 0 a b c (addressOf lay v) h, bundle-of (lay .base) v)
   bundle-back (GOX d a b c) g =
-      rw (pack-kind 11 hidden d 0 0 bundleShift (omega arith), pack-a 11 hidden d 0 0 bundleShift (omega arith), pack-a 15 hidden a b c 0 (omega arith), pack-b 15 hidden a b c 0 (omega arith), pack-c 15 hidden a b c 0 (omega arith))
-  bundle-back (EVENT e) g = rw (pack-kind 16 hidden 0 0 0 e (omega arith), pack-v 16 hidden 0 0 0 e (omega arith))
+      let h : InBits 11 hidden d 0 0 = (lit< tt, lit< tt, guest-bits d (g .0), lit< tt, lit< tt) in
+      let j : InBits 15 hidden a b c = (lit< tt, lit< tt, guest-bits a (g .1), guest-bits b (g .2), condition-bits c (g .3)) in
+      rw (pack-kind 11 hidden d 0 0 bundleShift h, pack-a 11 hidden d 0 0 bundleShift h, pack-a 15 hidden a b c 0 j, pack-b 15 hidden a b c 0 j, pack-c 15 hidden a b c 0 j)
+  bundle-back (EVENT e) g =
+      let h : InBits 16 hidden 0 0 0 = (lit< tt, lit< tt, lit< tt, lit< tt, lit< tt) in
+      rw (pack-kind 16 hidden 0 0 0 e h, pack-v 16 hidden 0 0 0 e h)
 
   is-valid : (i : Instr) → Valid n i → valid n i ≡ true
   unfolding valid
