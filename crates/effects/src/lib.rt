@@ -1,9 +1,9 @@
 // What the word at pc would do: a pure decision, applied by the machine.
-use cells::arith;
 use rules::Effect;
 use rules::Ending;
 use rules::Policy;
 use rules::Status;
+use words::arith;
 use words::command;
 ghost use mathlib.Core.Path.{_≡_};
 ghost use mathlib.Core.Bool.{true, cond};

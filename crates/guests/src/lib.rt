@@ -1,0 +1,72 @@
+// The first refusal of a guest word, alone and among others.
+use packing::fields;
+use refusals::TOP_KIND;
+use refusals::judge;
+use rules::Refusal;
+ghost use mathlib.Core.Path.{_≡_};
+ghost use mathlib.Core.Bool.{true};
+ghost use Prim.Native.Nat.{_≤_};
+ghost use Rattle.rules.specs.Names.{topKind};
+ghost use Rattle.rules.specs.Words.{judgeWord, judgeAt};
+ghost use Rattle.guests.specs.Strays.{guestLimits, strayBits};
+
+// The kind with a landing.
+const GOIF: u64 = 10;
+
+// The bits that no instruction of a kind has: those of the fields that it lacks, and those above their bounds.
+fn stray_bits(k: u64) -> u64
+    requires { ⌜ k ≤ topKind ⌝ }
+    ensures { λ r. ⌜ r ≡ strayBits (guestLimits k) ⌝ }
+{
+    match k {
+        0 => 0xFFFF_FFFF_FFFF_FF00,
+        1 => 0x0000_0000_FFFF_F800,
+        2 => 0xFFFF_FFFF_FFFF_8800,
+        3 => 0xFFFF_FFFF_FFF8_8800,
+        4 => 0xFFFF_FFFF_FFF8_8800,
+        5 => 0xFFFF_FFFF_FFF8_8800,
+        6 => 0xFFFF_FFFF_FFF8_8800,
+        7 => 0xFFFF_FFE0_FFFF_8800,
+        8 => 0xFFFF_FFFF_FFFF_8800,
+        9 => 0xFFFF_FFFF_FFF8_8F00,
+        10 => 0x0000_0000_FFC8_8F00,
+        11 => 0xFFFF_FFFF_FFC8_8800,
+        12 => 0xFFFF_FFF0_FFFF_FF00,
+        _ => 0,
+    }
+}
+
+// Whether one AND shows that a word is an instruction, which is the common case.
+fn clean(w: u64) -> bool
+    ensures { λ r. ⌜ (r ≡ true → judgeWord w ≡ 0) ⌝ }
+{
+    let k = w % 256;
+    if k > TOP_KIND {
+        return false;
+    }
+    w & stray_bits(k) == 0
+}
+
+pub fn judge_word(w: u64) -> u8
+    ensures { λ r. ⌜ r ≡ judgeWord w ⌝ }
+{
+    if clean(w) {
+        return Refusal::TAKEN;
+    }
+    judge((w >> 24) % 256, fields(w))
+}
+
+// The first refusal of a word among n instructions, 3, 2, 4 or 8, or 0.
+pub fn judge_at(n: usize, w: u64) -> u8
+    ensures { λ r. ⌜ r ≡ judgeAt n w ⌝ }
+{
+    let number = judge_word(w);
+    let landing_bad = (w % 256 == GOIF) & ((n as u64) < w >> 32);
+    if number != 0 {
+        return number;
+    }
+    if landing_bad {
+        return Refusal::BAD_LANDING;
+    }
+    Refusal::TAKEN
+}
