@@ -1,0 +1,113 @@
+-- Laws of the loops that read, in the form in which the proofs of the functions cite them.
+use mathlib.Core.Path.{_≡_, sym, ap, _∙_}
+use mathlib.Core.List.{List}
+use Prim.Native.Nat.{ℕ, suc, _+_, _-_, _≤_, _<_}
+use native.Mathlib.Omega.{arith}
+use native.Mathlib.Nat.{le-of-eq}
+use native.Mathlib.Numerals.{add-one}
+use lib.ListN.{length, getD, take, drop, set, length-drop}
+use lib.Seq.{sets as stores, sets-eq, length-sets, take-all, drop-cons, take-at}
+use borrow.Author.Tests.{eq-eqb, ne-eqb}
+use Rattle.rules.specs.declared.Answer.{Answer}
+use Rattle.rules.specs.declared.One.{One}
+use Rattle.rules.specs.declared.One.the-variants.{Word, Bad}
+use Rattle.rules.specs.declared.Refusal.the-variants.{Taken, Trailing}
+use Rattle.rules.specs.Names.{mostInstructions, numberOf, answer, refusal}
+use Rattle.rules.specs.Bytes.{oneOf, scanOf, wordsOf, countOf, wordsIn, readAnswer, readOutput}
+use Rattle.rules.proofs.Refusals.{output-kept, output-written}
+use Rattle.rules.proofs.Bytes.{one-read, read-scan, ReadOk, read-ok}
+
+-- ---- the loops
+
+-- the rest of a slice
+rest : (u : ℕ) (t : List ℕ) → u ≤ length t → take (length t - u) (drop u t) ≡ drop u t
+rest u t h = take-all (length t - u) (drop u t) (le-of-eq (length-drop u t))
+
+pub used : (t : List ℕ) (o : One) (w u : ℕ) → o ≡ Word w u → o ≡ oneOf t → u ≤ length t
+used t o w u eo e = one-read t w u (sym eo ∙ e) .fits
+
+-- z is what the whole is to be, and does not change from turn to turn
+module _ (n i : ℕ) (t : List ℕ) (o : One) (e : o ≡ oneOf t) (h : i < n) where
+  left : n - i ≡ suc (n - (i + 1))
+  left = omega arith
+
+  pub scan-more : (w u : ℕ) → o ≡ Word w u → (z : Answer) → z ≡ scanOf (n - i) i t → z ≡ scanOf (n - (i + 1)) (i + 1) (take (length t - u) (drop u t))
+  unfolding scanOf
+  scan-more w u eo z ez = ez ∙ rw (rest u t (used t o w u eo e), left, ← e, eo)
+
+  pub scan-stop : (x : ℕ) → o ≡ Bad x → (z : Answer) → z ≡ scanOf (n - i) i t → answer x i ≡ z
+  unfolding scanOf
+  scan-stop x eo z ez = sym (ez ∙ rw (left, ← e, eo))
+
+  pub fill-more : (w u : ℕ) → o ≡ Word w u → (out z : List ℕ) → z ≡ stores out i (wordsOf (n - i) t)
+      → z ≡ stores (set out i w) (i + 1) (wordsOf (n - (i + 1)) (take (length t - u) (drop u t)))
+  unfolding wordsOf
+  fill-more w u eo out z ez = ez ∙ rw (rest u t (used t o w u eo e), left, ← e, eo, add-one)
+
+  pub fill-stop : (x : ℕ) → o ≡ Bad x → (out z : List ℕ) → z ≡ stores out i (wordsOf (n - i) t) → out ≡ z
+  unfolding wordsOf
+  fill-stop x eo out z ez = sym (ez ∙ rw (left, ← e, eo))
+
+module _ (n i : ℕ) (t : List ℕ) (h : n ≤ i) where
+  none-left : n - i ≡ 0
+  none-left = omega arith
+
+  pub scan-done : i ≤ n → length t ≡ 0 → (z : Answer) → z ≡ scanOf (n - i) i t → answer (numberOf Taken) n ≡ z
+  unfolding scanOf
+  scan-done g l z ez =
+      let d : i ≡ n = omega arith in
+      sym (ez ∙ rw (none-left, eq-eqb _ _ l, d))
+
+  pub scan-over : (length t ≡ 0 → ⊥) → (z : Answer) → z ≡ scanOf (n - i) i t → refusal Trailing 0 ≡ z
+  unfolding scanOf
+  scan-over l z ez = sym (ez ∙ rw (none-left, ne-eqb _ _ l))
+
+  pub fill-done : (out z : List ℕ) → z ≡ stores out i (wordsOf (n - i) t) → out ≡ z
+  unfolding wordsOf
+  fill-done out z ez = sym (ez ∙ rw none-left)
+
+-- the words read aside, one by one
+module _ (n i : ℕ) (from out z : List ℕ) (ez : z ≡ stores out i (take (n - i) (drop i from))) where
+  pub copy-more : i < n → n ≤ length from → z ≡ stores (set out i (getD from i 0)) (i + 1) (take (n - (i + 1)) (drop (i + 1) from))
+  copy-more h l = let left : n - i ≡ suc (n - (i + 1)) = omega arith in let g : i < length from = omega arith in ez ∙ rw (left, drop-cons from i 0 g, add-one)
+
+  pub copy-done : n ≤ i → out ≡ z
+  copy-done h = let none : n - i ≡ 0 = omega arith in sym (ez ∙ rw none)
+
+-- ---- the whole
+
+pub read-rest : (s : List ℕ) (room : ℕ) → 2 ≤ length s → (n : ℕ) → n ≡ countOf s → n ≤ mostInstructions → n ≤ room
+    → (a : Answer) → a ≡ scanOf n 0 (take (length s - 2) (drop 2 s)) → a ≡ readAnswer s room
+read-rest s room h n e g l a ea = read-scan s room h n e g l a (ea ∙ rw (rest 2 s h))
+
+pub aside-rest : (s : List ℕ) → 2 ≤ length s → (n : ℕ) → n ≡ countOf s → (out out′ : List ℕ) → out′ ≡ stores out 0 (wordsOf n (take (length s - 2) (drop 2 s)))
+    → out′ ≡ stores out 0 (wordsIn s)
+aside-rest s h n e out out′ eo = eo ∙ rw (rest 2 s h, e)
+
+module _ (s : List ℕ) (room : ℕ) (a : Answer) (e : a ≡ readAnswer s room) (z : a .number ≡ 0) where
+  ok : ReadOk s room (a .place)
+  ok = rw e (read-ok s room (rw e at z))
+
+  pub ok-few : (y : List ℕ) → length y ≡ mostInstructions → a .place ≤ length y
+  ok-few y h = omega (arith, ok .count, ok .few)
+
+  pub ok-fits : a .place ≤ room
+  ok-fits = ok .fits
+
+module _ (s out : List ℕ) (a : Answer) (e : a ≡ readAnswer s (length out)) where
+  pub refused : (a .number ≡ 0 → ⊥) → out ≡ readOutput s out
+  unfolding readOutput
+  refused z = rw (← e) (output-kept a (wordsIn s) out z)
+
+  pub filled : a .number ≡ 0 → (x y : List ℕ) → length y ≡ mostInstructions → (a .number ≡ 0 → y ≡ stores x 0 (wordsIn s))
+      → (o : List ℕ) → o ≡ stores out 0 (take (a .place) y) → o ≡ readOutput s out
+  unfolding readOutput
+  filled z x y l f o eo =
+      let k : ReadOk s (length out) (a .place) = ok s (length out) a e z in
+      let n : ℕ = a .place in
+      let ws : List ℕ = wordsIn s in
+      let lx : length y ≡ length x = ap length (f z) ∙ length-sets x 0 ws in
+      let g : 0 + length ws ≤ length x = omega (arith, k .words, k .count, k .few) in
+      let h : length ws ≤ length out = omega (arith, k .words, k .fits) in
+      let et : take n y ≡ ws = rw (f z, sets-eq ws x 0 g) (take-at ws (drop (0 + length ws) x) n (k .words)) in
+      eo ∙ rw (et, ← e) (output-written a ws out z h)
