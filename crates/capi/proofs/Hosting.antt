@@ -1,55 +1,32 @@
 -- What the parts answer and leave, said of the numbers of a C host.
-use Prim.Native.Nat.{ℕ, zero, suc, _+_, _^_, _≤_, _<_}
+use Prim.Native.Nat.{ℕ, _^_, _<_}
 use mathlib.Core.Path.{_≡_, refl, sym, _∙_, ap, subst}
 use mathlib.Core.Bool.{Bool, true, false, cond}
-use mathlib.Core.List.{List, [], _∷_, _++_}
+use mathlib.Core.List.{List}
 use native.Mathlib.Omega.{arith}
-use lib.ListN.{length, getD, take, drop}
-use lib.Seq.{drop-cons, take-all}
+use lib.ListN.{length, getD}
 use lib.Dec.{eqb, ltb}
-use borrow.Author.Tests.{ltb-false, lt-ltb, le-ltb}
+use borrow.Author.Tests.{ltb-false}
 use Rattle.rules.specs.declared.Layout.{Layout}
 use Rattle.rules.specs.declared.Machine.{Machine}
-use Rattle.rules.specs.declared.Status.{Status}
 use Rattle.rules.specs.declared.Answer.{Answer}
 use Rattle.rules.specs.declared.Outcome.{Outcome}
 use Rattle.rules.specs.declared.Installed.{Installed}
 use Rattle.rules.specs.declared.Ending.the-variants.{Refused}
 use Rattle.rules.specs.declared.Refusal.the-variants.{BadLayout}
-use Rattle.rules.specs.Names.{mostInstructions, registers, baseBound, refusal, orElse}
+use Rattle.rules.specs.Names.{mostInstructions, baseBound, refusal, orElse}
 use Rattle.rules.specs.Layouts.{layoutOf, rightLayout}
 use Rattle.rules.specs.Policies.{Policy}
 use Rattle.rules.specs.Bytes.{readAnswer}
 use Rattle.rules.specs.Bundles.{rewriteAnswer, rewriteOutput, checkAnswer}
-use Rattle.rules.specs.Machines.{machineOf, machineRefused, fits, installAnswer, installMachine, installMemory, installOf, Ran, ranOf, outcomeOf, runOf}
-use Rattle.rules.specs.Loading.{loadAnswer, loadCommands, loadMemory, loadMachine, loadOf, layoutFrom, statusFrom, machineFrom, machineTo, statusNumber, answerTo, runAnswerTo, recordAfter}
+use Rattle.rules.specs.Machines.{machineRefused, fits, installAnswer, installMachine, installMemory, installOf, Ran, ranOf, outcomeOf, runOf}
+use Rattle.rules.specs.Loading.{loadAnswer, loadCommands, loadMemory, loadMachine, loadOf, layoutFrom, machineFrom, machineTo, answerTo, runAnswerTo, recordAfter}
 use Rattle.rules.proofs.Bools.{cond-ind}
 use Rattle.rules.proofs.Layouts.{layout-facts}
 use Rattle.rules.proofs.Counts.{Bounded, RunCounts, run-counts}
 use Rattle.preview.proofs.Laws.{Previewed}
-use Rattle.capi.specs.Hosts.{layoutHeld, runFor}
-
--- ---- arrays
-
--- n elements from i on, one by one
-abbrev cells : ℕ → ℕ → List ℕ → List ℕ
-cells zero i xs = []
-cells (suc n) i xs = getD xs i 0 ∷ cells n (suc i) xs
-
-spelt : (n i : ℕ) (xs : List ℕ) → i + n ≤ length xs → take n (drop i xs) ≡ cells n i xs
-spelt zero i xs h = refl
-spelt (suc n) i xs h = ap (take (suc n)) (drop-cons xs i 0 (omega arith)) ∙ ap (λ (r : List ℕ). getD xs i 0 ∷ r) (spelt n (suc i) xs (omega arith))
-
-registers-of : (xs : List ℕ) → registers ≤ length xs → cells registers 0 xs ≡ take registers xs
-registers-of xs h = sym (spelt registers 0 xs h)
-
-pub machine-of : (xs : List ℕ) (t : Status) → length xs ≡ registers + 2 → t ≡ statusFrom (getD xs (registers + 1) 0) → machineOf (cells registers 0 xs) (getD xs registers 0) t ≡ machineFrom xs
-machine-of xs t h e = rw (registers-of xs (omega arith), e)
-
-pub record-of : (m : Machine) (t : ℕ) → length (m .regs) ≡ registers → t ≡ statusNumber (m .status) → cells registers 0 (m .regs) ++ (m .pc ∷ t ∷ []) ≡ machineTo m
-record-of m t h e =
-    ap (λ (k : ℕ). cells registers 0 (m .regs) ++ (m .pc ∷ k ∷ [])) e
-    ∙ ap (λ (r : List ℕ). r ++ (m .pc ∷ statusNumber (m .status) ∷ [])) (registers-of (m .regs) (omega arith) ∙ take-all registers (m .regs) (omega arith))
+use Rattle.hosts.specs.Held.{layoutHeld}
+use Rattle.capi.specs.Hosts.{runFor}
 
 -- ---- layouts
 
@@ -60,14 +37,6 @@ no-base l e = by (rightLayout l) refl
     by : (b : Bool) → rightLayout l ≡ b → rightLayout l ≡ false
     by true q = absurd (omega (arith, layout-facts l q .base, ltb-false (l .base) baseBound e))
     by false q = q
-
-pub base-kept : (xs : List ℕ) → getD xs 6 0 < baseBound → layoutFrom xs ≡ layoutHeld xs
-unfolding layoutHeld
-base-kept xs h = rw (lt-ltb _ _ h)
-
-pub base-refused : (xs : List ℕ) → baseBound ≤ getD xs 6 0 → layoutOf 0 0 0 0 0 0 0 ≡ layoutHeld xs
-unfolding layoutHeld
-base-refused xs h = rw (le-ltb _ _ h)
 
 -- what is the same of all layouts that are not right is the same of the layout held and of the host's
 held : {A : Type 0} (f : Layout → A) (z : A) → ((l : Layout) → rightLayout l ≡ false → f l ≡ z) → (xs : List ℕ) (l : Layout) → l ≡ layoutHeld xs → f l ≡ f (layoutFrom xs)
@@ -155,11 +124,11 @@ module _ (xs : List ℕ) (l : Layout) (e : l ≡ layoutHeld xs) where
         q ∙ held (λ (k : Layout). runOf k ws m mem budget rd log) (ranOf (outcomeOf m Refused 0 0 0) mem log) (λ k f. rw f) xs l e
         ∙ ap (λ (x : Machine). runOf (layoutFrom xs) ws x mem budget rd log) p
 
-    pub left : (r : Bool) (ms′ ns : List ℕ) → r ≡ fits l mem → ms′ ≡ cond r (machineTo (o .machine)) ms → ns ≡ runAnswerTo (o .answer)
+    pub left : (ms′ ns : List ℕ) → ms′ ≡ cond (fits l mem) (machineTo (o .machine)) ms → ns ≡ runAnswerTo (o .answer)
         → (ns ≡ runAnswerTo (runFor xs ws ms mem budget rd log .outcome .answer)) × ((ms′ ≡ recordAfter (layoutFrom xs) mem ms (runFor xs ws ms mem budget rd log))
         × ((mem′ ≡ runFor xs ws ms mem budget rd log .mem) × (log′ ≡ runFor xs ws ms mem budget rd log .log)))
-    left r ms′ ns s t u =
-        let f : r ≡ fits (layoutFrom xs) mem = s ∙ held (λ (k : Layout). fits k mem) false (λ k f. rw f) xs l e in (
+    left ms′ ns t u =
+        let f : fits l mem ≡ fits (layoutFrom xs) mem = held (λ (k : Layout). fits k mem) false (λ k f. rw f) xs l e in (
           u ∙ ap (λ (x : Ran). runAnswerTo (x .outcome .answer)) ran,
           (
             t ∙ ap (λ (b : Bool). cond b (machineTo (o .machine)) ms) f ∙ ap (λ (x : Ran). recordAfter (layoutFrom xs) mem ms x) ran,
@@ -169,9 +138,9 @@ module _ (xs : List ℕ) (l : Layout) (e : l ≡ layoutHeld xs) where
 
   -- a preview leaves what a run would, but memory and record as they were
   pub looked : (ws ms mem rd log log′ : List ℕ) (budget : ℕ) (m : Machine) (o : Outcome) → m ≡ machineFrom ms → Previewed l ws m mem budget rd log o log′
-      → (r : Bool) (ms′ ns : List ℕ) → r ≡ fits l mem → ms′ ≡ cond r (machineTo (o .machine)) ms → ns ≡ runAnswerTo (o .answer)
+      → (ms′ ns : List ℕ) → ms′ ≡ cond (fits l mem) (machineTo (o .machine)) ms → ns ≡ runAnswerTo (o .answer)
       → (ns ≡ runAnswerTo (runFor xs ws ms mem budget rd log .outcome .answer)) × ((ms′ ≡ recordAfter (layoutFrom xs) mem ms (runFor xs ws ms mem budget rd log))
       × ((ms ≡ ms) × ((mem ≡ mem) × (log′ ≡ runFor xs ws ms mem budget rd log .log))))
-  looked ws ms mem rd log log′ budget m o p q r ms′ ns s t u =
-      let h = left ws ms mem rd log _ log′ budget m o p (ran-as l ws mem rd log log′ budget m o q) r ms′ ns s t u in
+  looked ws ms mem rd log log′ budget m o p q ms′ ns t u =
+      let h = left ws ms mem rd log _ log′ budget m o p (ran-as l ws mem rd log log′ budget m o q) ms′ ns t u in
       (h .0, (h .1 .0, (refl, (refl, h .1 .1 .1))))

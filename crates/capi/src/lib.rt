@@ -1,122 +1,22 @@
 // The C interface: the sandbox's parts over numbers, arrays and slices.
+use hosts::layout_of;
+use hosts::machine_of;
+use hosts::record_after;
+use hosts::record_of;
 use rules::Answer;
-use rules::Layout;
-use rules::Machine;
 use rules::Policy;
 use rules::RunAnswer;
-use rules::Status;
-use words::layout::right;
 ghost use mathlib.Core.Path.{_≡_};
-ghost use mathlib.Core.Bool.{_&&_, cond};
 ghost use Prim.Native.Nat.{_<_, _^_};
 ghost use lib.ListN.{length};
-ghost use lib.Dec.{eqb};
-ghost use Rattle.rules.specs.Layouts.{rightLayout};
 ghost use Rattle.rules.specs.Policies.{policyOf, wordRight};
 ghost use Rattle.rules.specs.Bytes.{readAnswer, readOutput, writeAnswer, writeOutput};
 ghost use Rattle.rules.specs.Bundles.{rewriteAnswer, rewriteOutput, checkAnswer};
 ghost use Rattle.rules.specs.Machines.{installAnswer, installMachine, installMemory};
-ghost use Rattle.rules.specs.Loading.{loadAnswer, loadMachine, loadCommands, loadMemory, layoutFrom, statusFrom, statusNumber, machineFrom, machineTo, answerTo, runAnswerTo, recordAfter};
-ghost use Rattle.capi.specs.Hosts.{layoutHeld, runFor, yesOrNo};
+ghost use Rattle.rules.specs.Loading.{loadAnswer, loadMachine, loadCommands, loadMemory, layoutFrom, machineTo, answerTo, runAnswerTo, recordAfter};
+ghost use Rattle.capi.specs.Hosts.{runFor, yesOrNo};
 
-// The greatest B.
-const TOP_BASE: u32 = 65535;
-
-// ---- the numbers of a C host
-
-// A layout; one that is not right in place of one whose B has more than 16 bits.
-fn layout_of(xs: [u32; 7]) -> Layout
-    ensures { λ r. ⌜ r ≡ layoutHeld xs ⌝ }
-{
-    let base = xs[6];
-    if base > TOP_BASE {
-        return Layout::new(0, 0, 0, 0, 0, 0, 0);
-    }
-    Layout::new(xs[0], xs[1], xs[2], xs[3], xs[4], xs[5], base as u16)
-}
-
-// A status; any number above 3 counts as faulted.
-fn status_of(x: u32) -> Status
-    ensures { λ r. ⌜ r ≡ statusFrom x ⌝ }
-{
-    match x {
-        0 => Status::Running,
-        1 => Status::Ended,
-        2 => Status::Stopped,
-        _ => Status::Faulted,
-    }
-}
-
-fn status_number(t: Status) -> u32
-    ensures { λ r. ⌜ r ≡ statusNumber t ⌝ }
-{
-    match t {
-        Status::Running => 0,
-        Status::Ended => 1,
-        Status::Stopped => 2,
-        Status::Faulted => 3,
-    }
-}
-
-fn machine_of(xs: [u32; 11]) -> Machine
-    ensures { λ r. ⌜ r ≡ machineFrom xs ⌝ }
-{
-    let regs = [
-        xs[0],
-        xs[1],
-        xs[2],
-        xs[3],
-        xs[4],
-        xs[5],
-        xs[6],
-        xs[7],
-        xs[8],
-    ];
-    let status = status_of(xs[10]);
-    Machine {
-        regs,
-        pc: xs[9],
-        status,
-    }
-}
-
-fn record_of(m: Machine) -> [u32; 11]
-    ensures { λ r. ⌜ r ≡ machineTo m ⌝ }
-{
-    let r = m.regs;
-    let t = m.status;
-    let status = status_number(t);
-    [
-        r[0],
-        r[1],
-        r[2],
-        r[3],
-        r[4],
-        r[5],
-        r[6],
-        r[7],
-        r[8],
-        m.pc,
-        status,
-    ]
-}
-
-// Whether a run is not refused.
-fn memory_fits(lay: Layout, cells: usize) -> bool
-    ensures { λ r. ⌜ r ≡ (rightLayout lay && eqb cells (lay .size)) ⌝ }
-{
-    right(lay) & (cells == lay.size as usize)
-}
-
-// The record after a run; a refused run leaves the numbers as they were.
-fn record_after(taken: bool, m: Machine, xs: [u32; 11]) -> [u32; 11]
-    ensures { λ r. ⌜ r ≡ cond taken (machineTo m) xs ⌝ }
-{
-    if taken {
-        return record_of(m);
-    }
-    xs
-}
+// ---- answers as numbers
 
 fn answer_of(a: Answer) -> [u32; 2]
     requires { ⌜ a .place < 2 ^ 32 ⌝ }
@@ -165,7 +65,7 @@ pub extern "C" fn hemdroas_rewrite(
     ensures answer { λ _. ⌜ now (answer .exit) ≡ answerTo (rewriteAnswer (layoutFrom (now (layout .entry))) (now (words .entry)) (length (now (commands .entry)))) ⌝ }
     ensures content { λ _. ⌜ now (commands .exit) ≡ rewriteOutput (layoutFrom (now (layout .entry))) (now (words .entry)) (now (commands .entry)) ⌝ }
 {
-    *answer = answer_of(rewriter::rewrite(layout_of(*layout), words, commands));
+    *answer = answer_of(rewriter::rewrite(layout_of(layout), words, commands));
 }
 
 // Checks a list of commands.
@@ -173,7 +73,7 @@ pub extern "C" fn hemdroas_rewrite(
 pub extern "C" fn hemdroas_check(layout: &[u32; 7], commands: &[u64], answer: &mut [u32; 2])
     ensures { λ _. ⌜ now (answer .exit) ≡ answerTo (checkAnswer (layoutFrom (now (layout .entry))) (now (commands .entry))) ⌝ }
 {
-    *answer = answer_of(checker::check(layout_of(*layout), commands));
+    *answer = answer_of(checker::check(layout_of(layout), commands));
 }
 
 // Whether four bytes of a policy's table, as one word, are right: 1 for yes, 0 for no.
@@ -203,7 +103,7 @@ pub extern "C" fn hemdroas_install(
     ensures memory { λ _. ⌜ now (memory .exit) ≡ installMemory (layoutFrom (now (layout .entry))) (policyOf states start (now (table .entry))) (now (memory .entry)) ⌝ }
 {
     let policy = Policy { states, start };
-    let done = installer::install(layout_of(*layout), policy, table, memory);
+    let done = installer::install(layout_of(layout), policy, table, memory);
     *machine = record_of(done.machine);
     *answer = answer_of(done.answer);
 }
@@ -227,7 +127,7 @@ pub extern "C" fn hemdroas_load(
     ensures memory { λ _. ⌜ now (memory .exit) ≡ loadMemory (layoutFrom (now (layout .entry))) (policyOf states start (now (table .entry))) (now (bytes .entry)) (length (now (commands .entry))) (now (memory .entry)) ⌝ }
 {
     let policy = Policy { states, start };
-    let loaded = sandbox::load(layout_of(*layout), policy, table, bytes, commands, memory);
+    let loaded = sandbox::load(layout_of(layout), policy, table, bytes, commands, memory);
     *machine = record_of(loaded.machine);
     *answer = answer_of(loaded.answer);
 }
@@ -249,11 +149,12 @@ pub extern "C" fn hemdroas_run(
     ensures memory { λ _. ⌜ now (memory .exit) ≡ runFor (now (layout .entry)) (now (commands .entry)) (now (machine .entry)) (now (memory .entry)) budget (now (readings .entry)) (now (log .entry)) .mem ⌝ }
     ensures log { λ _. ⌜ now (log .exit) ≡ runFor (now (layout .entry)) (now (commands .entry)) (now (machine .entry)) (now (memory .entry)) budget (now (readings .entry)) (now (log .entry)) .log ⌝ }
 {
-    let lay = layout_of(*layout);
-    let taken = memory_fits(lay, memory.len());
-    let m = machine_of(*machine);
+    let lay = layout_of(layout);
+    let cells = memory.len();
+    let given = *machine;
+    let m = machine_of(given);
     let out = machine::run_value(lay, commands, m, memory, budget, readings, log);
-    *machine = record_after(taken, out.machine, *machine);
+    *machine = record_after(lay, cells, out.machine, given);
     *answer = run_answer_of(out.answer);
 }
 
@@ -276,10 +177,10 @@ pub extern "C" fn hemdroas_preview(
     ensures memory { λ _. ⌜ now (memory .exit) ≡ now (memory .entry) ⌝ }
     ensures log { λ _. ⌜ now (log .exit) ≡ runFor (now (layout .entry)) (now (commands .entry)) (now (machine .entry)) (now (memory .entry)) budget (now (readings .entry)) (now (log .entry)) .log ⌝ }
 {
-    let lay = layout_of(*layout);
-    let taken = memory_fits(lay, memory.len());
-    let m = machine_of(*machine);
+    let lay = layout_of(layout);
+    let given = *machine;
+    let m = machine_of(given);
     let out = preview::preview(lay, commands, m, memory, budget, readings, log);
-    *after = record_after(taken, out.machine, *machine);
+    *after = record_after(lay, memory.len(), out.machine, given);
     *answer = run_answer_of(out.answer);
 }

@@ -4,10 +4,10 @@ use lib.ListN.{length-map}
 use denote.Struct.Laws as LL
 use Rattle.rules.proofs.Machine as T
 use Rattle.rules.proofs.Machine.Laws as T′
-use Rattle.capi.proofs.Hosting.{record-of}
+use Rattle.hosts.proofs.Numbers.{record-of}
 use borrow.Author.Needs.{needs}
-use Rattle.capi.proofs.record_of.Statement.{statement}
-use Rattle.capi.proofs.record_of.Tie as tie
+use Rattle.hosts.proofs.record_of.Statement.{statement}
+use Rattle.hosts.proofs.record_of.Tie as tie
 
 pub record-of-spec : {M : Type 1} → statement M
 record-of-spec =

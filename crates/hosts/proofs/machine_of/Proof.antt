@@ -1,7 +1,7 @@
-use Rattle.capi.proofs.Hosting.{machine-of}
+use Rattle.hosts.proofs.Numbers.{machine-of}
 use borrow.Author.Needs.{needs}
-use Rattle.capi.proofs.machine_of.Statement.{statement}
-use Rattle.capi.proofs.machine_of.Tie as tie
+use Rattle.hosts.proofs.machine_of.Statement.{statement}
+use Rattle.hosts.proofs.machine_of.Tie as tie
 
 pub machine-of-spec : {M : Type 1} → statement M
 machine-of-spec =

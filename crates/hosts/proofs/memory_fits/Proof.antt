@@ -1,6 +1,6 @@
 use borrow.Author.Needs.{needs}
-use Rattle.capi.proofs.memory_fits.Statement.{statement}
-use Rattle.capi.proofs.memory_fits.Tie as tie
+use Rattle.hosts.proofs.memory_fits.Statement.{statement}
+use Rattle.hosts.proofs.memory_fits.Tie as tie
 
 pub memory-fits-spec : {M : Type 1} → statement M
 memory-fits-spec =

@@ -1,6 +1,6 @@
 use borrow.Author.Tests.{ne-eqb}
-use Rattle.capi.proofs.status_of.Statement.{statement}
-use Rattle.capi.proofs.status_of.Tie as tie
+use Rattle.hosts.proofs.status_of.Statement.{statement}
+use Rattle.hosts.proofs.status_of.Tie as tie
 
 pub status-of-spec : {M : Type 1} → statement M
 status-of-spec =

@@ -1,0 +1,56 @@
+-- What a C host's numbers stand for.
+use Prim.Native.Nat.{ℕ, zero, suc, _+_, _≤_, _<_}
+use mathlib.Core.Path.{_≡_, refl, sym, _∙_, ap}
+use mathlib.Core.Bool.{Bool, true, false, cond}
+use mathlib.Core.List.{List, [], _∷_, _++_}
+use native.Mathlib.Omega.{arith}
+use lib.ListN.{length, getD, take, drop}
+use lib.Seq.{drop-cons, take-all}
+use borrow.Author.Tests.{lt-ltb, le-ltb}
+use Rattle.rules.specs.declared.Machine.{Machine}
+use Rattle.rules.specs.declared.Status.{Status}
+use Rattle.rules.specs.Names.{registers, baseBound}
+use Rattle.rules.specs.Layouts.{layoutOf}
+use Rattle.rules.specs.Machines.{machineOf}
+use Rattle.rules.specs.Loading.{layoutFrom, statusFrom, machineFrom, machineTo, statusNumber}
+use Rattle.hosts.specs.Held.{layoutHeld}
+
+-- ---- arrays
+
+-- n elements from i on, one by one
+abbrev cells : ℕ → ℕ → List ℕ → List ℕ
+cells zero i xs = []
+cells (suc n) i xs = getD xs i 0 ∷ cells n (suc i) xs
+
+spelt : (n i : ℕ) (xs : List ℕ) → i + n ≤ length xs → take n (drop i xs) ≡ cells n i xs
+spelt zero i xs h = refl
+spelt (suc n) i xs h = ap (take (suc n)) (drop-cons xs i 0 (omega arith)) ∙ ap (λ (r : List ℕ). getD xs i 0 ∷ r) (spelt n (suc i) xs (omega arith))
+
+registers-of : (xs : List ℕ) → registers ≤ length xs → cells registers 0 xs ≡ take registers xs
+registers-of xs h = sym (spelt registers 0 xs h)
+
+pub machine-of : (xs : List ℕ) (t : Status) → length xs ≡ registers + 2 → t ≡ statusFrom (getD xs (registers + 1) 0) → machineOf (cells registers 0 xs) (getD xs registers 0) t ≡ machineFrom xs
+machine-of xs t h e = rw (registers-of xs (omega arith), e)
+
+pub record-of : (m : Machine) (t : ℕ) → length (m .regs) ≡ registers → t ≡ statusNumber (m .status) → cells registers 0 (m .regs) ++ (m .pc ∷ t ∷ []) ≡ machineTo m
+record-of m t h e =
+    ap (λ (k : ℕ). cells registers 0 (m .regs) ++ (m .pc ∷ k ∷ [])) e
+    ∙ ap (λ (r : List ℕ). r ++ (m .pc ∷ statusNumber (m .status) ∷ [])) (registers-of (m .regs) (omega arith) ∙ take-all registers (m .regs) (omega arith))
+
+-- ---- layouts
+
+pub base-kept : (xs : List ℕ) → getD xs 6 0 < baseBound → layoutFrom xs ≡ layoutHeld xs
+unfolding layoutHeld
+base-kept xs h = rw (lt-ltb _ _ h)
+
+pub base-refused : (xs : List ℕ) → baseBound ≤ getD xs 6 0 → layoutOf 0 0 0 0 0 0 0 ≡ layoutHeld xs
+unfolding layoutHeld
+base-refused xs h = rw (le-ltb _ _ h)
+
+-- ---- one of two lists, by a test that was made
+
+pub first-of : (b t : Bool) (x y r : List ℕ) → t ≡ b → t ≡ true → r ≡ x → r ≡ cond b x y
+first-of b t x y r e h q = q ∙ ap (λ (k : Bool). cond k x y) (sym h ∙ e)
+
+pub second-of : (b t : Bool) (x y : List ℕ) → t ≡ b → t ≡ false → y ≡ cond b x y
+second-of b t x y e h = ap (λ (k : Bool). cond k x y) (sym h ∙ e)

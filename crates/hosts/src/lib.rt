@@ -1,0 +1,110 @@
+// The numbers of a C host: layouts and machine records as arrays of u32, and back.
+use rules::Layout;
+use rules::Machine;
+use rules::Status;
+use words::layout::right;
+ghost use mathlib.Core.Path.{_≡_};
+ghost use mathlib.Core.Bool.{_&&_, cond};
+ghost use lib.Dec.{eqb};
+ghost use Rattle.rules.specs.Layouts.{rightLayout};
+ghost use Rattle.rules.specs.Loading.{statusFrom, statusNumber, machineFrom, machineTo};
+ghost use Rattle.hosts.specs.Held.{layoutHeld};
+
+// The greatest B.
+const TOP_BASE: u32 = 65535;
+
+// A layout; one that is not right in place of one whose B has more than 16 bits.
+pub fn layout_of(xs: &[u32; 7]) -> Layout
+    ensures { λ r. ⌜ r ≡ layoutHeld (now (xs .entry)) ⌝ }
+{
+    let base = xs[6];
+    if base > TOP_BASE {
+        return Layout::new(0, 0, 0, 0, 0, 0, 0);
+    }
+    Layout::new(xs[0], xs[1], xs[2], xs[3], xs[4], xs[5], base as u16)
+}
+
+// A status; any number above 3 counts as faulted.
+fn status_of(x: u32) -> Status
+    ensures { λ r. ⌜ r ≡ statusFrom x ⌝ }
+{
+    match x {
+        0 => Status::Running,
+        1 => Status::Ended,
+        2 => Status::Stopped,
+        _ => Status::Faulted,
+    }
+}
+
+fn status_number(t: Status) -> u32
+    ensures { λ r. ⌜ r ≡ statusNumber t ⌝ }
+{
+    match t {
+        Status::Running => 0,
+        Status::Ended => 1,
+        Status::Stopped => 2,
+        Status::Faulted => 3,
+    }
+}
+
+// A record's machine.
+pub fn machine_of(xs: [u32; 11]) -> Machine
+    ensures { λ r. ⌜ r ≡ machineFrom xs ⌝ }
+{
+    let regs = [
+        xs[0],
+        xs[1],
+        xs[2],
+        xs[3],
+        xs[4],
+        xs[5],
+        xs[6],
+        xs[7],
+        xs[8],
+    ];
+    let status = status_of(xs[10]);
+    Machine {
+        regs,
+        pc: xs[9],
+        status,
+    }
+}
+
+// A machine's record.
+pub fn record_of(m: Machine) -> [u32; 11]
+    ensures { λ r. ⌜ r ≡ machineTo m ⌝ }
+{
+    let r = m.regs;
+    let t = m.status;
+    let status = status_number(t);
+    [
+        r[0],
+        r[1],
+        r[2],
+        r[3],
+        r[4],
+        r[5],
+        r[6],
+        r[7],
+        r[8],
+        m.pc,
+        status,
+    ]
+}
+
+// Whether a run is not refused.
+fn memory_fits(layout: Layout, cells: usize) -> bool
+    ensures { λ r. ⌜ r ≡ (rightLayout layout && eqb cells (layout .size)) ⌝ }
+{
+    right(layout) & (cells == layout.size as usize)
+}
+
+// The record after a run over so many cells; a refused run leaves the numbers as they were.
+pub fn record_after(layout: Layout, cells: usize, m: Machine, xs: [u32; 11]) -> [u32; 11]
+    ensures { λ r. ⌜ r ≡ cond (rightLayout layout && eqb cells (layout .size)) (machineTo m) xs ⌝ }
+{
+    if memory_fits(layout, cells) {
+        return record_of(m);
+    }
+    xs
+}
