@@ -1,14 +1,13 @@
--- Laws of the layout test and of the mask's width.
+-- Laws of the layout test.
 use mathlib.Core.Path.{_≡_}
 use mathlib.Core.Bool.{Bool, true, false, _&&_, and-true, and-false}
 use Prim.Native.Nat.{_%_, _≤_, _<_}
-use native.Mathlib.Omega.{arith}
-use lib.Count.{ones, trailingZeros}
+use lib.Count.{ones}
 use lib.Dec.{leb, eqb}
 use borrow.Author.Tests.{le-ltb, lt-ltb, le-leb, lt-leb}
 use Rattle.rules.specs.declared.Layout.{Layout}
 use Rattle.rules.specs.Names.{mostCells, mostStates, baseBound}
-use Rattle.rules.specs.Layouts.{rightLayout, inRange, span, widthOf, inMemory, apart}
+use Rattle.rules.specs.Layouts.{rightLayout, inRange, span, inMemory, apart}
 
 module _ (l : Layout) where
   pub box-turned : l .high < l .low → false ≡ rightLayout l
@@ -29,8 +28,3 @@ module _ (l : Layout) where
   unfolding rightLayout
   right-rest h k b =
       rw (le-leb (l .low) (l .high) h, lt-ltb (l .high) (l .size) k, lt-ltb (l .base) baseBound b, and-true (leb 1 (l .size) && leb (l .size) mostCells && leb 1 (l .states) && leb (l .states) mostStates))
-
-  -- a sandbox turned round counts as one cell
-  pub width-turned : l .high < l .low → 0 ≡ widthOf l
-  unfolding trailingZeros
-  width-turned h = let e : span l ≡ 1 = omega arith in rw e

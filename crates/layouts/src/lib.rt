@@ -1,8 +1,8 @@
-// The test of a layout, and the mask that keeps an address in its block.
+// The test of a layout.
 use rules::Layout;
 use rules::Policy;
 ghost use mathlib.Core.Path.{_≡_};
-ghost use Rattle.rules.specs.Layouts.{rightLayout, maskOf, widthOf};
+ghost use Rattle.rules.specs.Layouts.{rightLayout};
 
 // Whether a layout is right. SH < U is tested before SH − SL + 1 is formed, which could wrap otherwise.
 pub fn right(l: Layout) -> bool
@@ -32,23 +32,4 @@ pub fn right(l: Layout) -> bool
         & ((cell < table) | (end <= cell as u64))
         & ((high < table) | (end <= low as u64));
     in_range & (box_right & (in_memory & apart))
-}
-
-// The mask of an address, for data and code alike.
-pub fn mask(e: u32, low: u32, high: u32) -> u32
-    ensures { λ r. ⌜ r ≡ maskOf low high e ⌝ }
-{
-    (e & high) | low
-}
-
-// The mask's width, the address bits inside the sandbox.
-pub fn width(l: Layout) -> u32
-    ensures { λ r. ⌜ r ≡ widthOf l ⌝ }
-{
-    let low = l.low;
-    let high = l.high;
-    if high < low {
-        return 0;
-    }
-    u64::trailing_zeros(high as u64 - low as u64 + 1)
 }

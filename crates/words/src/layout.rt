@@ -1,4 +1,4 @@
 // The test of a layout, and the mask that keeps an address in its block.
-pub use layouts::mask;
 pub use layouts::right;
-pub use layouts::width;
+pub use masks::mask;
+pub use masks::width;

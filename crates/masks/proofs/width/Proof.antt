@@ -1,7 +1,7 @@
 use borrow.Author.Needs.{needs}
-use Rattle.layouts.proofs.Boxes.{width-turned}
-use Rattle.layouts.proofs.width.Statement.{statement}
-use Rattle.layouts.proofs.width.Tie as tie
+use Rattle.masks.proofs.Widths.{width-turned}
+use Rattle.masks.proofs.width.Statement.{statement}
+use Rattle.masks.proofs.width.Tie as tie
 
 pub width-spec : {M : Type 1} → statement M
 width-spec =
