@@ -57,7 +57,9 @@ fn quad(s: &[u8], at: usize, bit: usize) -> u64
     if bit == 0 {
         return 0;
     }
-    pair(s, at) + 65536 * pair(s, at + 2)
+    let low = pair(s, at);
+    let high = pair(s, at + 2);
+    low + 65536 * high
 }
 
 // The fields from b on, which m announces; those before them are read.

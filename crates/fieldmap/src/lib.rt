@@ -1,7 +1,7 @@
 // The map of an instruction's fields in its bytes, which reading and writing share.
 use rules::Fields;
 ghost use mathlib.Core.Path.{_≡_};
-ghost use Prim.Native.Nat.{_+_, _*_, _≤_, _<_};
+ghost use Prim.Native.Nat.{_+_, _*_, _<_};
 ghost use Rattle.rules.specs.Words.{bitOf};
 ghost use Rattle.rules.specs.Bytes.{mapOf, sizeOf};
 
