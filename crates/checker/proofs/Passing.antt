@@ -11,7 +11,6 @@ use borrow.Author.Tests.{leb-true, le-leb, lt-ltb, eqb-true, eq-eqb, ne-eqb}
 use Rattle.rules.specs.declared.Layout.{Layout}
 use Rattle.rules.specs.declared.Instr.{Instr}
 use Rattle.rules.specs.declared.Instr.the-variants.{PLAIN}
-use Rattle.rules.specs.declared.Bundle.{Bundle}
 use Rattle.rules.specs.declared.Answer.{Answer}
 use Rattle.rules.specs.declared.Refusal.the-variants.{BadBase, BadBundle, BadCount, BadLayout, Taken}
 use Rattle.rules.specs.Names.{mostBundles, mostCommands, bundleLength, numberOf, answer, refusal}
@@ -40,11 +39,6 @@ module _ (l : Layout) (n : ℕ) (i : Instr) (w x y z : ℕ) (t : Bool) (et : t �
   pub is-bundle : t ≡ true → (s : Bool) → s ≡ sameWords w x y z (bundleOf l n i .words) → s ≡ isBundle l n i w x y z
   unfolding isBundle
   is-bundle h s es = es ∙ rw (← et, h)
-
--- words compared with those that make a bundle
-pub same-words : (l : Layout) (n : ℕ) (i : Instr) (w x y z w′ x′ y′ z′ : ℕ) → record { words = w′ ∷ x′ ∷ y′ ∷ z′ ∷ [] } ≡ bundleOf l n i
-    → (eqb w w′ && eqb x x′ && eqb y y′ && eqb z z′) ≡ sameWords w x y z (bundleOf l n i .words)
-same-words l n i w x y z w′ x′ y′ z′ e = ap (λ (b : Bundle). sameWords w x y z (b .words)) e
 
 -- ---- a plain command
 
@@ -90,27 +84,25 @@ unfolding isBundle bundleWord shapeOf wordOf
 plain-bundle l n w x y z p ex ey ez =
     rw (← (plain-off w (p .0) (p .1) l y z), plain-valid w (p .0) (p .1) n (p .2), eq-eqb w _ (plain-word w (p .0) (p .1) (p .3)), ex, ey, ez)
 
-module _ (l : Layout) (n : ℕ) (ws : List ℕ) (h : ℕ) where
-  pub passing : (i : Instr) → i ≡ readOff l (getD ws (bundleLength * h) 0) (getD ws (bundleLength * h + 2) 0) (getD ws (bundleLength * h + 3) 0)
-      → (s : Bool)
-      → s ≡ isBundle l n i (getD ws (bundleLength * h) 0) (getD ws (bundleLength * h + 1) 0) (getD ws (bundleLength * h + 2) 0) (getD ws (bundleLength * h + 3) 0)
-      → (k : Bool) → k ≡ isHalt i → (s && (ltb (h + 1) n || k)) ≡ passesAt l n ws h
-  unfolding passesAt shapedAt bundleAt
+module _ (l : Layout) (n w x y z : ℕ) (m : Bool) where
+  pub passing : (i : Instr) → i ≡ readOff l w y z → (s : Bool) → s ≡ isBundle l n i w x y z → (k : Bool) → k ≡ isHalt i
+      → (s && (m || k)) ≡ (isBundle l n (readOff l w y z) w x y z && (m || isHalt (readOff l w y z)))
   passing i ei s es k ek = rw (es, ek, ei)
 
-  pub plain-passing : (p : Bool) → (p ≡ true → PlainWord n (getD ws (bundleLength * h) 0))
-      → (p && eqb (getD ws (bundleLength * h + 1) 0) 0 && eqb (getD ws (bundleLength * h + 2) 0) 0 && eqb (getD ws (bundleLength * h + 3) 0) 0 && ltb (h + 1) n) ≡ true
-      → true ≡ passesAt l n ws h
-  unfolding passesAt shapedAt bundleAt
+  pub plain-passing : (p : Bool) → (p ≡ true → PlainWord n w) → (p && eqb x 0 && eqb y 0 && eqb z 0 && m) ≡ true
+      → true ≡ (isBundle l n (readOff l w y z) w x y z && (m || isHalt (readOff l w y z)))
   plain-passing p f t =
-      let x = getD ws (bundleLength * h + 1) 0 in
-      let y = getD ws (bundleLength * h + 2) 0 in
-      let z = getD ws (bundleLength * h + 3) 0 in
-      let t4 = both (p && eqb x 0 && eqb y 0 && eqb z 0) (ltb (h + 1) n) t in
+      let t4 = both (p && eqb x 0 && eqb y 0 && eqb z 0) m t in
       let t3 = both (p && eqb x 0 && eqb y 0) (eqb z 0) (t4 .0) in
       let t2 = both (p && eqb x 0) (eqb y 0) (t3 .0) in
       let t1 = both p (eqb x 0) (t2 .0) in
-      rw (plain-bundle l n (getD ws (bundleLength * h) 0) x y z (f (t1 .0)) (eqb-true x 0 (t1 .1)) (eqb-true y 0 (t2 .1)) (eqb-true z 0 (t3 .1)), t4 .1)
+      rw (plain-bundle l n w x y z (f (t1 .0)) (eqb-true x 0 (t1 .1)) (eqb-true y 0 (t2 .1)) (eqb-true z 0 (t3 .1)), t4 .1)
+
+module _ (l : Layout) (n : ℕ) (ws : List ℕ) (h : ℕ) where
+  pub passing-at : (r : Bool) → (w x y z : ℕ) → w ≡ getD ws (bundleLength * h) 0 → x ≡ getD ws (bundleLength * h + 1) 0 → y ≡ getD ws (bundleLength * h + 2) 0 → z ≡ getD ws (bundleLength * h + 3) 0
+      → r ≡ (isBundle l n (readOff l w y z) w x y z && (ltb (h + 1) n || isHalt (readOff l w y z))) → r ≡ passesAt l n ws h
+  unfolding passesAt shapedAt bundleAt
+  passing-at r w x y z ew ex ey ez p = p ∙ rw (ew, ex, ey, ez)
 
   -- ---- the bundles in order
 

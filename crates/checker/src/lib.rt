@@ -14,11 +14,11 @@ use words::count::count_right;
 use words::guest::judge_at;
 use words::layout::right;
 ghost use mathlib.Core.Path.{_≡_};
-ghost use mathlib.Core.Bool.{true};
+ghost use mathlib.Core.Bool.{true, _&&_, _||_};
 ghost use Prim.Native.Nat.{_+_, _*_, _≤_, _<_};
 ghost use lib.ListN.{length};
 ghost use Rattle.rules.specs.Names.{mostBundles, bundleLength};
-ghost use Rattle.rules.specs.Bundles.{isBundle, isHalt, passesAt, checkFrom, checkAnswer};
+ghost use Rattle.rules.specs.Bundles.{readOff, isBundle, isHalt, passesAt, checkFrom, checkAnswer};
 ghost use Rattle.checker.specs.Sameness.{PlainWord};
 
 // Whether four words are the bundle of an instruction among n.
@@ -60,23 +60,33 @@ fn is_plain(n: usize, w: u64) -> bool
     (judge_at(n, w - 1) == 0) & ((w >> 20) % 4096 == 0)
 }
 
-// Whether bundle h of n has a shape, and is a HALT if it is the last. The plain ones, which are most, come first.
+// Whether four words are a bundle, and a HALT where no more follow. The plain ones, which are most, come first.
+fn passes_words(l: Layout, n: usize, w: u64, x: u64, y: u64, z: u64, more: bool) -> bool
+    requires { ⌜ (0 < n) × (n ≤ mostBundles) ⌝ }
+    ensures { λ r. ⌜ r ≡ (isBundle l n (readOff l w y z) w x y z && (more || isHalt (readOff l w y z))) ⌝ }
+{
+    if is_plain(n, w) & (x == 0) & (y == 0) & (z == 0) & more {
+        return true;
+    }
+    let i = read_off(l, w, y, z);
+    is_bundle(l, n, i, w, x, y, z) & (more | is_halt(i))
+}
+
+// Whether bundle h of n has a shape, and is a HALT if it is the last.
 fn passes(l: Layout, n: usize, commands: &[u64], h: usize) -> bool
     requires { ⌜ (0 < n) × (n ≤ mostBundles) × (h < n) × (bundleLength * n ≤ length (now commands)) ⌝ }
     ensures { λ r. ⌜ r ≡ passesAt l n (now (commands .entry)) h ⌝ }
 {
     let at = Bundle::LENGTH * h;
-    let w = commands[at];
-    let x = commands[at + 1];
-    let y = commands[at + 2];
-    let z = commands[at + 3];
-    if is_plain(n, w) & (x == 0) & (y == 0) & (z == 0) & (h + 1 < n) {
-        return true;
-    }
-    let i = read_off(l, w, y, z);
-    let shaped = is_bundle(l, n, i, w, x, y, z);
-    let last = is_halt(i);
-    shaped & ((h + 1 < n) | last)
+    passes_words(
+        l,
+        n,
+        commands[at],
+        commands[at + 1],
+        commands[at + 2],
+        commands[at + 3],
+        h + 1 < n,
+    )
 }
 
 // The lowest of n bundles that does not pass.

@@ -1,5 +1,5 @@
 use borrow.Author.Needs.{needs}
-use Rattle.checker.proofs.Passing.{passing, plain-passing}
+use Rattle.checker.proofs.Passing.{passing-at}
 use Rattle.checker.proofs.passes.Statement.{statement}
 use Rattle.checker.proofs.passes.Tie as tie
 
@@ -19,11 +19,6 @@ passes-spec =
     (λ c. search needs)
     (λ c. search needs)
     (λ c. search needs)
-    (λ c κs. search needs)
     (λ c. search needs)
-    (λ c. search (plain-passing, needs))
     (λ c κs. search needs)
-    (λ c κs. search needs)
-    (λ c κs. search needs)
-    (λ c. search needs)
-    (λ c. search (passing, needs)))
+    (λ c. search (passing-at, needs)))

@@ -1,6 +1,6 @@
 use borrow.Author.Needs.{needs}
-use Rattle.words.proofs.Laying.{kind-fits, jump-fits, landing-fits, lay-halt, lay-plain, lay-load, lay-store, lay-goif, lay-gox, lay-event}
-use Rattle.checker.proofs.Passing.{same-words}
+use Rattle.words.proofs.Laying.{kind-fits, landing-fits}
+use Rattle.checker.proofs.Shapes.{same-halt, same-plain, same-load, same-store, same-goif, same-gox, same-event}
 use Rattle.checker.proofs.shape.same.Statement.{statement}
 use Rattle.checker.proofs.shape.same.Tie as tie
 
@@ -9,9 +9,6 @@ same-spec =
     tie.close
     (tie.spec
     (λ c. search needs)
-    (λ c. search needs)
-    (λ c. search needs)
-    (λ c. search needs)
     (λ c κs. search needs)
     (λ c. search needs)
     (λ c. search (kind-fits, needs))
@@ -19,32 +16,20 @@ same-spec =
     (λ c. search needs)
     (λ c κs. search needs)
     (λ c κs. search needs)
-    (λ c κs. search needs)
     (λ c. search needs)
     (λ c κs. search needs)
     (λ c κs. search needs)
-    (λ c κs. search needs)
     (λ c. search needs)
-    (λ c. search (jump-fits, needs))
-    (λ c. search (landing-fits, needs))
+    (λ c κs. search (landing-fits, needs))
     (λ c κs. search needs)
     (λ c. search needs)
     (λ c κs. search needs)
     (λ c. search needs)
-    (λ c. search needs)
-    (λ c. search needs)
     (λ c κs. search needs)
-    (λ c κs. search needs)
-    (λ c κs. search needs)
-    (λ c. search needs)
-    (λ c κs. search needs)
-    (λ c κs. search needs)
-    (λ c κs. search needs)
-    (λ c κs. search needs)
-    (λ c. same-words _ _ _ _ _ _ _ _ _ _ _ (search (lay-halt, needs)))
-    (λ c. same-words _ _ _ _ _ _ _ _ _ _ _ (search (lay-plain, needs)))
-    (λ c. same-words _ _ _ _ _ _ _ _ _ _ _ (search (lay-load, needs)))
-    (λ c. same-words _ _ _ _ _ _ _ _ _ _ _ (search (lay-store, needs)))
-    (λ c. same-words _ _ _ _ _ _ _ _ _ _ _ (search (lay-goif, needs)))
-    (λ c. let base = c .before .before .before .before .before .before .before .before .before .struct-known .given .1 .1 .1 .1 .1 .1 .0 in same-words _ _ _ _ _ _ _ _ _ _ _ (search (lay-gox, base, needs)))
-    (λ c. same-words _ _ _ _ _ _ _ _ _ _ _ (search (lay-event, needs))))
+    (λ c. search (same-halt, needs))
+    (λ c. search (same-plain, needs))
+    (λ c. search (same-load, needs))
+    (λ c. search (same-store, needs))
+    (λ c. search (same-goif, needs))
+    (λ c. search (same-gox, needs))
+    (λ c. search (same-event, needs)))

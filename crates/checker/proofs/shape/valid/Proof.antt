@@ -1,5 +1,5 @@
 use borrow.Author.Needs.{needs}
-use Rattle.checker.proofs.Shapes.{valid-low, valid-high, valid-halt, valid-plain, valid-load, valid-store, valid-goif, valid-gox, valid-event}
+use Rattle.checker.proofs.Shapes.{valid-halt, valid-plain, valid-load, valid-store, valid-goif, valid-gox, valid-event}
 use Rattle.checker.proofs.shape.valid.Statement.{statement}
 use Rattle.checker.proofs.shape.valid.Tie as tie
 
@@ -9,14 +9,15 @@ valid-spec =
     (tie.spec
     (λ c. search needs)
     (λ c. search needs)
-    (λ c. search (valid-low, needs))
-    (λ c. search (valid-high, needs))
     (λ c κs. search needs)
     (λ c. search needs)
+    (λ c κs. search needs)
     (λ c. search needs)
+    (λ c κs. search needs)
     (λ c. search needs)
+    (λ c κs. search needs)
     (λ c. search needs)
-    (λ c. search needs)
+    (λ c κs. search needs)
     (λ c. search needs)
     (λ c. search (valid-halt, needs))
     (λ c. search (valid-plain, needs))
