@@ -9,7 +9,7 @@ use words::guest::judge_word;
 use words::guest::pack;
 ghost use mathlib.Core.Path.{_≡_};
 ghost use Prim.Native.Nat.{_+_, _*_, _/_, _%_, _≤_, _<_};
-ghost use lib.ListN.{length, getD};
+ghost use lib.ListN.{length};
 ghost use Rattle.rules.specs.Bytes.{sizeOf, byteAt, quadAt, fieldsAt, gap, oneFields, oneOf};
 ghost use Rattle.decode.specs.Parts.{pairAt, fieldsFrom};
 

@@ -1,7 +1,7 @@
 -- Laws of the stores of one instruction, in the form in which the proofs of the functions cite them.
 use mathlib.Core.Path.{_≡_, sym, _∙_}
 use mathlib.Core.List.{List, _++_}
-use Prim.Native.Nat.{ℕ, _+_, _/_, _%_, _≤_, _<_}
+use Prim.Native.Nat.{ℕ, _+_, _/_, _%_, _≤_}
 use native.Mathlib.Omega.{arith}
 use native.Mathlib.Nat.{add-assoc}
 use native.Mathlib.Numerals.{add-one, towards-suc}
@@ -37,9 +37,9 @@ module _ (x : ℕ) (out : List ℕ) (at : ℕ) where
 five : (n p q r t : ℕ) → n + p + q + r + t ≡ n + (p + q + (r + t))
 five n p q r t = omega arith
 
-pub put-pair : (x y : ℕ) (o o₁ o₂ : List ℕ) (at a : ℕ) → o₁ ≡ stores o at (byteOut x) → a ≡ at + bitOf x → o₂ ≡ stores o₁ a (byteOut y)
+pub put-both : (x y : ℕ) (o o₁ o₂ : List ℕ) (at a : ℕ) → o₁ ≡ stores o at (byteOut x) → a ≡ at + bitOf x → o₂ ≡ stores o₁ a (byteOut y)
     → o₂ ≡ stores o at (byteOut x ++ byteOut y)
-put-pair x y o o₁ o₂ at a e₁ ea e₂ = put-after o o₁ o₂ at a (byteOut x) (byteOut y) e₁ (ea ∙ rw length-byte) e₂
+put-both x y o o₁ o₂ at a e₁ ea e₂ = put-after o o₁ o₂ at a (byteOut x) (byteOut y) e₁ (ea ∙ rw length-byte) e₂
 
 pub put-four : (f : Fields) (o o₁ o₂ : List ℕ) (at a : ℕ) → o₁ ≡ stores o at (byteOut (f .d) ++ byteOut (f .a)) → a ≡ at + bitOf (f .d) + bitOf (f .a)
     → o₂ ≡ stores o₁ a (byteOut (f .b) ++ byteOut (f .c)) → o₂ ≡ stores o at (regsOut f)

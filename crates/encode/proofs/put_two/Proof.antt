@@ -1,5 +1,5 @@
 use borrow.Author.Needs.{needs}
-use Rattle.encode.proofs.Writing.{put-pair}
+use Rattle.encode.proofs.Writing.{put-both}
 use Rattle.encode.proofs.put_two.Statement.{statement}
 use Rattle.encode.proofs.put_two.Tie as tie
 use Rattle.encode.proofs.put_two.Reads as reads
@@ -16,7 +16,7 @@ same-length : tie.Need-same-length
 same-length c = search needs
 
 returns : tie.Need-returns
-returns c = search (put-pair, needs)
+returns c = search (put-both, needs)
 
 pub put-two-spec : {M : Type 1} → statement M
 put-two-spec = tie.close (tie.spec put-byte-requires put-byte-requires-2 same-length returns)
