@@ -1,3 +1,4 @@
+use native.Mathlib.Omega.{arith}
 use borrow.Author.Needs.{needs}
 use Rattle.layouts.proofs.Boxes.{box-turned, box-out, right-rest}
 use Rattle.layouts.proofs.right.Statement.{statement}
@@ -8,7 +9,7 @@ right-spec =
     tie.close
     (tie.spec
     (λ c. search (box-turned, needs))
-    (λ c. search (box-out, needs))
+    (λ c. box-out (c .before .before .args .l) (omega arith) (omega arith))
     (λ c. search needs)
     (λ c. search needs)
     (λ c. search needs)
