@@ -218,8 +218,8 @@ module _ {M : Type 1} (𝓤 : URA M) (H : Heap 𝓤) (A : Atoms 𝓤) (W : Given
         -- [_8; what it owns; the tokens but commands'; commands'; the answer's; log's last list; …; memory's 7; _15 8; …; _9 20; …; what frees _8 22; _7 23; …; room for _0 37; …; commands; readings]
         assigns ! (of-opd ! (load ! (from ! (stop !)) (look ! 0 refl))) (from ! (stop !)) (init ! 8 refl (LL.lawful T.the-type T′.the-laws 𝓤 H A W .typed (zs .1 .1 .0) _ g .0)) $
         assigns ! (agg ! (and-then ! (load ! (from ! (stop !)) (look ! 8 refl)) (and-then ! (load ! (from ! (stop !)) (look ! 20 refl)) (no-more !)))) (from ! (stop !)) (init ! 37 refl (LL.lawful O.the-type O′.the-laws 𝓤 H A W .typed (out (zs .1 .1 .0) r) _ (out-is (zs .1 .1 .0) r _ g is) .0)) $
-        returns ! (look ! 37 refl) $ forget ! 0 refl $ forget ! 8 refl $ forget ! 10 refl $ forget ! 12 refl $ forget ! 14 refl $ forget ! 16 refl $ forget ! 18 refl $ forget ! 20 refl $ forget ! 23 refl $ forget ! 25 refl $ forget ! 27 refl $ forget ! 29 refl $ forget ! 31 refl $ forget ! 33 refl $ forget ! 35 refl $ forget ! 37 refl $
-        move ! (37 ∷ 38 ∷ []) $ free1 ! $ move ! (35 ∷ 36 ∷ []) $ free1 ! $ move ! (33 ∷ 34 ∷ []) $ free1 ! $ move ! (31 ∷ 32 ∷ []) $ free1 ! $ move ! (29 ∷ 30 ∷ []) $ free1 ! $ move ! (27 ∷ 28 ∷ []) $ free1 ! $ move ! (25 ∷ 26 ∷ []) $ free1 ! $ move ! (23 ∷ 24 ∷ []) $ free1 ! $ move ! (0 ∷ 22 ∷ []) $ free1 ! $ move ! (19 ∷ 20 ∷ []) $ free1 ! $ move ! (17 ∷ 18 ∷ []) $ free1 ! $ move ! (15 ∷ 16 ∷ []) $ free1 ! $ move ! (13 ∷ 14 ∷ []) $ free1 ! $ move ! (11 ∷ 12 ∷ []) $ free1 ! $ move ! (9 ∷ 10 ∷ []) $ free1 ! $ move ! (7 ∷ 8 ∷ []) $ free1 ! $ free0 ! $
+        returns ! (look ! 37 refl) $
+        move ! (37 ∷ 38 ∷ []) $ forget ! 0 refl $ free1 ! $ move ! (35 ∷ 36 ∷ []) $ forget ! 0 refl $ free1 ! $ move ! (33 ∷ 34 ∷ []) $ forget ! 0 refl $ free1 ! $ move ! (31 ∷ 32 ∷ []) $ forget ! 0 refl $ free1 ! $ move ! (29 ∷ 30 ∷ []) $ forget ! 0 refl $ free1 ! $ move ! (27 ∷ 28 ∷ []) $ forget ! 0 refl $ free1 ! $ move ! (25 ∷ 26 ∷ []) $ forget ! 0 refl $ free1 ! $ move ! (23 ∷ 24 ∷ []) $ forget ! 0 refl $ free1 ! $ move ! (0 ∷ 22 ∷ []) $ forget ! 0 refl $ free1 ! $ move ! (19 ∷ 20 ∷ []) $ forget ! 0 refl $ free1 ! $ move ! (17 ∷ 18 ∷ []) $ forget ! 0 refl $ free1 ! $ move ! (15 ∷ 16 ∷ []) $ forget ! 0 refl $ free1 ! $ move ! (13 ∷ 14 ∷ []) $ forget ! 0 refl $ free1 ! $ move ! (11 ∷ 12 ∷ []) $ forget ! 0 refl $ free1 ! $ move ! (9 ∷ 10 ∷ []) $ forget ! 0 refl $ free1 ! $ move ! (7 ∷ 8 ∷ []) $ forget ! 0 refl $ free1 ! $ free0 ! $
         keep ! (2 ∷ 1 ∷ 7 ∷ 6 ∷ 8 ∷ 4 ∷ []) $ by ! (exits (zs .1 .1 .0) r (zs .1 .1 .1 .0) (zs .1 .1 .1 .1 .1 .1 .0) (out-is (zs .1 .1 .0) r _ g is) e₁ e₂ e₃ e₄ l l′)))))))))))))))))))))))))))))))
 
 module _ {M : Type 1} (𝓤 : URA M) (H : Heap 𝓤) (A : Atoms 𝓤) (W : Given 𝓤 H A) (at-mem : Memory → SProp 𝓤) (rn : Routine → Fun 𝓤) where
