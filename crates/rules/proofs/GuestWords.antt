@@ -5,19 +5,19 @@ use Prim.Native.Nat.{ℕ, zero, suc, _+_, _-_, _/_, _%_, _<_, _≤_}
 use native.Mathlib.Nat.{zero-add}
 use native.Mathlib.Omega.{arith}
 use borrow.Author.Tests.{ltb-true, ltb-false, eqb-true, eqb-false, lt-ltb, le-ltb, eq-eqb, ne-eqb}
-use lib.Dec.{eqb, ltb}
+use lib.Dec.{eqb, ltb, lit<, lit≤}
 use lib.ListN.{getD}
 use Rattle.rules.specs.declared.Fields.{Fields}
 use Rattle.rules.specs.declared.Instr.{Instr}
 use Rattle.rules.specs.declared.Instr.the-variants.{HALT, PLAIN, LOAD, STORE, GOIF, GOX, EVENT}
 use Rattle.rules.specs.declared.Refusal.the-variants.{Taken, BadLanding}
-use Rattle.rules.specs.Names.{topGuest, topCondition, topKind, guestRegisters, mostInstructions, numberOf}
+use Rattle.rules.specs.Names.{topGuest, topRegister, topCondition, topKind, guestRegisters, mostInstructions, numberOf}
 use Rattle.rules.specs.Words.{kindOf, vOf, zeroOf, fieldsOf, packOf, fieldSets, numberTops, bitOf, strayFields, highFields, judgeOf, judgeWord, judgeAt, instrOf}
 use Rattle.rules.specs.Commands.{limitsOf}
 use Rattle.rules.proofs.Facts.{Valid}
 use Rattle.rules.proofs.Bools.{both, cond-ind}
 use Rattle.rules.proofs.WordLaws.{bounds, lacks-a, lacks-b, lacks-v}
-use Rattle.rules.proofs.Packing.{InBits, pack-kind, pack-d, pack-a, pack-b, pack-c, pack-zero, pack-v}
+use Rattle.rules.proofs.Packing.{InBits, guest-bits, condition-bits, pack-kind, pack-d, pack-a, pack-b, pack-c, pack-zero, pack-v}
 
 -- ---- the instruction of a taken word is valid
 
@@ -35,30 +35,46 @@ taken-word n w =
 abbrev fields : ℕ → ℕ → ℕ → ℕ → ℕ → ℕ → Fields
 fields k d a b c v = record { kind = k; d = d; a = a; b = b; c = c; v = v }
 
+is-register : (r : ℕ) → r ≤ topGuest → r ≤ topRegister
+is-register r l = omega arith
+
+none : (x : ℕ) → x ≡ 0 → x ≤ 0
+none x e = omega arith
+
 -- the tables of a guest's plain kinds and of the commands that they become agree
 plain-limits : (x k d a b c v : ℕ) → judgeOf x (fields k d a b c v) ≡ 0 → 1 ≤ k → k < 8 → (d ≤ limitsOf (k + 1) .d) × (a ≤ limitsOf (k + 1) .a) × (b ≤ limitsOf (k + 1) .b) × (v ≤ limitsOf (k + 1) .v)
 plain-limits x zero d a b c v e l h = absurd (omega arith)
-plain-limits x (suc zero) d a b c v e l h = omega (arith, bounds x _ e, lacks-a x _ e refl, lacks-b x _ e refl)
-plain-limits x (suc (suc zero)) d a b c v e l h = omega (arith, bounds x _ e, lacks-b x _ e refl, lacks-v x _ e refl)
-plain-limits x (suc (suc (suc zero))) d a b c v e l h = omega (arith, bounds x _ e, lacks-v x _ e refl)
-plain-limits x (suc (suc (suc (suc zero)))) d a b c v e l h = omega (arith, bounds x _ e, lacks-v x _ e refl)
-plain-limits x (suc (suc (suc (suc (suc zero))))) d a b c v e l h = omega (arith, bounds x _ e, lacks-v x _ e refl)
-plain-limits x (suc (suc (suc (suc (suc (suc zero)))))) d a b c v e l h = omega (arith, bounds x _ e, lacks-v x _ e refl)
-plain-limits x (suc (suc (suc (suc (suc (suc (suc zero))))))) d a b c v e l h = omega (arith, bounds x _ e, lacks-b x _ e refl)
+plain-limits x (suc zero) d a b c v e l h = (is-register d (bounds x _ e .d), none a (lacks-a x _ e refl), none b (lacks-b x _ e refl), bounds x _ e .v)
+plain-limits x (suc (suc zero)) d a b c v e l h = (is-register d (bounds x _ e .d), is-register a (bounds x _ e .a), none b (lacks-b x _ e refl), none v (lacks-v x _ e refl))
+plain-limits x (suc (suc (suc zero))) d a b c v e l h = (is-register d (bounds x _ e .d), is-register a (bounds x _ e .a), is-register b (bounds x _ e .b), none v (lacks-v x _ e refl))
+plain-limits x (suc (suc (suc (suc zero)))) d a b c v e l h = (is-register d (bounds x _ e .d), is-register a (bounds x _ e .a), is-register b (bounds x _ e .b), none v (lacks-v x _ e refl))
+plain-limits x (suc (suc (suc (suc (suc zero))))) d a b c v e l h = (is-register d (bounds x _ e .d), is-register a (bounds x _ e .a), is-register b (bounds x _ e .b), none v (lacks-v x _ e refl))
+plain-limits x (suc (suc (suc (suc (suc (suc zero)))))) d a b c v e l h = (is-register d (bounds x _ e .d), is-register a (bounds x _ e .a), is-register b (bounds x _ e .b), none v (lacks-v x _ e refl))
+plain-limits x (suc (suc (suc (suc (suc (suc (suc zero))))))) d a b c v e l h = (is-register d (bounds x _ e .d), is-register a (bounds x _ e .a), none b (lacks-b x _ e refl), bounds x _ e .v)
 plain-limits x (suc (suc (suc (suc (suc (suc (suc (suc k)))))))) d a b c v e l h = absurd (omega arith)
 
 -- EVENT's number
 event-top : (k v : ℕ) → k ≡ 12 → v ≤ getD numberTops k 0 → v < 16
 event-top k v e h = let t : v ≤ getD numberTops 12 0 = rw e at h in omega arith
 
+-- guest registers, and landings
+is-guest : (r : ℕ) → r ≤ topGuest → r < guestRegisters
+is-guest r l = omega arith
+
+at-most : (r : ℕ) → r < guestRegisters → r ≤ topGuest
+at-most r l = omega arith
+
+below-next : (v n : ℕ) → v ≤ n → v < n + 1
+below-next v n l = omega arith
+
 pub taken-valid : (n w : ℕ) → judgeAt n w ≡ 0 → Valid (n + 1) (instrOf w)
 unfolding instrOf
 taken-valid n w e =
     let t = taken-word n w e in
     let g = bounds (zeroOf w) (fieldsOf w) (t .0) in
-    let hd = g .d in
-    let ha = g .a in
-    let hb = g .b in
+    let hd = is-guest _ (g .d) in
+    let ha = is-guest _ (g .a) in
+    let hb = is-guest _ (g .b) in
     let hc = g .c in
     let k = kindOf w in
     cond-ind (Valid (n + 1)) (eqb k 0) (λ _. tt) (λ h0.
@@ -66,11 +82,11 @@ taken-valid n w e =
     let l : 1 ≤ k = omega (arith, eqb-false k 0 h0) in
     let u : k < 8 = ltb-true k 8 h1 in
     let p = plain-limits (zeroOf w) k _ _ _ _ _ (t .0) l u in
-    (l, omega arith, omega arith, omega arith, omega arith, p .0, p .1, p .2, p .3)) (λ h1.
-    cond-ind (Valid (n + 1)) (eqb k 8) (λ _. (omega arith, omega arith)) (λ h2.
-    cond-ind (Valid (n + 1)) (eqb k 9) (λ _. (omega arith, omega arith)) (λ h3.
-    cond-ind (Valid (n + 1)) (eqb k 10) (λ h4. (omega arith, omega arith, hc, omega (arith, t .1 (eqb-true k 10 h4)))) (λ h4.
-    cond-ind (Valid (n + 1)) (eqb k 11) (λ _. (omega arith, omega arith, omega arith, hc)) (λ h5.
+    (l, at-most k u, hd, ha, hb, p .0, p .1, p .2, p .3)) (λ h1.
+    cond-ind (Valid (n + 1)) (eqb k 8) (λ _. (hd, ha)) (λ h2.
+    cond-ind (Valid (n + 1)) (eqb k 9) (λ _. (ha, hb)) (λ h3.
+    cond-ind (Valid (n + 1)) (eqb k 10) (λ h4. (ha, hb, hc, below-next (vOf w) n (t .1 (eqb-true k 10 h4)))) (λ h4.
+    cond-ind (Valid (n + 1)) (eqb k 11) (λ _. (hd, ha, hb, hc)) (λ h5.
     event-top k (vOf w)
     (omega (arith, g .kind, ltb-false k 8 h1, eqb-false k 8 h2, eqb-false k 9 h3, eqb-false k 10 h4, eqb-false k 11 h5))
     (g .v)))))))
@@ -124,33 +140,58 @@ pack-judged n k d a b c v h g =
     rw (pack-kind k d a b c v h, pack-d k d a b c v h, pack-a k d a b c v h, pack-b k d a b c v h, pack-c k d a b c v h, pack-zero k d a b c v h, pack-v k d a b c v h)
     (rw (le-ltb topKind k (g .0), eq-eqb _ 0 stray, eq-eqb _ 0 high) (lands n k v (g .3)))
 
+lower : (v top : ℕ) → v ≤ 0 → v ≤ top
+lower v top l = omega arith
+
 -- the plain kinds
 plain-fine : (n k d a b v : ℕ) → 1 ≤ k → k ≤ 7 → d < guestRegisters → a < guestRegisters → b < guestRegisters → a ≤ limitsOf (k + 1) .a → b ≤ limitsOf (k + 1) .b → v ≤ limitsOf (k + 1) .v → Fine n k d a b 0 v
 plain-fine n zero d a b v l h hd ha hb la lb lv = absurd (omega arith)
-plain-fine n (suc zero) d a b v l h hd ha hb la lb lv = (omega arith, (has d, lacks a la, lacks b lb, refl, has v), omega arith, λ e. omega arith)
-plain-fine n (suc (suc zero)) d a b v l h hd ha hb la lb lv = (omega arith, (has d, has a, lacks b lb, refl, lacks v lv), omega arith, λ e. omega arith)
-plain-fine n (suc (suc (suc zero))) d a b v l h hd ha hb la lb lv = (omega arith, (has d, has a, has b, refl, lacks v lv), omega arith, λ e. omega arith)
-plain-fine n (suc (suc (suc (suc zero)))) d a b v l h hd ha hb la lb lv = (omega arith, (has d, has a, has b, refl, lacks v lv), omega arith, λ e. omega arith)
-plain-fine n (suc (suc (suc (suc (suc zero))))) d a b v l h hd ha hb la lb lv = (omega arith, (has d, has a, has b, refl, lacks v lv), omega arith, λ e. omega arith)
-plain-fine n (suc (suc (suc (suc (suc (suc zero)))))) d a b v l h hd ha hb la lb lv = (omega arith, (has d, has a, has b, refl, lacks v lv), omega arith, λ e. omega arith)
-plain-fine n (suc (suc (suc (suc (suc (suc (suc zero))))))) d a b v l h hd ha hb la lb lv = (omega arith, (has d, has a, lacks b lb, refl, has v), omega arith, λ e. omega arith)
+plain-fine n (suc zero) d a b v l h hd ha hb la lb lv = (lit≤ tt, (has d, lacks a la, lacks b lb, refl, has v), (at-most d hd, at-most a ha, at-most b hb, lit≤ tt, lv), λ e. omega arith)
+plain-fine n (suc (suc zero)) d a b v l h hd ha hb la lb lv = (lit≤ tt, (has d, has a, lacks b lb, refl, lacks v lv), (at-most d hd, at-most a ha, at-most b hb, lit≤ tt, lower v _ lv), λ e. omega arith)
+plain-fine n (suc (suc (suc zero))) d a b v l h hd ha hb la lb lv = (lit≤ tt, (has d, has a, has b, refl, lacks v lv), (at-most d hd, at-most a ha, at-most b hb, lit≤ tt, lower v _ lv), λ e. omega arith)
+plain-fine n (suc (suc (suc (suc zero)))) d a b v l h hd ha hb la lb lv = (lit≤ tt, (has d, has a, has b, refl, lacks v lv), (at-most d hd, at-most a ha, at-most b hb, lit≤ tt, lower v _ lv), λ e. omega arith)
+plain-fine n (suc (suc (suc (suc (suc zero))))) d a b v l h hd ha hb la lb lv = (lit≤ tt, (has d, has a, has b, refl, lacks v lv), (at-most d hd, at-most a ha, at-most b hb, lit≤ tt, lower v _ lv), λ e. omega arith)
+plain-fine n (suc (suc (suc (suc (suc (suc zero)))))) d a b v l h hd ha hb la lb lv = (lit≤ tt, (has d, has a, has b, refl, lacks v lv), (at-most d hd, at-most a ha, at-most b hb, lit≤ tt, lower v _ lv), λ e. omega arith)
+plain-fine n (suc (suc (suc (suc (suc (suc (suc zero))))))) d a b v l h hd ha hb la lb lv = (lit≤ tt, (has d, has a, lacks b lb, refl, has v), (at-most d hd, at-most a ha, at-most b hb, lit≤ tt, lv), λ e. omega arith)
 plain-fine n (suc (suc (suc (suc (suc (suc (suc (suc k)))))))) d a b v l h hd ha hb la lb lv = absurd (omega arith)
+
+-- the fields of each guest word lie within their bits
+halt-bits : InBits 0 0 0 0 0
+halt-bits = (lit< tt, lit< tt, lit< tt, lit< tt, lit< tt)
+
+plain-bits : (k d a b : ℕ) → k ≤ 7 → d < guestRegisters → a < guestRegisters → b < guestRegisters → InBits k d a b 0
+plain-bits k d a b l hd ha hb = (omega arith, guest-bits d hd, guest-bits a ha, guest-bits b hb, lit< tt)
+
+load-bits : (d a : ℕ) → (d < guestRegisters) × (a < guestRegisters) → InBits 8 d a 0 0
+load-bits d a g = (lit< tt, guest-bits d (g .0), guest-bits a (g .1), lit< tt, lit< tt)
+
+store-bits : (a b : ℕ) → (a < guestRegisters) × (b < guestRegisters) → InBits 9 0 a b 0
+store-bits a b g = (lit< tt, lit< tt, guest-bits a (g .0), guest-bits b (g .1), lit< tt)
+
+goif-bits : (a b c : ℕ) → a < guestRegisters → b < guestRegisters → c ≤ topCondition → InBits 10 0 a b c
+goif-bits a b c ha hb hc = (lit< tt, lit< tt, guest-bits a ha, guest-bits b hb, condition-bits c hc)
+
+gox-bits : (d a b c : ℕ) → (d < guestRegisters) × (a < guestRegisters) × (b < guestRegisters) × (c ≤ topCondition) → InBits 11 d a b c
+gox-bits d a b c g = (lit< tt, guest-bits d (g .0), guest-bits a (g .1), guest-bits b (g .2), condition-bits c (g .3))
+
+event-bits : InBits 12 0 0 0 0
+event-bits = (lit< tt, lit< tt, lit< tt, lit< tt, lit< tt)
 
 -- of n + 1 bundles at most, a valid instruction's word is taken among n
 pub guest-taken : (n : ℕ) → n ≤ mostInstructions → (i : Instr) → Valid (n + 1) i → judgeAt n (guestWord i) ≡ 0
-guest-taken n m HALT g = pack-judged n 0 0 0 0 0 0 (omega arith) (omega arith, (refl, refl, refl, refl, refl), omega arith, λ e. omega arith)
+guest-taken n m HALT g = pack-judged n 0 0 0 0 0 0 halt-bits (lit≤ tt, (refl, refl, refl, refl, refl), (lit≤ tt, lit≤ tt, lit≤ tt, lit≤ tt, lit≤ tt), λ e. omega arith)
 guest-taken n m (PLAIN k d a b v) g =
-    pack-judged n k d a b 0 v (omega arith) (plain-fine n k d a b v (g .0) (g .1) (g .2) (g .3) (g .4) (g .6) (g .7) (g .8))
+    pack-judged n k d a b 0 v (plain-bits k d a b (g .1) (g .2) (g .3) (g .4)) (plain-fine n k d a b v (g .0) (g .1) (g .2) (g .3) (g .4) (g .6) (g .7) (g .8))
 guest-taken n m (LOAD d a) g =
-    pack-judged n 8 d a 0 0 0 (omega arith) (omega arith, (has d, has a, refl, refl, refl), omega arith, λ e. omega arith)
+    pack-judged n 8 d a 0 0 0 (load-bits d a g) (lit≤ tt, (has d, has a, refl, refl, refl), (at-most d (g .0), at-most a (g .1), lit≤ tt, lit≤ tt, lit≤ tt), λ e. omega arith)
 guest-taken n m (STORE a b) g =
-    pack-judged n 9 0 a b 0 0 (omega arith) (omega arith, (refl, has a, has b, refl, refl), omega arith, λ e. omega arith)
+    pack-judged n 9 0 a b 0 0 (store-bits a b g) (lit≤ tt, (refl, has a, has b, refl, refl), (lit≤ tt, at-most a (g .0), at-most b (g .1), lit≤ tt, lit≤ tt), λ e. omega arith)
 guest-taken n m (GOIF a b c v) g =
-    pack-judged n 10 0 a b c v (omega arith) (omega arith, (refl, has a, has b, has c, has v), omega arith, λ e. omega arith)
+    pack-judged n 10 0 a b c v (goif-bits a b c (g .0) (g .1) (g .2)) (lit≤ tt, (refl, has a, has b, has c, has v), (lit≤ tt, at-most a (g .0), at-most b (g .1), g .2, omega arith), λ e. omega arith)
 guest-taken n m (GOX d a b c) g =
-    pack-judged n 11 d a b c 0 (omega arith) (omega arith, (has d, has a, has b, has c, refl), omega arith, λ e. omega arith)
+    pack-judged n 11 d a b c 0 (gox-bits d a b c g) (lit≤ tt, (has d, has a, has b, has c, refl), (at-most d (g .0), at-most a (g .1), at-most b (g .2), g .3, lit≤ tt), λ e. omega arith)
 guest-taken n m (EVENT v) g =
-    pack-judged n 12 0 0 0 0 v (omega arith) (omega arith, (refl, refl, refl, refl, has v), omega arith, λ e. omega arith)
+    pack-judged n 12 0 0 0 0 v event-bits (lit≤ tt, (refl, refl, refl, refl, has v), (lit≤ tt, lit≤ tt, lit≤ tt, lit≤ tt, omega arith), λ e. omega arith)
 
 -- and stands for it
 abbrev instrAt : ℕ → ℕ → ℕ → ℕ → ℕ → ℕ → Instr
@@ -165,10 +206,11 @@ pack-instr k d a b c v h =
     rw (pack-kind k d a b c v h, pack-d k d a b c v h, pack-a k d a b c v h, pack-b k d a b c v h, pack-c k d a b c v h, pack-v k d a b c v h)
 
 pub guest-instr : (n : ℕ) (i : Instr) → Valid n i → instrOf (guestWord i) ≡ i
-guest-instr n HALT g = pack-instr 0 0 0 0 0 0 (omega arith)
-guest-instr n (PLAIN k d a b v) g = pack-instr k d a b 0 v (omega arith) ∙ rw (ne-eqb k 0 (omega arith), lt-ltb k 8 (omega arith))
-guest-instr n (LOAD d a) g = pack-instr 8 d a 0 0 0 (omega arith)
-guest-instr n (STORE a b) g = pack-instr 9 0 a b 0 0 (omega arith)
-guest-instr n (GOIF a b c v) g = pack-instr 10 0 a b c v (omega arith)
-guest-instr n (GOX d a b c) g = pack-instr 11 d a b c 0 (omega arith)
-guest-instr n (EVENT v) g = pack-instr 12 0 0 0 0 v (omega arith)
+guest-instr n HALT g = pack-instr 0 0 0 0 0 0 halt-bits
+guest-instr n (PLAIN k d a b v) g =
+    pack-instr k d a b 0 v (plain-bits k d a b (g .1) (g .2) (g .3) (g .4)) ∙ rw (ne-eqb k 0 (omega arith), lt-ltb k 8 (omega arith))
+guest-instr n (LOAD d a) g = pack-instr 8 d a 0 0 0 (load-bits d a g)
+guest-instr n (STORE a b) g = pack-instr 9 0 a b 0 0 (store-bits a b g)
+guest-instr n (GOIF a b c v) g = pack-instr 10 0 a b c v (goif-bits a b c (g .0) (g .1) (g .2))
+guest-instr n (GOX d a b c) g = pack-instr 11 d a b c 0 (gox-bits d a b c g)
+guest-instr n (EVENT v) g = pack-instr 12 0 0 0 0 v event-bits
