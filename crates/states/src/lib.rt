@@ -116,15 +116,16 @@ pub fn apply(
     requires { ⌜ (at .pairs < 2 ^ 62) × (at .used < 2 ^ 63) × (length (now regs) ≡ registers) ⌝ }
     ensures { λ r. ⌜ stateAt (now (regs .exit)) r (now (memory .exit)) (now (log .exit)) ≡ applyOf (now (readings .entry)) e (stateAt (now (regs .entry)) at (now (memory .entry)) (now (log .entry))) ⌝ }
 {
+    let next = onward(at);
     match e {
         Effect::Go(to) => landed(at, to),
         Effect::Put(d, x) => {
             put(regs, d, x);
-            onward(at)
+            next
         }
         Effect::Cell(i, x) => {
             cells::poke(memory, i, x);
-            onward(at)
+            next
         }
         Effect::Order(v) => {
             put_pair(log, at.pairs, v, regs[0]);
