@@ -11,7 +11,6 @@ use Rattle.rules.specs.declared.Fields.{Fields}
 use Rattle.rules.specs.declared.Refusal.the-variants.{Taken, BadLanding}
 use Rattle.rules.specs.Names.{topKind, numberOf}
 use Rattle.rules.specs.Words.{fieldSets, numberTops, bitOf, judgeOf, fieldsOf, kindOf, dOf, aOf, bOf, cOf, vOf, zeroOf, judgeWord, judgeAt}
-use Rattle.strays.proofs.Masks.{Within}
 use Rattle.guests.specs.Strays.{guestLimits, strayBits}
 use Rattle.guests.proofs.Masks.{guest-within}
 

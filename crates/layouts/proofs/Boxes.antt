@@ -1,6 +1,6 @@
 -- Laws of the layout test.
 use mathlib.Core.Path.{_≡_}
-use mathlib.Core.Bool.{Bool, true, false, _&&_, and-true, and-false}
+use mathlib.Core.Bool.{Bool, false, _&&_, and-true, and-false}
 use Prim.Native.Nat.{_%_, _≤_, _<_}
 use lib.Count.{ones}
 use lib.Dec.{leb, eqb}

@@ -92,17 +92,11 @@ module _ (x : ℕ) (f : Fields) (e : judgeOf x f ≡ 0) where
   strays = right-zero x _ (good x f e .none)
 
   -- a field that the kind lacks is 0
-  pub lacks-d : getD fieldSets (f .kind) 0 / 2 % 2 ≡ 0 → f .d ≡ 0
-  lacks-d h = absent _ _ (all-zero _ _ _ _ _ strays .0) h
-
   pub lacks-a : getD fieldSets (f .kind) 0 / 4 % 2 ≡ 0 → f .a ≡ 0
   lacks-a h = absent _ _ (all-zero _ _ _ _ _ strays .1) h
 
   pub lacks-b : getD fieldSets (f .kind) 0 / 8 % 2 ≡ 0 → f .b ≡ 0
   lacks-b h = absent _ _ (all-zero _ _ _ _ _ strays .2) h
-
-  pub lacks-c : getD fieldSets (f .kind) 0 / 16 % 2 ≡ 0 → f .c ≡ 0
-  lacks-c h = absent _ _ (all-zero _ _ _ _ _ strays .3) h
 
   pub lacks-v : getD fieldSets (f .kind) 0 / 32 % 2 ≡ 0 → f .v ≡ 0
   lacks-v h = absent _ _ (all-zero _ _ _ _ _ strays .4) h

@@ -4,7 +4,7 @@ use Prim.Native.Nat.{ℕ}
 use mathlib.Core.Path.{_≡_, subst, sym, _∙_}
 use lib.Bits.{and-le-r}
 use Rattle.rules.specs.Commands.{isCommand}
-use Rattle.commands.proofs.Masks.{passesAt, at-once, passes, passes-are, unknown}
+use Rattle.commands.proofs.Masks.{passesAt, at-once, passes-are, unknown}
 use Rattle.commands.proofs.is_command.Statement.{statement}
 use Rattle.commands.proofs.is_command.Tie as tie
 

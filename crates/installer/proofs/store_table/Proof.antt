@@ -1,10 +1,8 @@
-use Prim.Native.Nat.{ℕ, zero-le, _+_, _-_, _≤_}
-use mathlib.Core.Path.{_≡_, refl, sym, _∙_, ap}
-use mathlib.Core.List.{List}
-use denote.Ref.{now}
+use Prim.Native.Nat.{zero-le, _+_, _-_, _≤_}
+use mathlib.Core.Path.{_≡_, refl}
 use native.Mathlib.Omega.{arith}
 use borrow.Author.Needs.{needs}
-use lib.ListN.{length, drop, drop-of-length-le}
+use lib.ListN.{length, drop}
 use lib.Seq.{sets}
 use Rattle.installer.proofs.Installs.{store-more, store-done}
 use Rattle.installer.proofs.store_table.Statement.{statement}

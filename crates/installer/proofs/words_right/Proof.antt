@@ -2,7 +2,7 @@ use Prim.Native.Nat.{_-_, _*_, _≤_, zero-le}
 use mathlib.Core.Path.{_≡_, refl}
 use denote.Ref.{now}
 use borrow.Author.Needs.{needs}
-use lib.ListN.{length, take}
+use lib.ListN.{take}
 use Rattle.rules.specs.Policies.{entriesRight, wordBytes}
 use Rattle.installer.proofs.Installs.{word-more, words-done}
 use Rattle.installer.proofs.words_right.Statement.{statement}

@@ -1,5 +1,4 @@
 use mathlib.Core.Bool.{false≢true}
-use native.Mathlib.Omega.{arith}
 use borrow.Author.Needs.{needs}
 use Rattle.shapes.proofs.Passing.{plain-facts}
 use Rattle.shapes.proofs.is_plain.Statement.{statement}
