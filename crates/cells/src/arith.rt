@@ -1,6 +1,7 @@
 // Arithmetic of 32-bit numbers: wrapping, two's complement, the conditions.
 ghost use mathlib.Core.Path.{_≡_};
 ghost use Prim.Native.Nat.{_≤_};
+ghost use lib.Bits.{bitAnd, bitOr};
 ghost use Rattle.rules.specs.Names.{topShift};
 ghost use Rattle.rules.specs.Signed.{twos, bitsOf, sarOf, lessOf};
 ghost use Rattle.rules.specs.Commands.{addOf, subOf, shlOf, holdsOf};
@@ -15,6 +16,18 @@ pub fn sub(x: u32, y: u32) -> u32
     ensures { λ r. ⌜ r ≡ subOf x y ⌝ }
 {
     std::num::wrapping_sub_u32(x, y)
+}
+
+pub fn and(x: u32, y: u32) -> u32
+    ensures { λ r. ⌜ r ≡ bitAnd x y ⌝ }
+{
+    x & y
+}
+
+pub fn or(x: u32, y: u32) -> u32
+    ensures { λ r. ⌜ r ≡ bitOr x y ⌝ }
+{
+    x | y
 }
 
 pub fn shl(x: u32, v: u32) -> u32
