@@ -106,7 +106,7 @@ void hemdroas_load   (const uint32_t layout[7], uint32_t states, uint32_t start,
  *   21 no arrow      the policy stopped it
  *   22 fault         never on a list that check passed, run as installed
  *   23 log full      pause: go on with an empty log
- *   24 probe silent  pause: go on with new readings
+ *   24 probe silent  pause: go on with new readings; comes before 23 where both are true
  *   25 spent         pause: go on with a new budget
  *    7 bad layout    refused, and nothing done; three zeros follow
  * After a pause, lend the same machine and memory again. */

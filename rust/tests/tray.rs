@@ -207,6 +207,21 @@ fn shifts_and_comparisons_know_the_sign() {
 }
 
 #[test]
+fn a_silent_probe_is_reported_before_a_full_log() {
+    // With neither log nor readings an order waits for the log, a reading for the probe.
+    for (event, ending) in [
+        (0, Ending::LogFull),
+        (7, Ending::LogFull),
+        (8, Ending::ProbeSilent),
+        (15, Ending::ProbeSilent),
+    ] {
+        let words = [pack(guest::EVENT, 0, 0, 0, 0, event)];
+        let (_, _, answer) = perform(&sandbox(256, 511), &words, 100);
+        assert_eq!((answer.ending, answer.steps), (ending, 3));
+    }
+}
+
+#[test]
 fn a_field_that_is_zero_is_absent() {
     let set_200: [u8; 9] = [1, 0, 0x23, 0x01, 0x01, 0xc8, 0, 0, 0];
     let mut words = [0; 1];

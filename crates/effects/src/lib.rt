@@ -14,7 +14,7 @@ ghost use Rattle.rules.specs.declared.Status.the-variants.{Stopped, Faulted};
 ghost use Rattle.rules.specs.declared.Effect.the-variants.{Go, Put, Cell, End};
 ghost use Rattle.rules.specs.Names.{events, noArrow};
 ghost use Rattle.rules.specs.Commands.{isCommand, commandOf, holdsOf, fetchOf};
-ghost use Rattle.rules.specs.Machines.{onward, viewOf, effectOf, eventEffect};
+ghost use Rattle.rules.specs.Machines.{onward, viewOf, effectOf, eventEffect, ifRoom};
 
 // The next pc is formed only in the arms that need it, which keeps a register free across the match.
 fn target(c: u64, x: u32, y: u32, to: u32, pc: u32) -> Effect
@@ -70,20 +70,27 @@ fn stop_if(x: u32, pc: u32) -> Effect
     Effect::Go(arith::add(pc, 1))
 }
 
-// An event, or the pause before it: the log comes before the readings.
-fn event(v: u32, free: usize, left: usize) -> Effect
-    ensures { λ r. ⌜ r ≡ eventEffect v free left ⌝ }
+// An event's effect, or the pause before it for want of two free log cells.
+fn in_room(free: usize, e: Effect) -> Effect
+    ensures { λ r. ⌜ r ≡ ifRoom free e ⌝ }
 {
     if free < 2 {
         return Effect::Wait(Ending::LogFull);
     }
+    e
+}
+
+// An event, or the pause before it: a silent probe comes before a full log.
+fn event(v: u32, free: usize, left: usize) -> Effect
+    ensures { λ r. ⌜ r ≡ eventEffect v free left ⌝ }
+{
     if v < Policy::ORDERS {
-        return Effect::Order(v);
+        return in_room(free, Effect::Order(v));
     }
     if left == 0 {
         return Effect::Wait(Ending::Silent);
     }
-    Effect::Probe(v)
+    in_room(free, Effect::Probe(v))
 }
 
 // What a command would do. Single numbers, no range: so the match becomes one jump.

@@ -27,7 +27,7 @@ use Rattle.rules.specs.Layouts.{rightLayout}
 use Rattle.rules.specs.Policies.{Policy, rightPolicy}
 use Rattle.rules.specs.Commands.{fetchOf}
 use Rattle.rules.specs.Bundles.{baseRight, rewritten, commandsOf, commandCount, placeAnswer, rewriteAnswer, countRight, passesAt, checkFrom, checkAnswer}
-use Rattle.rules.specs.Machines.{View, State, Ran, fits, installAnswer, regAt, entryOf, effectOf, withPair, applyOf, seen, nextOf, stepOf, endingOf, endedIn, unlessOver, unlessWait, runFrom, startOf, runOf}
+use Rattle.rules.specs.Machines.{ifRoom, View, State, Ran, fits, installAnswer, regAt, entryOf, effectOf, withPair, applyOf, seen, nextOf, stepOf, endingOf, endedIn, unlessOver, unlessWait, runFrom, startOf, runOf}
 use Rattle.rules.specs.Loading.{loadAnswer}
 use Rattle.rules.proofs.Bools.{cond-ind, both}
 use Rattle.rules.proofs.Refusals.{taken-then}
@@ -231,6 +231,9 @@ Room free left (Probe v) = (2 ≤ free) × (1 ≤ left)
 Room free left (End t) = Unit {0}
 Room free left (Wait e) = Unit {0}
 
+in-room : (free left : ℕ) (e : Effect) → (2 ≤ free → Room free left e) → Room free left (ifRoom free e)
+in-room free left e r = cond-ind (Room free left) (ltb free 2) (λ _. tt) (λ f. r (ltb-false _ _ f))
+
 pub room : (c : Command) (s : View) → Room (s .free) (s .left) (effectOf c s)
 unfolding effectOf
 room Nop s = tt
@@ -246,9 +249,8 @@ room (Look d v) s =
 room (StopIf d) s = cond-ind (Room (s .free) (s .left)) (eqb (regAt s d) noArrow) (λ _. tt) (λ _. tt)
 room (Keep d) s = cond-ind (Room (s .free) (s .left)) (ltb (s .cell) (length (s .mem))) (λ _. tt) (λ _. tt)
 room (Event v) s =
-    cond-ind (Room (s .free) (s .left)) (ltb (s .free) 2) (λ _. tt)
-    (λ f. cond-ind (Room (s .free) (s .left)) (ltb v orders) (λ _. ltb-false _ _ f)
-    (λ _. cond-ind (Room (s .free) (s .left)) (eqb (s .left) 0) (λ _. tt) (λ e. (ltb-false _ _ f, omega (arith, eqb-false (s .left) 0 e)))))
+    cond-ind (Room (s .free) (s .left)) (ltb v orders) (λ _. in-room (s .free) (s .left) (Order v) (λ f. f))
+    (λ _. cond-ind (Room (s .free) (s .left)) (eqb (s .left) 0) (λ _. tt) (λ e. in-room (s .free) (s .left) (Probe v) (λ f. (f, omega (arith, eqb-false (s .left) 0 e)))))
 room Stray s = tt
 
 -- pairs and readings of a state: at most p and u; the pairs lie in a log as long as l and as l beyond them, the readings in rd

@@ -24,7 +24,7 @@ use Rattle.rules.specs.Names.{orders, noArrow, bundleLength, hidden}
 use Rattle.rules.specs.Policies.{Policy}
 use Rattle.rules.specs.Commands.{fetchOf, holdsOf}
 use Rattle.rules.specs.Bundles.{addressOf, positionOf, shapeOf, bundleAt}
-use Rattle.rules.specs.Machines.{State, Ran, View, regAt, ifCell, entryOf, onward, effectOf, applyOf, seen, nextOf, stepOf, unlessWait, runFrom, startOf, runOf, fits, installMemory}
+use Rattle.rules.specs.Machines.{State, Ran, View, regAt, ifCell, ifRoom, entryOf, onward, effectOf, applyOf, seen, nextOf, stepOf, unlessWait, runFrom, startOf, runOf, fits, installMemory}
 use Rattle.rules.specs.Guests.{Pair, Guest, rOf, guestStart}
 use Rattle.rules.specs.Runs.{begins, begunFrom, runOn, afterTaken, afterRun, after, eventIn}
 use Rattle.rules.specs.Claims.{Stands, Progress}
@@ -138,12 +138,15 @@ module _ (lay : Layout) (rd : List ℕ) (s : State) where
   moves-at : (i : ℕ) (e : Effect) → Moves lay rd s e → Moves lay rd s (ifCell (seen lay rd s) i e)
   moves-at i e m = cond-ind (Moves lay rd s) (ltb i (length (s .mem))) (λ _. m) (λ _. faults)
 
+  -- with room in the log; where there is none it pauses
+  moves-room : (e : Effect) → Moves lay rd s e → Moves lay rd s (ifRoom (length (s .log) - 2 * s .pairs) e)
+  moves-room e m = cond-ind (Moves lay rd s) (ltb (length (s .log) - 2 * s .pairs) 2) (λ _ f. absurd (f LogFull refl)) (λ _. m)
+
   moves-event : (v : ℕ) → Moves lay rd s (effectOf (Event v) (seen lay rd s))
   unfolding effectOf applyOf
   moves-event v =
-      cond-ind (Moves lay rd s) (ltb (length (s .log) - 2 * s .pairs) 2) (λ _ f. absurd (f LogFull refl))
-      (λ _. cond-ind (Moves lay rd s) (ltb v orders) (λ _ f. inl refl)
-      (λ _. cond-ind (Moves lay rd s) (eqb (length rd - s .used) 0) (λ _ f. absurd (f Silent refl)) (λ _ f. inl refl)))
+      cond-ind (Moves lay rd s) (ltb v orders) (λ _. moves-room (Order v) (λ f. inl refl))
+      (λ _. cond-ind (Moves lay rd s) (eqb (length rd - s .used) 0) (λ _ f. absurd (f Silent refl)) (λ _. moves-room (Probe v) (λ f. inl refl)))
 
   start-moves : (n : ℕ) (i : Instr) → Moves lay rd s (effectOf (shapeOf lay n i 0) (seen lay rd s))
   unfolding effectOf shapeOf
