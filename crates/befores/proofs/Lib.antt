@@ -1,0 +1,6 @@
+pub mod Maps
+pub mod Laws
+pub mod Policies
+pub mod Orders
+pub mod Nevers
+pub mod Samples

@@ -1,0 +1,70 @@
+-- The made policy's arrows, and that it is right.
+use Prim.Native.Nat.{ℕ, zero, suc, _+_, _*_, _/_, _%_, _^_, _<_, _≤_}
+use mathlib.Core.Path.{_≡_, refl, sym, ap, ap₂, _∙_}
+use mathlib.Core.Bool.{Bool, true, false, _&&_, _||_, not, cond, and-assoc}
+use mathlib.Core.List.{List, [], _∷_, _++_}
+use native.Mathlib.Omega.{arith}
+use lib.Bits.{bitOr}
+use lib.Dec.{eqb, ltb}
+use lib.ListN.{length, getD}
+use lib.Pow.{pow-pos}
+use borrow.Author.Tests.{eq-eqb, ne-eqb, lt-ltb, le-ltb}
+use Rattle.rules.specs.declared.Layout.{Layout}
+use Rattle.rules.specs.Names.{events, noArrow}
+use Rattle.rules.specs.Policies.{Policy, arrow, entryRight, entriesRight, rightPolicy}
+use Rattle.befores.specs.Maps.{mapOf, build}
+use Rattle.befores.specs.Befores.{Fit, named, namedCount, statesOf, bytesOf, arrowOf, entryOf, stuck, onOf, tableOf, madePolicy, pairsRight}
+use Rattle.befores.specs.Claims.{MadeRight}
+use Rattle.befores.proofs.Maps.{length-build, build-at}
+use Rattle.befores.proofs.Laws.{fit-of, on-below}
+
+pub fit-right : (ps : List ℕ) → pairsRight ps ≡ true → Fit ps (mapOf (named ps) events)
+fit-right ps t = fit-of ps (mapOf (named ps) events) refl (pairsRight ps) refl t
+
+-- the policy's arrow is the one defined
+pub arrow-is : (ps : List ℕ) (s e : ℕ) → s < statesOf ps → e < events → arrow (madePolicy ps) s e ≡ arrowOf ps s e
+arrow-is ps s e h k =
+    let i = events * s + e in
+    let q : i / events ≡ s = omega arith in
+    let r : i % events ≡ e = omega arith in
+    rw (lt-ltb e events k) (build-at (entryOf ps) (bytesOf ps) i noArrow (omega arith) ∙ ap₂ (arrowOf ps) q r)
+
+-- an event above 15 has none
+pub arrow-above : (pol : Policy) (s e : ℕ) → events ≤ e → arrow pol s e ≡ noArrow
+arrow-above pol s e h = rw (le-ltb e events h)
+
+-- an arrow leads to a state
+entry-right : (ps : List ℕ) (m : ℕ) → Fit ps m → (i : ℕ) → i < bytesOf ps → entryRight (statesOf ps) (entryOf ps i) ≡ true
+entry-right ps m fit i h = go (stuck ps s e) refl (on-below ps m fit s e (omega arith) (omega arith))
+  where
+    s : ℕ
+    s = i / events
+
+    e : ℕ
+    e = i % events
+
+    right : (b : Bool) → (b || true) ≡ true
+    right true = refl
+    right false = refl
+
+    go : (b : Bool) → stuck ps s e ≡ b → cond b s (arrowOf ps s e) < statesOf ps → (ltb (arrowOf ps s e) (statesOf ps) || stuck ps s e) ≡ true
+    go true t l = ap (λ (x : Bool). ltb (arrowOf ps s e) (statesOf ps) || x) t ∙ right (ltb (arrowOf ps s e) (statesOf ps))
+    go false t l = ap (λ (x : Bool). x || stuck ps s e) (lt-ltb (arrowOf ps s e) (statesOf ps) l)
+
+entries-append : (s : ℕ) (a b : List ℕ) → entriesRight s (a ++ b) ≡ (entriesRight s a && entriesRight s b)
+entries-append s [] b = refl
+entries-append s (x ∷ a) b = ap (λ (r : Bool). entryRight s x && r) (entries-append s a b) ∙ sym (and-assoc (entryRight s x) (entriesRight s a) (entriesRight s b))
+
+entries-build : (s : ℕ) (f : ℕ → ℕ) (n : ℕ) → ((i : ℕ) → i < n → entryRight s (f i) ≡ true) → entriesRight s (build f n) ≡ true
+unfolding build
+entries-build s f zero g = refl
+entries-build s f (suc n) g =
+    entries-append s (build f n) (f n ∷ [])
+    ∙ ap₂ _&&_ (entries-build s f n (λ i h. g i (omega arith))) (ap (λ (x : Bool). x && true) (g n (omega arith)))
+
+pub made-right : MadeRight
+unfolding rightPolicy
+made-right ps lay t e =
+    let fit = fit-right ps t in
+    rw (eq-eqb (statesOf ps) (lay .states) (sym e), eq-eqb (length (tableOf ps)) (events * statesOf ps) (length-build (entryOf ps) (bytesOf ps)), lt-ltb 0 (statesOf ps) (pow-pos (namedCount ps)))
+    (entries-build (statesOf ps) (entryOf ps) (bytesOf ps) (entry-right ps (mapOf (named ps) events) fit))
