@@ -1,22 +1,22 @@
 -- Laws of the code's parts, one for each way out.
 use Prim.Native.Nat.{ℕ, zero, suc, _+_, _-_, _*_, _/_, _%_, _^_, _<_, _≤_}
-use mathlib.Core.Path.{_≡_, refl, sym, ap, ap₂, _∙_}
+use mathlib.Core.Path.{_≡_, refl, sym, ap, _∙_}
 use mathlib.Core.Bool.{Bool, true, false, _&&_, _||_, not, cond}
 use mathlib.Core.List.{List, _++_}
 use native.Mathlib.Omega.{arith}
 use native.Mathlib.Nat.{mod-eq-of-lt}
 use lib.Bits.{bitAnd, bitOr, and-mask, mask-lt, or-lt}
 use lib.Count.{ones, ones-le}
-use lib.Dec.{eqb, leb, ltb, lit<}
+use lib.Dec.{eqb, leb, ltb}
 use lib.ListN.{length, getD, set, drop}
-use borrow.Author.Tests.{ltb-true, eq-eqb, ne-eqb, lt-ltb, le-ltb, le-leb, leb-true, not-true, not-false}
+use borrow.Author.Tests.{ltb-true, eq-eqb, ne-eqb, lt-ltb, le-ltb, leb-true}
 use lib.Pow.{pow-lt, pow-pos, pow-mono}
-use Rattle.rules.specs.declared.Refusal.the-variants.{Taken, SmallOutput}
-use Rattle.rules.specs.Names.{events, noArrow, numberOf, answer, refusal, ifTaken, outputOf, roomFor}
+use Rattle.rules.specs.declared.Refusal.the-variants.{SmallOutput}
+use Rattle.rules.specs.Names.{events, noArrow, answer, refusal}
 use Rattle.rules.proofs.Bools.{both}
 use Rattle.befores.specs.declared.Made.{Made}
-use Rattle.befores.specs.Maps.{every, some, count, mapOf, bit, build}
-use Rattle.befores.specs.Befores.{Fit, namedIn, named, knownIn, known, mostNamed, firstAt, secondAt, pairsIn, place, firstsIn, statesOf, bytesOf, namedCount, arrowOf, entryOf, stuck, onOf, turnsOf, fullOf, neverOf, badPair, tableOf, pairsRight, makeAnswer, madeWith, makeOf, makeTable}
+use Rattle.befores.specs.Maps.{every, some, mapOf, bit, build}
+use Rattle.befores.specs.Befores.{Fit, namedIn, named, knownIn, known, mostNamed, firstAt, pairsIn, place, firstsIn, statesOf, bytesOf, namedCount, arrowOf, entryOf, stuck, onOf, turnsOf, fullOf, neverOf, badPair, pairsRight, makeAnswer, madeWith, makeOf, makeTable}
 use Rattle.befores.proofs.Maps.{every-at, map-or, map-one, map-none, map-low, map-ones, bit-map, count-less, map-lt, length-build, build-more}
 
 pub known-none : (ps : List ℕ) → knownIn ps 0 ≡ true
@@ -27,12 +27,16 @@ pub known-more : (ps : List ℕ) (i x : ℕ) (ok : Bool) → ok ≡ knownIn ps i
 unfolding knownIn every
 known-more ps i x ok e f = let n : i + 1 ≡ suc i = omega arith in rw (n, e, f)
 
+-- 2 ^ k, shifted in 64 bits
+pub shifted : (k : ℕ) → k < events → (1 * 2 ^ k) % 2 ^ 64 ≡ 2 ^ k
+shifted k h = let o : 1 * 2 ^ k ≡ 2 ^ k = omega arith in rw o (mod-eq-of-lt (pow-lt {i = k} {j = 64} (omega arith)))
+
+pub shifted-some : (k : ℕ) → k < events → 1 ≤ (1 * 2 ^ k) % 2 ^ 64
+shifted-some k h = rw (shifted k h) (pow-pos k)
+
 -- the map of one event
 pub one-in : (e : ℕ) → e < events → (1 * 2 ^ e) % 2 ^ 64 ≡ mapOf (eqb e) events
-one-in e h =
-    let l : 2 ^ e < 2 ^ 64 = pow-lt {i = e} {j = 64} (omega arith) in
-    let o : 1 * 2 ^ e ≡ 2 ^ e = omega arith in
-    rw o (mod-eq-of-lt l ∙ sym (map-one e events h))
+one-in e h = shifted e h ∙ sym (map-one e events h)
 
 pub one-out : (e : ℕ) → events ≤ e → 0 ≡ mapOf (eqb e) events
 one-out e h = sym (map-none e events h)
@@ -52,13 +56,6 @@ names-done ps i m e h k = let q : i ≡ length ps = omega arith in e ∙ ap (λ 
 
 pub known-done : (ps : List ℕ) (i : ℕ) (ok : Bool) → ok ≡ knownIn ps i → length ps ≤ i → i ≤ length ps → ok ≡ known ps
 known-done ps i ok e h k = let q : i ≡ length ps = omega arith in e ∙ ap (knownIn ps) q
-
--- 2 ^ k, shifted in 64 bits
-pub shifted : (k : ℕ) → k < events → (1 * 2 ^ k) % 2 ^ 64 ≡ 2 ^ k
-shifted k h = let o : 1 * 2 ^ k ≡ 2 ^ k = omega arith in rw o (mod-eq-of-lt (pow-lt {i = k} {j = 64} (omega arith)))
-
-pub shifted-some : (k : ℕ) → k < events → 1 ≤ (1 * 2 ^ k) % 2 ^ 64
-shifted-some k h = rw (shifted k h) (pow-pos k)
 
 -- the bits of a map below one
 abbrev pub ones-below : ℕ → ℕ → ℕ
@@ -147,10 +144,6 @@ module _ (ps : List ℕ) (m : ℕ) (fit : Fit ps m) where
       arrow-none t =
           let w : firstsIn ps s e (pairsIn ps) ≡ false = sym q ∙ t in
           rw (is-named, w) (refl, omega arith)
-
-      pub arrow-open : r ≡ true → arrowOf ps s e ≡ bitOr s (2 ^ place ps e)
-      unfolding arrowOf
-      arrow-open t = let w : firstsIn ps s e (pairsIn ps) ≡ true = sym q ∙ t in rw (is-named, w)
 
   -- the state after a named event whose firsts are recorded is a state
   pub sets-below : (s e : ℕ) → s < statesOf ps → e < events → named ps e ≡ true → bitOr s (2 ^ place ps e) < statesOf ps

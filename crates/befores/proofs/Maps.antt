@@ -1,7 +1,7 @@
 -- Laws of what holds below a number, of maps of bits and of lists by their places.
 use Prim.Native.Nat.{ℕ, zero, suc, _+_, _-_, _*_, _/_, _%_, _^_, _<_, _≤_, max}
 use mathlib.Core.Path.{_≡_, refl, sym, ap, ap₂, _∙_}
-use mathlib.Core.Bool.{Bool, true, false, _&&_, _||_, cond}
+use mathlib.Core.Bool.{Bool, true, false, _||_, cond}
 use mathlib.Core.List.{List, [], _∷_, _++_}
 use mathlib.Core.Logic.{⊎-elim}
 use native.Mathlib.Nat.{mod-lt, mod-eq-of-lt, lt-of-lt-of-le, pow-suc}
@@ -9,10 +9,10 @@ use native.Mathlib.Omega.{arith}
 use lib.Bits.{bitOr, or-block, or-shr, or-step, or-zero-r}
 use lib.Count.{ones, ones-cat}
 use lib.Dec.{eqb, ltb}
-use lib.ListN.{length, getD, take, drop, set, length-append, List·getD-append}
+use lib.ListN.{length, getD, drop, set, length-append, List·getD-append}
 use lib.Pow.{pow-add, pow-pos, pow-lt, pow-mono, high, low, split, mod-mod-pow, shl-shr, field}
 use lib.Seq.{getD-at, set-at, drop-cons, append-snoc}
-use borrow.Author.Tests.{eqb-true, eqb-false, eq-eqb, ne-eqb, ltb-true, ltb-false, lt-ltb, le-ltb}
+use borrow.Author.Tests.{eqb-true, eqb-false, ne-eqb, ltb-true, ltb-false}
 use Rattle.rules.proofs.Bools.{both, either, no}
 use Rattle.befores.specs.Maps.{every, some, count, mapOf, bit, build}
 
@@ -35,9 +35,12 @@ unfolding every
 every-all p zero f = refl
 every-all p (suc n) f = rw (every-all p n (λ i h. f i (omega arith)), f n (omega arith))
 
-or-right : (b : Bool) → (b || true) ≡ true
-or-right true = refl
-or-right false = refl
+pub or-left : (a b : Bool) → a ≡ true → (a || b) ≡ true
+or-left a b e = rw e
+
+pub or-right : (a b : Bool) → b ≡ true → (a || b) ≡ true
+or-right true b e = refl
+or-right false b e = e
 
 pub some-at : (p : ℕ → Bool) (n i : ℕ) → i < n → p i ≡ true → some p n ≡ true
 unfolding some
@@ -45,8 +48,8 @@ some-at p zero i h e = absurd (omega arith)
 some-at p (suc n) i h e = go (eqb i n) refl (λ k. some-at p n i k e)
   where
     go : (b : Bool) → eqb i n ≡ b → (i < n → some p n ≡ true) → (some p n || p n) ≡ true
-    go true g k = ap (λ (x : Bool). some p n || x) (ap p (sym (eqb-true i n g)) ∙ e) ∙ or-right (some p n)
-    go false g k = ap (λ (x : Bool). x || p n) (k (omega (arith, eqb-false i n g)))
+    go true g k = or-right (some p n) (p n) (ap p (sym (eqb-true i n g)) ∙ e)
+    go false g k = or-left (some p n) (p n) (k (omega (arith, eqb-false i n g)))
 
 pub record Found (p : ℕ → Bool) (n : ℕ) : Type 0 where
   pub at : ℕ

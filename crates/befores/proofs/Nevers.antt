@@ -1,27 +1,26 @@
 -- An event that is stuck once all others have had their turns is in no allowed list, and any other is in one.
-use Prim.Native.Nat.{ℕ, zero, suc, _+_, _-_, _*_, _/_, _%_, _^_, _<_, _≤_, max}
+use Prim.Native.Nat.{ℕ, zero, suc, _+_, _-_, _*_, _%_, _^_, _<_, _≤_}
 use mathlib.Core.Path.{_≡_, refl, sym, ap, ap₂, _∙_}
-use mathlib.Core.Bool.{Bool, true, false, _&&_, _||_, not, cond}
+use mathlib.Core.Bool.{Bool, true, false, _&&_, not, cond}
 use mathlib.Core.List.{List, [], _∷_, _++_}
 use mathlib.Core.Logic.{_⊎_, inl, inr, ⊎-elim}
-use native.Mathlib.Nat.{div-lt-iff-lt-mul}
 use native.Mathlib.Omega.{arith}
 use lib.Bits.{bitOr}
 use lib.Dec.{eqb, ltb, leb}
 use lib.ListN.{length, getD, drop, length-append}
-use lib.Pow.{pow-pos, pow-mono}
+use lib.Pow.{pow-pos}
 use lib.Seq.{drop-cons, getD-at}
-use borrow.Author.Tests.{ltb-true, ltb-false, leb-true, leb-false, eqb-true, eqb-false, eq-eqb, ne-eqb, not-true, not-false}
+use borrow.Author.Tests.{ltb-true, ltb-false, leb-true, leb-false, eqb-true, eqb-false, not-true}
 use Rattle.rules.specs.Names.{events, noArrow}
 use Rattle.rules.specs.Policies.{Policy, arrow, stateFrom, allowedFrom, allowed}
 use Rattle.rules.proofs.Bools.{no, cases, both, either, join}
-use Rattle.befores.specs.Maps.{every, count, mapOf, bit}
-use Rattle.befores.specs.Befores.{Fit, mostNamed, named, namedCount, pairsIn, firstAt, secondAt, place, statesOf, firstsIn, arrowOf, stuck, onOf, turnsOf, fullOf, neverOf, madePolicy, pairsRight}
-use Rattle.befores.specs.Claims.{Among, Unheard, NeverLaws, NeverAllowed}
-use Rattle.befores.proofs.Maps.{bit-or, bit-same, bit-zero, bit-map, bit-high, bit-kept, map-lt, count-le, count-sub, count-sub-less}
-use Rattle.befores.proofs.Laws.{on-is, on-below, stuck-is, turns-below, place-less}
+use Rattle.befores.specs.Maps.{count, mapOf, bit}
+use Rattle.befores.specs.Befores.{Fit, mostNamed, named, namedCount, pairsIn, firstAt, place, statesOf, firstsIn, arrowOf, stuck, onOf, turnsOf, fullOf, neverOf, madePolicy}
+use Rattle.befores.specs.Claims.{Unheard, NeverLaws, NeverAllowed}
+use Rattle.befores.proofs.Maps.{or-left, or-right, bit-or, bit-same, bit-zero, bit-map, bit-high, bit-kept, map-lt, count-le, count-sub-less}
+use Rattle.befores.proofs.Laws.{on-is, stuck-is, turns-below, place-less}
 use Rattle.befores.proofs.Policies.{fit-right, arrow-is, arrow-above}
-use Rattle.befores.proofs.Orders.{is-named, first-recorded, firsts-recorded, open-firsts, moves, moves-named, moves-unnamed, moves-below}
+use Rattle.befores.proofs.Orders.{first-recorded, firsts-recorded, open-firsts, moves, moves-named, moves-unnamed, moves-below}
 
 -- every bit of a state is set in another
 Within : ℕ → ℕ → Type 0
@@ -30,13 +29,6 @@ Within s t = (k : ℕ) → bit s k ≡ true → bit t k ≡ true
 -- the bits of a state
 abbrev size : ℕ → ℕ
 size s = count (bit s) mostNamed
-
-or-left : (a b : Bool) → a ≡ true → (a || b) ≡ true
-or-left a b e = rw e
-
-or-last : (a b : Bool) → b ≡ true → (a || b) ≡ true
-or-last true b e = refl
-or-last false b e = e
 
 module _ (ps : List ℕ) (m : ℕ) (fit : Fit ps m) where
   -- a turn leaves the state as it is, or sets one bit more
@@ -57,7 +49,7 @@ module _ (ps : List ℕ) (m : ℕ) (fit : Fit ps m) where
       go true a false c b d = inl (is true false a c)
       go true a true c true d = inl (is true true a c ∙ bit-kept s p d)
       go true a true c false d =
-          inr (rw (is true true a c) (count-sub-less (bit s) (bit (bitOr s (2 ^ p))) mostNamed p set (place-less ps m fit e k a) d (bit-or s (2 ^ p) p ∙ or-last (bit s p) (bit (2 ^ p) p) (bit-same p))))
+          inr (rw (is true true a c) (count-sub-less (bit s) (bit (bitOr s (2 ^ p))) mostNamed p set (place-less ps m fit e k a) d (bit-or s (2 ^ p) p ∙ or-right (bit s p) (bit (2 ^ p) p) (bit-same p))))
 
   -- no event goes on
   Closed : ℕ → Type 0
@@ -159,7 +151,7 @@ module _ (ps : List ℕ) (m : ℕ) (fit : Fit ps m) where
       let u = ap (λ (x : ℕ). bit x i) (sym (moves-named ps m fit s e h k t n)) in
       ⊎-elim
       (λ g. w i g)
-      (λ g. ap (λ (x : ℕ). bit x i) (sym c) ∙ bit-or (fullOf ps) (2 ^ place ps e) i ∙ or-last (bit (fullOf ps) i) (bit (2 ^ place ps e) i) g)
+      (λ g. ap (λ (x : ℕ). bit x i) (sym c) ∙ bit-or (fullOf ps) (2 ^ place ps e) i ∙ or-right (bit (fullOf ps) i) (bit (2 ^ place ps e) i) g)
       (either (bit s i) (bit (2 ^ place ps e) i) (sym (bit-or s (2 ^ place ps e) i) ∙ u ∙ b)))
       (λ n i b. w i (ap (λ (x : ℕ). bit x i) (sym (moves-unnamed ps m fit s e h k t n)) ∙ b))
       (cases (named ps e))

@@ -1,8 +1,8 @@
 -- The lists that the made policy allows are those in order.
-use Prim.Native.Nat.{ℕ, zero, suc, _+_, _-_, _*_, _/_, _%_, _^_, _<_, _≤_}
-use mathlib.Core.Path.{_≡_, refl, sym, ap, ap₂, _∙_}
-use mathlib.Core.Bool.{Bool, true, false, _&&_, _||_, not, cond}
-use mathlib.Core.List.{List, [], _∷_}
+use Prim.Native.Nat.{ℕ, zero, suc, _+_, _*_, _^_, _<_, _≤_}
+use mathlib.Core.Path.{_≡_, refl, sym, ap, _∙_}
+use mathlib.Core.Bool.{Bool, true, false, _&&_, _||_, not}
+use mathlib.Core.List.{List}
 use mathlib.Core.Logic.{_⊎_, inl, inr, ⊎-elim}
 use native.Mathlib.Omega.{arith}
 use lib.Bits.{bitOr}
@@ -10,15 +10,15 @@ use lib.Dec.{eqb, ltb}
 use lib.ListN.{length, getD, drop}
 use lib.Pow.{pow-pos}
 use lib.Seq.{drop-cons, drop-length}
-use borrow.Author.Tests.{ltb-true, ltb-false, eqb-true, eqb-false, eq-eqb, ne-eqb, not-true, not-false}
-use Rattle.rules.specs.Names.{events, noArrow}
-use Rattle.rules.specs.Policies.{Policy, arrow, allowedFrom, allowed}
+use borrow.Author.Tests.{ltb-true, ltb-false, eqb-true, eqb-false, eq-eqb, not-true, not-false}
+use Rattle.rules.specs.Names.{events}
+use Rattle.rules.specs.Policies.{allowedFrom, allowed}
 use Rattle.rules.proofs.Bools.{no, cases, both, either, join}
-use Rattle.befores.specs.Maps.{every, some, count, mapOf, bit}
-use Rattle.befores.specs.Befores.{Fit, namedIn, named, namedCount, pairsIn, firstAt, secondAt, place, statesOf, firstsIn, arrowOf, stuck, onOf, madePolicy, pairsRight}
-use Rattle.befores.specs.Claims.{Among, InOrder, AreEvents, OrderLaws, AllowedInOrder}
-use Rattle.befores.proofs.Maps.{every-at, every-all, some-at, count-less, bit-or, bit-same, bit-other, bit-zero}
-use Rattle.befores.proofs.Laws.{event-below, on-is, on-below, stuck-is}
+use Rattle.befores.specs.Maps.{mapOf, bit}
+use Rattle.befores.specs.Befores.{Fit, namedIn, named, namedCount, pairsIn, firstAt, secondAt, place, statesOf, firstsIn, arrowOf, stuck, onOf, madePolicy}
+use Rattle.befores.specs.Claims.{Among, AreEvents, OrderLaws, AllowedInOrder}
+use Rattle.befores.proofs.Maps.{or-left, or-right, every-at, every-all, some-at, count-less, bit-or, bit-same, bit-other, bit-zero}
+use Rattle.befores.proofs.Laws.{on-is, on-below, stuck-is}
 use Rattle.befores.proofs.Policies.{fit-right, arrow-is}
 
 -- an event of the list is named
@@ -102,13 +102,6 @@ module _ (ps es : List ℕ) (m : ℕ) (fit : Fit ps m) where
       x : ℕ
       x = getD es i 0
 
-      or-left : (a b : Bool) → a ≡ true → (a || b) ≡ true
-      or-left a b e = rw e
-
-      or-last : (a b : Bool) → b ≡ true → (a || b) ≡ true
-      or-last true b e = refl
-      or-last false b e = e
-
       of-named : named ps x ≡ true → Tracks (arrowOf ps s x) (suc i)
       of-named n =
           let p = place ps x in
@@ -116,7 +109,7 @@ module _ (ps es : List ℕ) (m : ℕ) (fit : Fit ps m) where
           record {
             state = moves-below ps m fit s x (r .state) k t;
             heard = λ f nf b. ⊎-elim (λ c. later i f (r .heard f nf c)) (λ c. record { at = i; below = omega arith; is = place-apart ps x f n nf (same p (place ps f) c) }) (either (bit s (place ps f)) (bit (2 ^ p) (place ps f)) (sym (e f) ∙ b));
-            kept = λ f nf a. e f ∙ ⊎-elim (λ c. or-last (bit s (place ps f)) (bit (2 ^ p) (place ps f)) (ap (λ (y : ℕ). bit (2 ^ p) (place ps y)) (sym c) ∙ bit-same p)) (λ c. or-left (bit s (place ps f)) (bit (2 ^ p) (place ps f)) (r .kept f nf c)) (last i f a);
+            kept = λ f nf a. e f ∙ ⊎-elim (λ c. or-right (bit s (place ps f)) (bit (2 ^ p) (place ps f)) (ap (λ (y : ℕ). bit (2 ^ p) (place ps y)) (sym c) ∙ bit-same p)) (λ c. or-left (bit s (place ps f)) (bit (2 ^ p) (place ps f)) (r .kept f nf c)) (last i f a);
           }
         where
           same : (p q : ℕ) → bit (2 ^ p) q ≡ true → p ≡ q

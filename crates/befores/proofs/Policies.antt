@@ -1,25 +1,40 @@
--- The made policy's arrows, and that it is right.
-use Prim.Native.Nat.{ℕ, zero, suc, _+_, _*_, _/_, _%_, _^_, _<_, _≤_}
+-- The made policy: what is handed back and left, its arrows, and that it is right.
+use Prim.Native.Nat.{ℕ, zero, suc, _+_, _*_, _/_, _%_, _<_, _≤_}
 use mathlib.Core.Path.{_≡_, refl, sym, ap, ap₂, _∙_}
-use mathlib.Core.Bool.{Bool, true, false, _&&_, _||_, not, cond, and-assoc}
+use mathlib.Core.Bool.{Bool, true, false, _&&_, _||_, cond, and-assoc}
 use mathlib.Core.List.{List, [], _∷_, _++_}
 use native.Mathlib.Omega.{arith}
-use lib.Bits.{bitOr}
-use lib.Dec.{eqb, ltb}
-use lib.ListN.{length, getD}
+use lib.Dec.{ltb}
+use lib.ListN.{length, take, drop}
+use lib.Seq.{take-at}
 use lib.Pow.{pow-pos}
-use borrow.Author.Tests.{eq-eqb, ne-eqb, lt-ltb, le-ltb}
-use Rattle.rules.specs.declared.Layout.{Layout}
+use borrow.Author.Tests.{eq-eqb, lt-ltb, le-ltb}
 use Rattle.rules.specs.Names.{events, noArrow}
 use Rattle.rules.specs.Policies.{Policy, arrow, entryRight, entriesRight, rightPolicy}
 use Rattle.befores.specs.Maps.{mapOf, build}
-use Rattle.befores.specs.Befores.{Fit, named, namedCount, statesOf, bytesOf, arrowOf, entryOf, stuck, onOf, tableOf, madePolicy, pairsRight}
-use Rattle.befores.specs.Claims.{MadeRight}
-use Rattle.befores.proofs.Maps.{length-build, build-at}
+use Rattle.befores.specs.Befores.{Fit, named, namedCount, statesOf, bytesOf, arrowOf, entryOf, stuck, tableOf, madePolicy, pairsRight, makeAnswer, makeOf, makeTable}
+use Rattle.befores.specs.Claims.{Makes, TakenMakes, MadeRight}
+use Rattle.befores.proofs.Maps.{or-left, or-right, length-build, build-at}
 use Rattle.befores.proofs.Laws.{fit-of, on-below}
 
 pub fit-right : (ps : List ℕ) → pairsRight ps ≡ true → Fit ps (mapOf (named ps) events)
 fit-right ps t = fit-of ps (mapOf (named ps) events) refl (pairsRight ps) refl t
+
+pub taken-makes : TakenMakes
+unfolding makeAnswer makeOf makeTable
+taken-makes ps table t = go (pairsRight ps) refl (ltb (length table) (bytesOf ps)) refl
+  where
+    go : (r : Bool) → pairsRight ps ≡ r → (l : Bool) → ltb (length table) (bytesOf ps) ≡ l → Makes ps table
+    go false e l f = absurd (omega (arith, rw e at t))
+    go true e true f = absurd (omega (arith, rw (e, f) at t))
+    go true e false f =
+        record {
+          right = e;
+          states = rw (e, f);
+          start = rw (e, f);
+          leaves = rw (e, f) (take-at (tableOf ps) (drop (length (tableOf ps)) table) (bytesOf ps) (length-build (entryOf ps) (bytesOf ps)));
+          never = rw (e, f);
+        }
 
 -- the policy's arrow is the one defined
 pub arrow-is : (ps : List ℕ) (s e : ℕ) → s < statesOf ps → e < events → arrow (madePolicy ps) s e ≡ arrowOf ps s e
@@ -43,13 +58,9 @@ entry-right ps m fit i h = go (stuck ps s e) refl (on-below ps m fit s e (omega 
     e : ℕ
     e = i % events
 
-    right : (b : Bool) → (b || true) ≡ true
-    right true = refl
-    right false = refl
-
     go : (b : Bool) → stuck ps s e ≡ b → cond b s (arrowOf ps s e) < statesOf ps → (ltb (arrowOf ps s e) (statesOf ps) || stuck ps s e) ≡ true
-    go true t l = ap (λ (x : Bool). ltb (arrowOf ps s e) (statesOf ps) || x) t ∙ right (ltb (arrowOf ps s e) (statesOf ps))
-    go false t l = ap (λ (x : Bool). x || stuck ps s e) (lt-ltb (arrowOf ps s e) (statesOf ps) l)
+    go true t l = or-right (ltb (arrowOf ps s e) (statesOf ps)) (stuck ps s e) t
+    go false t l = or-left (ltb (arrowOf ps s e) (statesOf ps)) (stuck ps s e) (lt-ltb (arrowOf ps s e) (statesOf ps) l)
 
 entries-append : (s : ℕ) (a b : List ℕ) → entriesRight s (a ++ b) ≡ (entriesRight s a && entriesRight s b)
 entries-append s [] b = refl

@@ -1,7 +1,7 @@
 -- Request 11, 'This before that': the policy of a list of pairs of events.
 use Prim.Native.Nat.{ℕ, zero, suc, _+_, _*_, _/_, _%_, _^_, _≤_}
 use mathlib.Core.Path.{_≡_}
-use mathlib.Core.Bool.{Bool, true, false, _&&_, _||_, not, cond}
+use mathlib.Core.Bool.{Bool, true, _&&_, _||_, not, cond}
 use mathlib.Core.List.{List}
 use lib.ListN.{length, getD}
 use lib.Dec.{eqb, leb, ltb}
@@ -117,6 +117,7 @@ makeAnswer ps room = cond (pairsRight ps) (roomFor room (bytesOf ps)) (answer ba
 abbrev pub madeWith : Answer → ℕ → ℕ → Made
 madeWith a s m = record { answer = a; policy = record { states = s; start = 0 }; never = m }
 
+-- what making answers: with its answer, the policy's numbers and the map
 unfoldable pub makeOf : List ℕ → ℕ → Made
 makeOf ps room = let a = makeAnswer ps room in ifTaken a (madeWith a (statesOf ps) (neverOf ps)) (madeWith a 0 0)
 

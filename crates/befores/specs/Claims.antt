@@ -3,12 +3,23 @@ use Prim.Native.Nat.{ℕ, _<_}
 use mathlib.Core.Path.{_≡_}
 use mathlib.Core.Bool.{true}
 use mathlib.Core.List.{List, [], _∷_}
-use lib.ListN.{length, getD}
+use lib.ListN.{length, getD, take}
 use Rattle.rules.specs.declared.Layout.{Layout}
 use Rattle.rules.specs.Names.{events, answer}
 use Rattle.rules.specs.Policies.{allowed, rightPolicy}
 use Rattle.befores.specs.Maps.{bit}
-use Rattle.befores.specs.Befores.{pairsIn, firstAt, secondAt, pairsRight, statesOf, tableOf, madePolicy, neverOf, madeWith, makeOf}
+use Rattle.befores.specs.Befores.{pairsIn, firstAt, secondAt, pairsRight, statesOf, tableOf, madePolicy, neverOf, makeAnswer, madeWith, makeOf, makeTable}
+
+-- what is handed back and left with answer 0 is the policy of which the other claims speak
+pub record Makes (ps table : List ℕ) : Type 0 where
+  pub right : pairsRight ps ≡ true
+  pub states : makeOf ps (length table) .policy .states ≡ madePolicy ps .states
+  pub start : makeOf ps (length table) .policy .start ≡ madePolicy ps .start
+  pub leaves : take (makeOf ps (length table) .answer .place) (makeTable ps table) ≡ madePolicy ps .table
+  pub never : makeOf ps (length table) .never ≡ neverOf ps
+
+abbrev pub TakenMakes : Type 0
+TakenMakes = (ps table : List ℕ) → makeAnswer ps (length table) .number ≡ 0 → Makes ps table
 
 -- the policy of pairs that are not refused can be installed under a layout with as many states
 abbrev pub MadeRight : Type 0

@@ -8,11 +8,11 @@ ghost use mathlib.Core.List.{_++_};
 ghost use Prim.Native.Nat.{_+_, _-_, _*_, _^_, _≤_, _<_};
 ghost use lib.ListN.{length, drop};
 ghost use lib.Bits.{bitAnd};
-ghost use lib.Dec.{eqb, ltb};
+ghost use lib.Dec.{eqb};
 ghost use lib.Count.{ones};
-ghost use Rattle.rules.specs.Names.{events, noArrow, answer};
+ghost use Rattle.rules.specs.Names.{events, answer};
 ghost use Rattle.befores.specs.Maps.{mapOf, bit, build};
-ghost use Rattle.befores.specs.Befores.{Fit, named, namedCount, known, mostNamed, pairsIn, pairsRight, statesOf, firstsIn, arrowOf, entryOf, bytesOf, stuck, onOf, fullOf, neverOf, madeWith, makeOf, makeTable};
+ghost use Rattle.befores.specs.Befores.{Fit, named, known, mostNamed, pairsIn, pairsRight, statesOf, firstsIn, arrowOf, entryOf, bytesOf, stuck, onOf, fullOf, neverOf, madeWith, makeOf, makeTable};
 
 // The number of a refusal: an event above 15 or without its partner, or more than four named events.
 pub const BAD_PAIR: u8 = 17;

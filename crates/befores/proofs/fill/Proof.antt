@@ -4,7 +4,7 @@ use mathlib.Core.List.{_++_}
 use native.Mathlib.Omega.{arith}
 use denote.Ref.{now}
 use borrow.Author.Needs.{needs}
-use lib.ListN.{length, drop, length-set}
+use lib.ListN.{length, drop}
 use Rattle.befores.specs.Maps.{build}
 use Rattle.befores.specs.Befores.{entryOf}
 use Rattle.befores.proofs.Laws.{fill-none, fill-more, fill-done, row-below}
