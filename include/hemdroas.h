@@ -10,9 +10,9 @@
  *
  * Buffers. Each pointer comes with the number of its elements, and no call
  * reaches past it. The buffers of one call must not overlap, nor overlap the
- * layout, machine, after or answer arrays, which are apart from each other too.
- * No call keeps a pointer. A pointer to an empty buffer is not followed, but
- * must not be null.
+ * layout, machine, after, answer or made arrays, which are apart from each
+ * other too. No call keeps a pointer. A pointer to an empty buffer is not
+ * followed, but must not be null.
  *
  * layout[7], in this order:
  *   U   memory cells, 1 to 4096
@@ -46,6 +46,8 @@
  *  11 bad bundle       commands of no allowed shape, or no HALT at the end
  *  12 bad count        not 4, 8, 16, ... 4096 commands
  *  13 bad base         B no multiple of the number of commands
+ *  17 bad pair         event above 15 or without its partner, or more than four
+ *                      events named
  *
  * A refusal leaves every buffer as it was, and so a run's machine record; a
  * refused loading or installation yields a record of zeros with status 3. A
@@ -120,6 +122,18 @@ void hemdroas_run    (const uint32_t layout[7], const uint64_t *commands, size_t
  * 17 KB of stack. */
 void hemdroas_preview(const uint32_t layout[7], const uint64_t *commands, size_t n, const uint32_t machine[11], const uint32_t *memory, size_t cells,
                       uint32_t budget, const uint32_t *readings, size_t r, uint32_t *log, size_t g, uint32_t after[11], uint32_t answer[4]);
+
+/* Makes the policy of a list of n / 2 pairs of events, pairs[2 * i] before
+ * pairs[2 * i + 1]: the second has an arrow only once the first has been
+ * recorded. A state is the map of the named events recorded so far, bit k for
+ * the k-th smallest of them from 0; the start state is 0. Other events are
+ * allowed in every state, and stay in it. 256 bytes are always room enough.
+ *
+ * made[4]: the answer's number and place, which is the bytes of the table
+ * written, its states, and a map of the events that no allowed list holds: bit
+ * e is set for event e, as where pairs make a ring. A refusal, 17 before 9, has
+ * three zeros behind it. */
+void hemdroas_befores(const uint8_t *pairs, size_t n, uint8_t *table, size_t room, uint32_t made[4]);
 
 #ifdef __cplusplus
 }

@@ -9,13 +9,13 @@ use lib.ListN.{length, take, drop}
 use lib.Seq.{take-at}
 use lib.Pow.{pow-pos}
 use borrow.Author.Tests.{eq-eqb, lt-ltb, le-ltb}
-use Rattle.rules.specs.Names.{events, noArrow}
+use Rattle.rules.specs.Names.{events, mostStates, noArrow}
 use Rattle.rules.specs.Policies.{Policy, arrow, entryRight, entriesRight, rightPolicy}
 use Rattle.befores.specs.Maps.{mapOf, build}
 use Rattle.befores.specs.Befores.{Fit, named, namedCount, statesOf, bytesOf, arrowOf, entryOf, stuck, tableOf, madePolicy, pairsRight, makeAnswer, makeOf, makeTable}
 use Rattle.befores.specs.Claims.{Makes, TakenMakes, MadeRight}
 use Rattle.befores.proofs.Maps.{or-left, or-right, length-build, build-at}
-use Rattle.befores.proofs.Laws.{fit-of, on-below}
+use Rattle.befores.proofs.Laws.{fit-of, states-most, on-below}
 
 pub fit-right : (ps : List ℕ) → pairsRight ps ≡ true → Fit ps (mapOf (named ps) events)
 fit-right ps t = fit-of ps (mapOf (named ps) events) refl (pairsRight ps) refl t
@@ -35,6 +35,16 @@ taken-makes ps table t = go (pairsRight ps) refl (ltb (length table) (bytesOf ps
           leaves = rw (e, f) (take-at (tableOf ps) (drop (length (tableOf ps)) table) (bytesOf ps) (length-build (entryOf ps) (bytesOf ps)));
           never = rw (e, f);
         }
+
+-- the bytes written are at most those of sixteen states
+pub place-most : (ps : List ℕ) (room : ℕ) → makeOf ps room .answer .place ≤ events * mostStates
+unfolding makeAnswer makeOf
+place-most ps room = go (pairsRight ps) refl (ltb room (bytesOf ps)) refl
+  where
+    go : (r : Bool) → pairsRight ps ≡ r → (l : Bool) → ltb room (bytesOf ps) ≡ l → makeOf ps room .answer .place ≤ events * mostStates
+    go false e l f = rw e (omega arith)
+    go true e true f = rw (e, f) (omega arith)
+    go true e false f = rw (e, f) (omega (arith, states-most ps (mapOf (named ps) events) (fit-right ps e)))
 
 -- the policy's arrow is the one defined
 pub arrow-is : (ps : List ℕ) (s e : ℕ) → s < statesOf ps → e < events → arrow (madePolicy ps) s e ≡ arrowOf ps s e

@@ -25,6 +25,9 @@ use Rattle.rules.proofs.Bools.{cond-ind}
 use Rattle.rules.proofs.Layouts.{layout-facts}
 use Rattle.rules.proofs.Counts.{Bounded, RunCounts, run-counts}
 use Rattle.preview.proofs.Laws.{Previewed}
+use Rattle.befores.specs.declared.Made.{Made}
+use Rattle.befores.specs.Befores.{makeOf}
+use Rattle.befores.proofs.Policies.{place-most}
 use Rattle.hosts.specs.Held.{layoutHeld}
 use Rattle.capi.specs.Hosts.{runFor}
 
@@ -52,6 +55,10 @@ held f z h xs l e = ap f e ∙ by (ltb (getD xs 6 0) baseBound) refl
 -- a place has 32 bits
 pub narrow : {m r : ℕ} (a b : Answer) → a ≡ b → Bounded m r b → m < 2 ^ 32 → a .place < 2 ^ 32
 narrow a b e h k = subst (λ (x : Answer). x .place < 2 ^ 32) (sym e) (omega (arith, h .place, k))
+
+-- so has a made policy's
+pub narrow-made : (ps : List ℕ) (room : ℕ) (m : Made) → m ≡ makeOf ps room → m .answer .place < 2 ^ 32
+narrow-made ps room m e = subst (λ (x : Made). x .answer .place < 2 ^ 32) (sym e) (omega (arith, place-most ps room))
 
 -- so have pairs and readings
 pub counts : (l : Layout) (ws mem rd log mem′ log′ : List ℕ) (budget : ℕ) (m : Machine) (o : Outcome) → ranOf o mem′ log′ ≡ runOf l ws m mem budget rd log → budget < 2 ^ 32

@@ -1,4 +1,5 @@
 // The C interface: the sandbox's parts over numbers, arrays and slices.
+use befores::Made;
 use hosts::layout_of;
 use hosts::machine_of;
 use hosts::record_after;
@@ -14,7 +15,8 @@ ghost use Rattle.rules.specs.Bytes.{readAnswer, readOutput, writeAnswer, writeO
 ghost use Rattle.rules.specs.Bundles.{rewriteAnswer, rewriteOutput, checkAnswer};
 ghost use Rattle.rules.specs.Machines.{installAnswer, installMachine, installMemory};
 ghost use Rattle.rules.specs.Loading.{loadAnswer, loadMachine, loadCommands, loadMemory, layoutFrom, machineTo, answerTo, runAnswerTo, recordAfter};
-ghost use Rattle.capi.specs.Hosts.{runFor, yesOrNo};
+ghost use Rattle.befores.specs.Befores.{makeOf, makeTable};
+ghost use Rattle.capi.specs.Hosts.{runFor, yesOrNo, madeTo};
 
 // ---- answers as numbers
 
@@ -32,6 +34,19 @@ fn run_answer_of(a: RunAnswer) -> [u32; 4]
     let e = a.ending;
     let ending = sandbox::ending_number(e);
     [ending, a.steps, a.pairs as u32, a.used as u32]
+}
+
+fn made_of(m: Made) -> [u32; 4]
+    requires { ⌜ m .answer .place < 2 ^ 32 ⌝ }
+    ensures { λ r. ⌜ r ≡ madeTo m ⌝ }
+{
+    let a = m.answer;
+    [
+        a.number as u32,
+        a.place as u32,
+        m.policy.states,
+        m.never as u32,
+    ]
 }
 
 // ---- the parts
@@ -183,4 +198,13 @@ pub extern "C" fn hemdroas_preview(
     let out = preview::preview(lay, commands, m, memory, budget, readings, log);
     *after = record_after(lay, memory.len(), out.machine, given);
     *answer = run_answer_of(out.answer);
+}
+
+// Makes the policy of pairs of events, each first before its second.
+#[no_mangle]
+pub extern "C" fn hemdroas_befores(pairs: &[u8], table: &mut [u8], made: &mut [u32; 4])
+    ensures made { λ _. ⌜ now (made .exit) ≡ madeTo (makeOf (now (pairs .entry)) (length (now (table .entry)))) ⌝ }
+    ensures table { λ _. ⌜ now (table .exit) ≡ makeTable (now (pairs .entry)) (now (table .entry)) ⌝ }
+{
+    *made = made_of(befores::make(pairs, table));
 }
