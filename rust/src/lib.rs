@@ -13,4 +13,6 @@ pub mod model;
 pub mod native;
 mod types;
 
-pub use types::{Answer, Ending, Layout, Machine, Policy, Record, Refusal, RunAnswer, Status};
+pub use types::{
+    Answer, Ending, Layout, Machine, Made, Policy, Record, Refusal, RunAnswer, Status,
+};

@@ -1,5 +1,6 @@
 //! The rules in plain Rust, written from the rules alone.
 
+mod befores;
 mod bundles;
 mod bytes;
 mod layout;
@@ -7,6 +8,7 @@ mod loading;
 mod machine;
 pub mod words;
 
+pub use befores::befores;
 pub use bundles::{bundle_count, check, rewrite};
 pub use bytes::{read, write};
 pub use layout::{is_right, mask};

@@ -3,7 +3,7 @@
 //! A number that the header does not define makes a wrapper panic: a library
 //! that answers so is not the one this package was written for.
 
-use crate::{Answer, Ending, Layout, Machine, Policy, Record, Refusal, RunAnswer};
+use crate::{Answer, Ending, Layout, Machine, Made, Policy, Record, Refusal, RunAnswer};
 
 extern "C" {
     fn hemdroas_read(
@@ -90,6 +90,13 @@ extern "C" {
         after: *mut [u32; 11],
         answer: *mut [u32; 4],
     );
+    fn hemdroas_befores(
+        pairs: *const u8,
+        n: usize,
+        table: *mut u8,
+        room: usize,
+        made: *mut [u32; 4],
+    );
 }
 
 fn answer([number, place]: [u32; 2]) -> Answer {
@@ -111,6 +118,17 @@ fn run_answer([number, steps, pairs, readings]: [u32; 4]) -> RunAnswer {
             readings,
         },
         None => panic!("the library answered {number}, which is no ending"),
+    }
+}
+
+fn made([number, place, states, never]: [u32; 4]) -> Made {
+    match u16::try_from(never) {
+        Ok(never) => Made {
+            answer: answer([number, place]),
+            states,
+            never,
+        },
+        Err(_) => panic!("the library answered {never}, which is no map of 16 events"),
     }
 }
 
@@ -364,4 +382,21 @@ pub fn preview_record(
         );
     }
     run_answer(four)
+}
+
+/// Makes the policy of pairs of events, each first before its second: its table
+/// at the start of the one lent, its states, of which 0 is the start, and the
+/// events that it never allows.
+pub fn befores(pairs: &[u8], table: &mut [u8]) -> Made {
+    let mut four = [0; 4];
+    unsafe {
+        hemdroas_befores(
+            pairs.as_ptr(),
+            pairs.len(),
+            table.as_mut_ptr(),
+            table.len(),
+            &mut four,
+        );
+    }
+    made(four)
 }

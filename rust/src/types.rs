@@ -177,11 +177,14 @@ pub enum Refusal {
     BadCount,
     /// 13: a code base that is no multiple of the list's length.
     BadBase,
+    /// 17: a pair with an event above 15 or without its partner, or more than
+    /// four named events.
+    BadPair,
 }
 
 impl Refusal {
-    /// Every refusal, in the order of the numbers 1 to 13.
-    pub const ALL: [Refusal; 13] = [
+    /// Every refusal, in the order of their numbers.
+    pub const ALL: [Refusal; 14] = [
         Refusal::ShortWeight,
         Refusal::ForeignMatter,
         Refusal::UnknownVariety,
@@ -195,9 +198,10 @@ impl Refusal {
         Refusal::BadBundle,
         Refusal::BadCount,
         Refusal::BadBase,
+        Refusal::BadPair,
     ];
 
-    /// The number, 1 to 13.
+    /// The number: 1 to 13, or 17.
     pub fn number(self) -> u32 {
         match self {
             Refusal::ShortWeight => 1,
@@ -213,13 +217,13 @@ impl Refusal {
             Refusal::BadBundle => 11,
             Refusal::BadCount => 12,
             Refusal::BadBase => 13,
+            Refusal::BadPair => 17,
         }
     }
 
     /// The refusal of a number, if there is one.
     pub fn from_number(number: u32) -> Option<Self> {
-        let at = number.checked_sub(1)?;
-        Refusal::ALL.get(at as usize).copied()
+        Refusal::ALL.into_iter().find(|r| r.number() == number)
     }
 }
 
@@ -260,6 +264,19 @@ impl Answer {
     pub fn is_taken(self) -> bool {
         matches!(self, Answer::Taken(_))
     }
+}
+
+/// What making a policy from pairs of events gives. Its start state is 0; a
+/// refusal has zeros beside it.
+#[derive(Clone, Copy, Debug, PartialEq, Eq)]
+#[must_use]
+pub struct Made {
+    /// With the bytes of the table written.
+    pub answer: Answer,
+    /// The number of states.
+    pub states: u32,
+    /// Bit e is set if no allowed word holds event e.
+    pub never: u16,
 }
 
 /// How a run came back.

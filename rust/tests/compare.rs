@@ -4,13 +4,15 @@
 
 mod common;
 
+use std::collections::HashSet;
+
 use common::*;
 use hemdroas::model::words::{command, guest, pack, LONGEST};
 use hemdroas::model::{self, bundle_count};
-use hemdroas::{native, Answer, Ending, Layout, Machine, Policy, Record, RunAnswer};
+use hemdroas::{native, Answer, Ending, Layout, Machine, Made, Policy, Record, RunAnswer};
 
 /// The operations, and the numbers that each can answer.
-const OPERATIONS: [(&str, &[usize]); 8] = [
+const OPERATIONS: [(&str, &[usize]); 9] = [
     ("read", &[0, 1, 2, 3, 4, 5, 6, 9]),
     ("write", &[0, 2, 3, 4, 5, 9]),
     ("rewrite", &[0, 2, 3, 4, 5, 7, 8, 9, 13]),
@@ -21,6 +23,7 @@ const OPERATIONS: [(&str, &[usize]); 8] = [
     ("load", &[0, 1, 2, 3, 4, 5, 6, 7, 8, 9, 10, 13]),
     ("run", &[7, 20, 21, 22, 23, 24, 25]),
     ("preview", &[7, 20, 21, 22, 23, 24, 25]),
+    ("befores", &[0, 9, 17]),
 ];
 const READ: usize = 0;
 const WRITE: usize = 1;
@@ -30,6 +33,7 @@ const INSTALL: usize = 4;
 const LOAD: usize = 5;
 const RUN: usize = 6;
 const PREVIEW: usize = 7;
+const BEFORES: usize = 8;
 
 /// Each number of each operation must be seen at least so often.
 const LEAST: u64 = 200;
@@ -38,7 +42,7 @@ const LEAST_CASES: u64 = 100_000;
 /// How often each number was answered.
 #[derive(Default)]
 struct Tally {
-    seen: [[u64; 26]; 8],
+    seen: [[u64; 26]; 9],
     /// Runs whose record came in with a status above 3.
     strange_status: u64,
     /// Layouts with a code base beyond 16 bits.
@@ -49,6 +53,8 @@ struct Tally {
     long_memory: u64,
     /// Loads under a right layout that installing refused for the memory.
     other_memory: u64,
+    /// Policies made that never allow some event.
+    rings: u64,
     /// Steps, pairs and readings over all runs.
     steps: u64,
     pairs: u64,
@@ -286,6 +292,19 @@ fn preview(
     }
     tally.long_memory += u64::from(lent.memory.len() > 4096);
     tally.count(PREVIEW, answer.ending.number());
+}
+
+/// Makes a policy from pairs of events with both, and compares.
+fn befores(tally: &mut Tally, pairs: &[u8], table: &[u8]) -> (Made, Vec<u8>) {
+    let (mut ours, mut theirs) = (table.to_vec(), table.to_vec());
+    let expected = model::befores(pairs, &mut ours);
+    let made = native::befores(pairs, &mut theirs);
+    assert_eq!(made, expected, "a policy from {pairs:?}");
+    assert_eq!(theirs, ours, "table of {pairs:?}");
+    assert_untouched(made.answer, table, &theirs);
+    tally.rings += u64::from(made.never != 0);
+    tally.count(BEFORES, made.answer.number());
+    (made, theirs)
 }
 
 /// A refusal leaves the output as it was, and a success what is past it.
@@ -917,6 +936,87 @@ fn long_memories(tally: &mut Tally, rng: &mut Rng) {
     }
 }
 
+/// The bytes of a table for as many states as a right list of pairs has.
+fn table_bytes(pairs: &[u8]) -> usize {
+    let named: HashSet<u8> = pairs.iter().copied().collect();
+    16 << named.len().min(4)
+}
+
+/// All lists of 0 to 3 pairs, and those with an event left over, of five events
+/// and one above 15: a byte short of their table, with the right room, and with
+/// some to spare.
+fn each_list_of_pairs(tally: &mut Tally, rng: &mut Rng) {
+    let events = [0, 4, 9, 12, 15, 16];
+    let mut lists = vec![Vec::new()];
+    for length in 0..=6 {
+        for list in &lists {
+            let bytes = table_bytes(list);
+            for room in [0, bytes - 1, bytes, bytes + 19] {
+                let mark = rng.next() as u8;
+                let _ = befores(tally, list, &vec![mark; room]);
+            }
+        }
+        if length < 6 {
+            lists = lists
+                .iter()
+                .flat_map(|list| events.map(|event| [list, &[event][..]].concat()))
+                .collect();
+        }
+    }
+}
+
+/// Longer lists of few events, rings among them, spoiled now and then; what is
+/// made goes to the installer as it is.
+fn lists_of_pairs(tally: &mut Tally, rng: &mut Rng) {
+    for _ in 0..20_000 {
+        let most = if rng.chance(15) { 6 } else { 4 };
+        let events: Vec<u8> = (0..rng.between(1, most))
+            .map(|_| rng.below(16) as u8)
+            .collect();
+        let mut pairs: Vec<u8> = (0..2 * rng.between(0, 9))
+            .map(|_| rng.pick(&events))
+            .collect();
+        match rng.below(20) {
+            0 => pairs.push(rng.pick(&events)),
+            1 if !pairs.is_empty() => {
+                let at = rng.below(pairs.len());
+                pairs[at] = rng.pick(&[16, 17, 31, 32, 128, 240, 255]);
+            }
+            _ => {}
+        }
+        let room = room(rng, table_bytes(&pairs));
+        let mark = rng.next() as u8;
+        let (made, table) = befores(tally, &pairs, &vec![mark; room]);
+        if let (Answer::Taken(bytes), true) = (made.answer, rng.chance(10)) {
+            let mut layout = right_layout(rng, 1);
+            while layout.states != made.states {
+                layout = right_layout(rng, 1);
+            }
+            let policy = Policy {
+                states: made.states,
+                start: 0,
+                table: &table[..bytes as usize],
+            };
+            let mut memory = rng.cells(layout.cells as usize);
+            let record = some_record(rng);
+            let (answer, _) = install(tally, &layout, &policy, &mut memory, record);
+            assert_eq!(answer, Answer::Taken(0), "installing {pairs:?}");
+        }
+    }
+}
+
+/// Every number as an event, first and second, alone and without its partner.
+fn each_event_of_a_pair(tally: &mut Tally, rng: &mut Rng) {
+    for event in 0..=255 {
+        for other in 0..=16 {
+            for pairs in [&[event, other][..], &[other, event], &[event]] {
+                let mark = rng.next() as u8;
+                let _ = befores(tally, pairs, &[mark; 64]);
+            }
+        }
+    }
+}
+
 /// Passed lists, installed and run several times, with the host writing free
 /// cells in between.
 fn runs_in_a_row(tally: &mut Tally, rng: &mut Rng) {
@@ -1062,7 +1162,7 @@ fn the_test_of_one_word_is_that_of_its_bytes() {
 fn the_library_does_what_the_model_does() {
     sample();
     type Part = fn(&mut Tally, &mut Rng);
-    let parts: [(&str, Part); 14] = [
+    let parts: [(&str, Part); 17] = [
         ("reading", reading),
         ("writing", writing),
         ("each bit of an instruction", each_bit_of_an_instruction),
@@ -1077,6 +1177,9 @@ fn the_library_does_what_the_model_does() {
         ("hand-made runs", hand_made_runs),
         ("runs in a row", runs_in_a_row),
         ("long memories", long_memories),
+        ("each list of pairs", each_list_of_pairs),
+        ("lists of pairs", lists_of_pairs),
+        ("each event of a pair", each_event_of_a_pair),
     ];
     let mut tally = Tally::default();
     for (at, (name, part)) in parts.into_iter().enumerate() {
@@ -1100,12 +1203,12 @@ fn the_library_does_what_the_model_does() {
             *sum += count;
         }
     }
-    let numbers = (0..=13).chain(20..=25);
+    let numbers = (0..=13).chain([17]).chain(20..=25);
     let sums: Vec<String> = numbers.map(|n| format!("{n}: {}", sums[n])).collect();
     say(&format!("all: {}", sums.join(", ")));
     say(&format!(
-        "{} cases; {} steps, {} pairs, {} readings; {} records with a status above 3, {} bases above 65,535; {} loads refused by reading under such a base, {} for the memory alone; {} previews of more than 4,096 cells",
-        tally.cases(), tally.steps, tally.pairs, tally.readings, tally.strange_status, tally.far_base, tally.far_unread, tally.other_memory, tally.long_memory
+        "{} cases; {} steps, {} pairs, {} readings; {} records with a status above 3, {} bases above 65,535; {} loads refused by reading under such a base, {} for the memory alone; {} previews of more than 4,096 cells; {} policies made with events never allowed",
+        tally.cases(), tally.steps, tally.pairs, tally.readings, tally.strange_status, tally.far_base, tally.far_unread, tally.other_memory, tally.long_memory, tally.rings
     ));
 
     for ((name, numbers), seen) in OPERATIONS.iter().zip(&tally.seen) {
@@ -1123,6 +1226,6 @@ fn the_library_does_what_the_model_does() {
     assert!(tally.cases() >= LEAST_CASES);
     assert!(tally.strange_status >= LEAST && tally.far_base >= LEAST);
     assert!(tally.far_unread >= LEAST && tally.other_memory >= LEAST);
-    assert!(tally.long_memory >= LEAST);
+    assert!(tally.long_memory >= LEAST && tally.rings >= LEAST);
     assert!(tally.pairs >= 10_000 && tally.readings >= 10_000);
 }
