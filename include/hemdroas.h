@@ -21,7 +21,7 @@
  *   M   cell of the policy's state
  *   P   first cell of the policy's table, 16 cells per state
  *   S   policy states, 1 to 16
- *   B   address of the first command, at most 65535
+ *   B   address of the first command
  * It is right when U, S and B are in these ranges; SL <= SH < U, M < U and
  * P + 16 * S <= U; SH - SL + 1 is a power of two and SL a multiple of it; and
  * sandbox, state cell and table share no cell.

@@ -1,54 +1,25 @@
 -- What the parts answer and leave, said of the numbers of a C host.
 use Prim.Native.Nat.{ℕ, _^_, _<_}
 use mathlib.Core.Path.{_≡_, refl, sym, _∙_, ap, subst}
-use mathlib.Core.Bool.{Bool, true, false, cond}
+use mathlib.Core.Bool.{Bool, cond}
 use mathlib.Core.List.{List}
 use native.Mathlib.Omega.{arith}
-use lib.ListN.{length, getD}
-use lib.Dec.{eqb, ltb}
-use borrow.Author.Tests.{ltb-false}
+use lib.ListN.{length}
 use Rattle.rules.specs.declared.Layout.{Layout}
 use Rattle.rules.specs.declared.Machine.{Machine}
 use Rattle.rules.specs.declared.Answer.{Answer}
 use Rattle.rules.specs.declared.Outcome.{Outcome}
 use Rattle.rules.specs.declared.Installed.{Installed}
-use Rattle.rules.specs.declared.Ending.the-variants.{Refused}
-use Rattle.rules.specs.declared.Refusal.the-variants.{BadLayout}
-use Rattle.rules.specs.Names.{mostInstructions, baseBound, refusal, orElse}
-use Rattle.rules.specs.Layouts.{layoutOf, rightLayout}
 use Rattle.rules.specs.Policies.{Policy}
-use Rattle.rules.specs.Bytes.{readAnswer}
 use Rattle.rules.specs.Bundles.{rewriteAnswer, rewriteOutput, checkAnswer}
-use Rattle.rules.specs.Machines.{machineRefused, fits, installAnswer, installMachine, installMemory, installOf, Ran, ranOf, outcomeOf, runOf}
+use Rattle.rules.specs.Machines.{fits, installAnswer, installMachine, installMemory, installOf, Ran, ranOf, runOf}
 use Rattle.rules.specs.Loading.{loadAnswer, loadCommands, loadMemory, loadMachine, loadOf, layoutFrom, machineFrom, machineTo, answerTo, runAnswerTo, recordAfter}
-use Rattle.rules.proofs.Bools.{cond-ind}
-use Rattle.rules.proofs.Layouts.{layout-facts}
 use Rattle.rules.proofs.Counts.{Bounded, RunCounts, run-counts}
 use Rattle.preview.proofs.Laws.{Previewed}
 use Rattle.befores.specs.declared.Made.{Made}
 use Rattle.befores.specs.Befores.{makeOf}
 use Rattle.befores.proofs.Policies.{place-most}
-use Rattle.hosts.specs.Held.{layoutHeld}
 use Rattle.capi.specs.Hosts.{runFor}
-
--- ---- layouts
-
--- B has 16 bits in a right layout
-no-base : (l : Layout) → ltb (l .base) baseBound ≡ false → rightLayout l ≡ false
-no-base l e = by (rightLayout l) refl
-  where
-    by : (b : Bool) → rightLayout l ≡ b → rightLayout l ≡ false
-    by true q = absurd (omega (arith, layout-facts l q .base, ltb-false (l .base) baseBound e))
-    by false q = q
-
--- what is the same of all layouts that are not right is the same of the layout held and of the host's
-held : {A : Type 0} (f : Layout → A) (z : A) → ((l : Layout) → rightLayout l ≡ false → f l ≡ z) → (xs : List ℕ) (l : Layout) → l ≡ layoutHeld xs → f l ≡ f (layoutFrom xs)
-unfolding layoutHeld rightLayout
-held f z h xs l e = ap f e ∙ by (ltb (getD xs 6 0) baseBound) refl
-  where
-    by : (b : Bool) → ltb (getD xs 6 0) baseBound ≡ b → f (cond b (layoutFrom xs) (layoutOf 0 0 0 0 0 0 0)) ≡ f (layoutFrom xs)
-    by true q = refl
-    by false q = h (layoutOf 0 0 0 0 0 0 0) refl ∙ sym (h (layoutFrom xs) (no-base (layoutFrom xs) q))
 
 -- ---- the parts
 
@@ -72,70 +43,49 @@ pub ran-as : (l : Layout) (ws mem rd log log′ : List ℕ) (budget : ℕ) (m : 
     → ranOf o (runOf l ws m mem budget rd log .mem) log′ ≡ runOf l ws m mem budget rd log
 ran-as l ws mem rd log log′ budget m o q = λ i. ranOf (q .0 i) (runOf l ws m mem budget rd log .mem) (q .1 .1 i)
 
--- loading reads before it looks at the layout: under one that is not right, bytes that reading refuses have reading's refusal, all others 7
-abbrev unlaid : List ℕ → Answer
-unlaid s = orElse (readAnswer s mostInstructions) (refusal BadLayout 0)
-
-module _ (pol : Policy) (s mem : List ℕ) (room : ℕ) (l : Layout) (f : rightLayout l ≡ false) where
-  unlaid-answer : loadAnswer l pol s room mem ≡ unlaid s
-  unfolding loadAnswer rewriteAnswer
-  unlaid-answer = rw f
-
-  unlaid-refused : eqb (loadAnswer l pol s room mem .number) 0 ≡ false
-  unlaid-refused = rw unlaid-answer (cond-ind (λ (a : Answer). eqb (a .number) 0 ≡ false) (eqb (readAnswer s mostInstructions .number) 0) (λ _. refl) (λ q. q))
-
-  unlaid-load : loadOf l pol s room mem ≡ record { machine = machineRefused; answer = unlaid s }
-  unfolding loadMachine
-  unlaid-load = rw (unlaid-refused, unlaid-answer)
-
--- an answer and an output of a layout that is right or refused
-module _ (xs : List ℕ) (l : Layout) (e : l ≡ layoutHeld xs) where
+-- what a part answers and leaves under the layout of a host's numbers
+module _ (xs : List ℕ) (l : Layout) (e : l ≡ layoutFrom xs) where
   pub rewritten : (ws out left ns : List ℕ) (a : Answer) → a ≡ rewriteAnswer l ws (length out) → left ≡ rewriteOutput l ws out → ns ≡ answerTo a
       → (ns ≡ answerTo (rewriteAnswer (layoutFrom xs) ws (length out))) × (left ≡ rewriteOutput (layoutFrom xs) ws out)
-  unfolding rewriteAnswer rewriteOutput
   rewritten ws out left ns a p q r =
-      (r ∙ ap answerTo (p ∙ held (λ (k : Layout). rewriteAnswer k ws (length out)) (refusal BadLayout 0) (λ k f. rw f) xs l e), q ∙ held (λ (k : Layout). rewriteOutput k ws out) out (λ k f. rw f) xs l e)
+      (r ∙ ap answerTo (p ∙ ap (λ (k : Layout). rewriteAnswer k ws (length out)) e), q ∙ ap (λ (k : Layout). rewriteOutput k ws out) e)
 
   pub checked : (ws ns : List ℕ) (a : Answer) → a ≡ checkAnswer l ws → ns ≡ answerTo a → ns ≡ answerTo (checkAnswer (layoutFrom xs) ws)
-  unfolding checkAnswer
-  checked ws ns a p r = r ∙ ap answerTo (p ∙ held (λ (k : Layout). checkAnswer k ws) (refusal BadLayout 0) (λ k f. rw f) xs l e)
+  checked ws ns a p r = r ∙ ap answerTo (p ∙ ap (λ (k : Layout). checkAnswer k ws) e)
 
   pub installed : (pol : Policy) (mem left ms ns : List ℕ) (i : Installed) → i ≡ installOf l pol mem → left ≡ installMemory l pol mem → ms ≡ machineTo (i .machine) → ns ≡ answerTo (i .answer)
       → (ns ≡ answerTo (installAnswer (layoutFrom xs) pol mem)) × ((ms ≡ machineTo (installMachine (layoutFrom xs) pol mem)) × (left ≡ installMemory (layoutFrom xs) pol mem))
-  unfolding installAnswer installMachine installMemory
   installed pol mem left ms ns i p q r s =
-      let h = p ∙ held (λ (k : Layout). installOf k pol mem) (record { machine = machineRefused; answer = refusal BadLayout 0 }) (λ k f. rw f) xs l e in
-      (s ∙ ap (λ (x : Installed). answerTo (x .answer)) h, (r ∙ ap (λ (x : Installed). machineTo (x .machine)) h, q ∙ held (λ (k : Layout). installMemory k pol mem) mem (λ k f. rw f) xs l e))
+      let h = p ∙ ap (λ (k : Layout). installOf k pol mem) e in
+      (s ∙ ap (λ (x : Installed). answerTo (x .answer)) h, (r ∙ ap (λ (x : Installed). machineTo (x .machine)) h, q ∙ ap (λ (k : Layout). installMemory k pol mem) e))
 
   pub loaded : (pol : Policy) (s out mem out′ mem′ ms ns : List ℕ) (i : Installed) → i ≡ loadOf l pol s (length out) mem → out′ ≡ loadCommands l pol s out mem → mem′ ≡ loadMemory l pol s (length out) mem → ms ≡ machineTo (i .machine) → ns ≡ answerTo (i .answer)
       → (ns ≡ answerTo (loadAnswer (layoutFrom xs) pol s (length out) mem)) × ((ms ≡ machineTo (loadMachine (layoutFrom xs) pol s (length out) mem))
       × ((out′ ≡ loadCommands (layoutFrom xs) pol s out mem) × (mem′ ≡ loadMemory (layoutFrom xs) pol s (length out) mem)))
-  unfolding loadCommands loadMemory
   loaded pol s out mem out′ mem′ ms ns i p q r t u =
       let room = length out in
-      let h = p ∙ held (λ (k : Layout). loadOf k pol s room mem) (record { machine = machineRefused; answer = unlaid s }) (unlaid-load pol s mem room) xs l e in (
+      let h = p ∙ ap (λ (k : Layout). loadOf k pol s room mem) e in (
         u ∙ ap (λ (x : Installed). answerTo (x .answer)) h,
         (
           t ∙ ap (λ (x : Installed). machineTo (x .machine)) h,
           (
-            q ∙ held (λ (k : Layout). loadCommands k pol s out mem) out (λ k f. rw (unlaid-refused pol s mem room k f)) xs l e,
-            r ∙ held (λ (k : Layout). loadMemory k pol s room mem) mem (λ k f. rw (unlaid-refused pol s mem room k f)) xs l e,
+            q ∙ ap (λ (k : Layout). loadCommands k pol s out mem) e,
+            r ∙ ap (λ (k : Layout). loadMemory k pol s room mem) e,
           ),
         ),
       )
 
   module _ (ws ms mem rd log mem′ log′ : List ℕ) (budget : ℕ) (m : Machine) (o : Outcome) (p : m ≡ machineFrom ms) (q : ranOf o mem′ log′ ≡ runOf l ws m mem budget rd log) where
     ran : ranOf o mem′ log′ ≡ runFor xs ws ms mem budget rd log
-    unfolding runOf
     ran =
-        q ∙ held (λ (k : Layout). runOf k ws m mem budget rd log) (ranOf (outcomeOf m Refused 0 0 0) mem log) (λ k f. rw f) xs l e
+        q ∙ ap (λ (k : Layout). runOf k ws m mem budget rd log) e
         ∙ ap (λ (x : Machine). runOf (layoutFrom xs) ws x mem budget rd log) p
 
     pub left : (ms′ ns : List ℕ) → ms′ ≡ cond (fits l mem) (machineTo (o .machine)) ms → ns ≡ runAnswerTo (o .answer)
         → (ns ≡ runAnswerTo (runFor xs ws ms mem budget rd log .outcome .answer)) × ((ms′ ≡ recordAfter (layoutFrom xs) mem ms (runFor xs ws ms mem budget rd log))
         × ((mem′ ≡ runFor xs ws ms mem budget rd log .mem) × (log′ ≡ runFor xs ws ms mem budget rd log .log)))
     left ms′ ns t u =
-        let f : fits l mem ≡ fits (layoutFrom xs) mem = held (λ (k : Layout). fits k mem) false (λ k f. rw f) xs l e in (
+        let f : fits l mem ≡ fits (layoutFrom xs) mem = ap (λ (k : Layout). fits k mem) e in (
           u ∙ ap (λ (x : Ran). runAnswerTo (x .outcome .answer)) ran,
           (
             t ∙ ap (λ (b : Bool). cond b (machineTo (o .machine)) ms) f ∙ ap (λ (x : Ran). recordAfter (layoutFrom xs) mem ms x) ran,

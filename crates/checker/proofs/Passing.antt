@@ -2,7 +2,7 @@
 use mathlib.Core.Path.{_≡_, sym, _∙_}
 use mathlib.Core.Bool.{Bool, true, false, _&&_, _||_}
 use mathlib.Core.List.{List}
-use Prim.Native.Nat.{ℕ, zero, suc, _+_, _-_, _*_, _/_, _%_, _≤_, _<_}
+use Prim.Native.Nat.{ℕ, zero, suc, _+_, _-_, _*_, _/_, _%_, _^_, _≤_, _<_}
 use native.Mathlib.Omega.{arith}
 use lib.Count.{ones, ones-le}
 use lib.Dec.{ltb}
@@ -11,10 +11,11 @@ use borrow.Author.Tests.{leb-true, eqb-true}
 use Rattle.rules.specs.declared.Layout.{Layout}
 use Rattle.rules.specs.declared.Answer.{Answer}
 use Rattle.rules.specs.declared.Refusal.the-variants.{BadBase, BadBundle, BadCount, BadLayout, Taken}
-use Rattle.rules.specs.Names.{mostBundles, mostCommands, bundleLength, numberOf, answer, refusal}
+use Rattle.rules.specs.Names.{mostBundles, mostCommands, bundleLength, baseBound, numberOf, answer, refusal}
 use Rattle.rules.specs.Layouts.{rightLayout}
-use Rattle.rules.specs.Bundles.{readOff, bundleAt, isBundle, shapedAt, isHalt, passesAt, checkFrom, baseRight, countRight, checkAnswer}
+use Rattle.rules.specs.Bundles.{addressOf, readOff, bundleAt, isBundle, shapedAt, isHalt, passesAt, checkFrom, baseRight, countRight, checkAnswer}
 use Rattle.rules.proofs.Bools.{both}
+use Rattle.rules.proofs.Masks.{base-room as list-room}
 
 -- ---- a bundle of the list
 
@@ -79,6 +80,10 @@ module _ (l : Layout) (ws : List ℕ) (t : Bool) (et : t ≡ rightLayout l) wher
         pub bad-base : b ≡ false → refusal BadBase 0 ≡ checkAnswer l ws
         unfolding checkAnswer
         bad-base g = rw (← et, e, ← ec, f, ← eb, g)
+
+        -- and a right base leaves the list below 2 ^ 32
+        pub base-room : l .base < baseBound → b ≡ true → addressOf l (length ws / bundleLength) ≤ 2 ^ 32
+        base-room h g = list-room (l .base) (length ws / bundleLength) (count-facts .2) count-most (eqb-true _ _ (sym eb ∙ g)) h
 
         pub checked : b ≡ true → (a : Answer) → a ≡ checkFrom l (length ws / bundleLength) ws 0 (length ws / bundleLength) → a ≡ checkAnswer l ws
         unfolding checkAnswer

@@ -7,14 +7,14 @@ use words::count::base_right;
 use words::count::count_right;
 use words::layout::right;
 ghost use mathlib.Core.Path.{_≡_};
-ghost use Prim.Native.Nat.{_*_, _≤_, _<_};
+ghost use Prim.Native.Nat.{_*_, _≤_, _<_, _^_};
 ghost use lib.ListN.{length};
 ghost use Rattle.rules.specs.Names.{mostBundles, bundleLength};
-ghost use Rattle.rules.specs.Bundles.{passesAt, checkFrom, checkAnswer};
+ghost use Rattle.rules.specs.Bundles.{addressOf, passesAt, checkFrom, checkAnswer};
 
 // Whether bundle h of n has a shape, and is a HALT if it is the last.
 fn passes(l: Layout, n: usize, commands: &[u64], h: usize) -> bool
-    requires { ⌜ (0 < n) × (n ≤ mostBundles) × (h < n) × (bundleLength * n ≤ length (now commands)) ⌝ }
+    requires { ⌜ (0 < n) × (n ≤ mostBundles) × (addressOf l n ≤ 2 ^ 32) × (h < n) × (bundleLength * n ≤ length (now commands)) ⌝ }
     ensures { λ r. ⌜ r ≡ passesAt l n (now (commands .entry)) h ⌝ }
 {
     let at = Bundle::LENGTH * h;
@@ -31,7 +31,7 @@ fn passes(l: Layout, n: usize, commands: &[u64], h: usize) -> bool
 
 // The lowest of n bundles that does not pass.
 fn scan(l: Layout, n: usize, commands: &[u64]) -> Answer
-    requires { ⌜ (0 < n) × (n ≤ mostBundles) × (bundleLength * n ≤ length (now commands)) ⌝ }
+    requires { ⌜ (0 < n) × (n ≤ mostBundles) × (addressOf l n ≤ 2 ^ 32) × (bundleLength * n ≤ length (now commands)) ⌝ }
     ensures { λ r. ⌜ r ≡ checkFrom l n (now (commands .entry)) 0 n ⌝ }
 {
     let mut h: usize = 0;

@@ -162,7 +162,7 @@ fn decide(
 // What the word at pc would do; the list stands at the base. A pc below it is far past the list's end.
 pub fn next_effect(
     commands: &[u64],
-    base: u16,
+    base: u32,
     regs: &[u32; 9],
     pc: u32,
     cell: u32,

@@ -6,14 +6,11 @@ use mathlib.Core.List.{List, [], _∷_, _++_}
 use native.Mathlib.Omega.{arith}
 use lib.ListN.{length, getD, take, drop}
 use lib.Seq.{drop-cons, take-all}
-use borrow.Author.Tests.{lt-ltb, le-ltb}
 use Rattle.rules.specs.declared.Machine.{Machine}
 use Rattle.rules.specs.declared.Status.{Status}
-use Rattle.rules.specs.Names.{registers, baseBound}
-use Rattle.rules.specs.Layouts.{layoutOf}
+use Rattle.rules.specs.Names.{registers}
 use Rattle.rules.specs.Machines.{machineOf}
-use Rattle.rules.specs.Loading.{layoutFrom, statusFrom, machineFrom, machineTo, statusNumber}
-use Rattle.hosts.specs.Held.{layoutHeld}
+use Rattle.rules.specs.Loading.{statusFrom, machineFrom, machineTo, statusNumber}
 
 -- ---- arrays
 
@@ -36,16 +33,6 @@ pub record-of : (m : Machine) (t : ℕ) → length (m .regs) ≡ registers → t
 record-of m t h e =
     ap (λ (k : ℕ). cells registers 0 (m .regs) ++ (m .pc ∷ k ∷ [])) e
     ∙ ap (λ (r : List ℕ). r ++ (m .pc ∷ statusNumber (m .status) ∷ [])) (registers-of (m .regs) (omega arith) ∙ take-all registers (m .regs) (omega arith))
-
--- ---- layouts
-
-pub base-kept : (xs : List ℕ) → getD xs 6 0 < baseBound → layoutFrom xs ≡ layoutHeld xs
-unfolding layoutHeld
-base-kept xs h = rw (lt-ltb _ _ h)
-
-pub base-refused : (xs : List ℕ) → baseBound ≤ getD xs 6 0 → layoutOf 0 0 0 0 0 0 0 ≡ layoutHeld xs
-unfolding layoutHeld
-base-refused xs h = rw (le-ltb _ _ h)
 
 -- ---- one of two lists, by a test that was made
 

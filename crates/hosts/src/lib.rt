@@ -7,21 +7,13 @@ ghost use mathlib.Core.Path.{_≡_};
 ghost use mathlib.Core.Bool.{_&&_, cond};
 ghost use lib.Dec.{eqb};
 ghost use Rattle.rules.specs.Layouts.{rightLayout};
-ghost use Rattle.rules.specs.Loading.{statusFrom, statusNumber, machineFrom, machineTo};
-ghost use Rattle.hosts.specs.Held.{layoutHeld};
+ghost use Rattle.rules.specs.Loading.{layoutFrom, statusFrom, statusNumber, machineFrom, machineTo};
 
-// The greatest B.
-const TOP_BASE: u32 = 65535;
-
-// A layout; one that is not right in place of one whose B has more than 16 bits.
+// A layout.
 pub fn layout_of(xs: &[u32; 7]) -> Layout
-    ensures { λ r. ⌜ r ≡ layoutHeld (now (xs .entry)) ⌝ }
+    ensures { λ r. ⌜ r ≡ layoutFrom (now (xs .entry)) ⌝ }
 {
-    let base = xs[6];
-    if base > TOP_BASE {
-        return Layout::new(0, 0, 0, 0, 0, 0, 0);
-    }
-    Layout::new(xs[0], xs[1], xs[2], xs[3], xs[4], xs[5], base as u16)
+    Layout::new(xs[0], xs[1], xs[2], xs[3], xs[4], xs[5], xs[6])
 }
 
 // A status; any number above 3 counts as faulted.

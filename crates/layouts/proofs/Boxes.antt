@@ -18,7 +18,7 @@ module _ (l : Layout) where
   unfolding rightLayout
   box-out h k = rw (le-leb (l .low) (l .high) h, le-ltb (l .high) (l .size) k, and-false (inRange l))
 
-  -- the tests that are left once those of SL ≤ SH < U passed; the base has 16 bits by its type
+  -- the tests that are left once those of SL ≤ SH < U passed; the base has 32 bits by its type
   abbrev pub rest : Bool
   rest =
       (leb 1 (l .size) && leb (l .size) mostCells && leb 1 (l .states) && leb (l .states) mostStates)

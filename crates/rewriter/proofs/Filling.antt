@@ -28,8 +28,8 @@ module _ (ws : List ℕ) (h : ℕ) where
   unfolding routine instrOf
   routine-past g = rw (List·getD-eq-default ws 0 g)
 
-  pub fits : (n room : ℕ) → Ready n ws room → (i : Instr) → i ≡ routine ws h → Fits n i
-  fits n room r i e = record { some = r .some; most = r .most; valid = rw e (r .each h) }
+  pub fits : (l : Layout) (n room : ℕ) → Ready l n ws room → (i : Instr) → i ≡ routine ws h → Fits l n i
+  fits l n room r i e = record { some = r .some; most = r .most; top = r .top; valid = rw e (r .each h) }
 
 pub put-four : (out : List ℕ) (at w x y z : ℕ) → set (set (set (set out at w) (at + 1) x) (at + 2) y) (at + 3) z ≡ sets out at (w ∷ x ∷ y ∷ z ∷ [])
 put-four out at w x y z = simp towards-suc
@@ -40,8 +40,8 @@ pub fill-start : (l : Layout) (n : ℕ) (ws out : List ℕ) → sets out 0 (rewr
 unfolding rewritten
 fill-start l n ws out = rw sub-zero
 
-pub still-ready : (n room room′ : ℕ) (ws : List ℕ) → Ready n ws room → room′ ≡ room → Ready n ws room′
-still-ready n room room′ ws r e = rw e r
+pub still-ready : (l : Layout) (n room room′ : ℕ) (ws : List ℕ) → Ready l n ws room → room′ ≡ room → Ready l n ws room′
+still-ready l n room room′ ws r e = rw e r
 
 module _ (l : Layout) (n : ℕ) (ws : List ℕ) (h : ℕ) (out : List ℕ) where
   pub put-bundle : (i : Instr) → i ≡ routine ws h → (b : Bundle) → b ≡ bundleOf l n i

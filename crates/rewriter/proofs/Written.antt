@@ -7,7 +7,7 @@ use native.Mathlib.Omega.{arith}
 use lib.Dec.{ltb}
 use lib.ListN.{length}
 use lib.Seq.{sets}
-use borrow.Author.Tests.{lt-ltb, le-leb, ltb-false}
+use borrow.Author.Tests.{lt-ltb, le-leb, ltb-false, eqb-true}
 use Rattle.rules.specs.declared.Layout.{Layout}
 use Rattle.rules.specs.declared.Instr.{Instr}
 use Rattle.rules.specs.declared.Instr.the-variants.{HALT, PLAIN, LOAD, STORE, GOIF, GOX, EVENT}
@@ -19,6 +19,8 @@ use Rattle.rules.specs.Bundles.{baseRight, commandCount, commandsOf, placeAnswe
 use Rattle.rules.proofs.Facts.{Valid}
 use Rattle.rules.proofs.Bools.{cond-ind}
 use Rattle.rules.proofs.Refusals.{taken-then, output-kept, output-written}
+use Rattle.rules.proofs.Layouts.{layout-facts}
+use Rattle.rules.proofs.Masks.{base-room}
 use Rattle.rules.proofs.Conditions.{Taken, taken-of, size-laws, count-most, routine-valid, routine-length}
 use Rattle.rewriter.specs.Rewriting.{Ready}
 
@@ -59,11 +61,12 @@ module _ (l : Layout) (ws : List ℕ) (room : ℕ) where
     pub short : length ws < 2 ^ 32
     short = omega (arith, taken .most)
 
-    pub ready : (k : ℕ) → k ≡ bundlesFor (length ws) → Ready k ws room
+    pub ready : (k : ℕ) → k ≡ bundlesFor (length ws) → Ready l k ws room
     ready k ek =
         record {
           some = omega (arith, ek, size-laws l ws taken .above);
           most = omega (arith, ek, count-most l ws taken);
+          top = rw ek (base-room (l .base) (bundlesFor (length ws)) (size-laws l ws taken .power) (count-most l ws taken) (eqb-true _ _ (taken .base)) (layout-facts l (taken .right) .base));
           fit = omega (arith, ek, roomy zero-is);
           each = λ h. rw ek (valid-of (bundlesFor (length ws)) (routine ws h) (routine-valid l ws taken h));
         }

@@ -1,15 +1,17 @@
 -- What writing the bundles of a routine takes.
-use Prim.Native.Nat.{ℕ, _*_, _<_, _≤_}
+use Prim.Native.Nat.{ℕ, _*_, _^_, _<_, _≤_}
 use mathlib.Core.Path.{_≡_}
 use mathlib.Core.Bool.{true}
 use mathlib.Core.List.{List}
+use Rattle.rules.specs.declared.Layout.{Layout}
 use Rattle.rules.specs.Names.{mostBundles, bundleLength}
 use Rattle.rules.specs.Words.{routine}
-use Rattle.rules.specs.Bundles.{valid}
+use Rattle.rules.specs.Bundles.{addressOf, valid}
 
--- n bundles, room for them, and each instruction valid among them
-pub record Ready (n : ℕ) (ws : List ℕ) (room : ℕ) : Type 0 where
+-- n bundles that end at 2 ^ 32 or before it, room for them, and each instruction valid among them
+pub record Ready (l : Layout) (n : ℕ) (ws : List ℕ) (room : ℕ) : Type 0 where
   pub some : 0 < n
   pub most : n ≤ mostBundles
+  pub top : addressOf l n ≤ 2 ^ 32
   pub fit : bundleLength * n ≤ room
   pub each : (h : ℕ) → valid n (routine ws h) ≡ true

@@ -27,7 +27,7 @@ fn word(kind: u64, d: u64, a: u64, b: u64, c: u64, v: u64) -> u64
 
 // The four words of an instruction's bundle, among n.
 pub(crate) fn bundle(l: Layout, n: usize, i: Instr) -> Bundle
-    requires { ⌜ Fits n i ⌝ }
+    requires { ⌜ Fits l n i ⌝ }
     ensures { λ r. ⌜ r ≡ bundleOf l n i ⌝ }
 {
     let base = l.base as u64;

@@ -105,7 +105,7 @@ fn put(commands: &mut [u64], at: usize, w: u64, x: u64, y: u64, z: u64)
 
 // Bundle h of n.
 fn put_bundle(layout: Layout, n: usize, words: &[u64], h: usize, commands: &mut [u64])
-    requires { ⌜ Ready n (now words) (length (now commands)) × (h < n) ⌝ }
+    requires { ⌜ Ready layout n (now words) (length (now commands)) × (h < n) ⌝ }
     ensures { λ _. ⌜ now (commands .exit) ≡ sets (now (commands .entry)) (bundleLength * h) (bundleOf layout n (routine (now (words .entry)) h) .words) ⌝ }
 {
     let made = bundle(layout, n, instruction_at(words, h));
@@ -122,7 +122,7 @@ fn put_bundle(layout: Layout, n: usize, words: &[u64], h: usize, commands: &mut 
 
 // The bundles of a routine that was judged.
 fn fill(layout: Layout, n: usize, words: &[u64], commands: &mut [u64])
-    requires { ⌜ Ready n (now words) (length (now commands)) ⌝ }
+    requires { ⌜ Ready layout n (now words) (length (now commands)) ⌝ }
     ensures { λ _. ⌜ now (commands .exit) ≡ sets (now (commands .entry)) 0 (rewritten layout n (routine (now (words .entry)))) ⌝ }
 {
     let mut h: usize = 0;

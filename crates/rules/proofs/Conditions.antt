@@ -26,7 +26,7 @@ use Rattle.rules.proofs.Facts.{Right, Valid, Bundled, Laid}
 use Rattle.rules.proofs.Bools.{no, cases, both, either, cond-ind}
 use Rattle.rules.proofs.Refusals.{TakesEach, takes-each, taken-then}
 use Rattle.rules.proofs.Layouts.{LayoutFacts, layout-facts, outside}
-use Rattle.rules.proofs.Masks.{masks, sizes}
+use Rattle.rules.proofs.Masks.{masks, sizes, base-room}
 use Rattle.rules.proofs.Packing.{Held, bundle-reads}
 use Rattle.rules.proofs.GuestWords.{taken-valid}
 
@@ -84,13 +84,13 @@ unfolding ones
 some-ones zero h = omega arith
 some-ones (suc n) h = omega arith
 
-held-of : (lay : Layout) (n : ℕ) → LayoutFacts lay → n ≤ mostBundles → 0 < n → Held lay n
-held-of lay n f most some =
+held-of : (lay : Layout) (n : ℕ) → LayoutFacts lay → ones n ≡ 1 → n ≤ mostBundles → baseRight lay n ≡ true → Held lay n
+held-of lay n f single most base =
     record {
       low = omega (arith, f .ordered, f .box, f .size);
       high = omega (arith, f .box, f .size);
-      room = omega (arith, f .base);
-      some = some;
+      room = base-room (lay .base) n single most (eqb-true _ _ base) (f .base);
+      some = some-ones n single;
     }
 
 -- ---- the bundles of a passed list
@@ -190,7 +190,7 @@ module _ (lay : Layout) (ws : List ℕ) (n : ℕ) (passed : Passed lay ws n) whe
         each =
             λ h p lh lp.
             fetched ws (lay .base) h p (omega (arith, passed .count)) ∙ ap commandOf (passed-word h lh p lp)
-            ∙ bundle-reads lay n (held-of lay n (layout-facts lay (passed .right)) (passed .most) some) (bundleAt lay ws h) (passed-valid h lh) p lp;
+            ∙ bundle-reads lay n (held-of lay n (layout-facts lay (passed .right)) (passed .single) (passed .most) (passed .base)) (bundleAt lay ws h) (passed-valid h lh) p lp;
         last = passed-last;
       }
 
@@ -283,7 +283,7 @@ right-facts lay pol n r q single most base =
           λ q e hq he.
           rw (lt-ltb e events he) (λ g. rw (← p .states) (entry (pol .states) (pol .table) (p .entries) (events * q + e) g));
       start = rw (← p .states) (p .start);
-      room = omega (arith, f .base);
+      room = base-room (lay .base) n single most (eqb-true _ _ base) (f .base);
       mask = masks lay r .inside;
       lands = λ x. masks lay r .lands n x single most base;
     }
@@ -382,7 +382,7 @@ module _ (lay : Layout) (code : List ℕ) (taken : Taken lay code) where
         each =
             λ h p lh lp.
             fetched (commandsOf lay code) (lay .base) h p (omega (arith, routine-length)) ∙ ap commandOf (routine-word h p lh lp)
-            ∙ bundle-reads lay count (held-of lay count (layout-facts lay (taken .right)) count-most some) (routine code h) (routine-valid h) p lp;
+            ∙ bundle-reads lay count (held-of lay count (layout-facts lay (taken .right)) (size-laws .power) count-most (taken .base)) (routine code h) (routine-valid h) p lp;
         last = routine-last;
       }
 

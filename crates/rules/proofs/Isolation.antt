@@ -1,23 +1,24 @@
 -- The claims over lists of runs, from what the parts answered: guest rule, state cell, isolation.
-use mathlib.Core.Path.{_≡_, sym, _∙_, ap, subst}
+use mathlib.Core.Path.{_≡_, refl, sym, _∙_, ap, subst}
 use mathlib.Core.List.{List, []}
-use Prim.Native.Nat.{ℕ, _/_}
+use Prim.Native.Nat.{ℕ, _+_, _*_, _/_, _^_, _<_, _≤_}
+use native.Mathlib.Omega.{arith}
 use lib.ListN.{length}
 use Rattle.rules.specs.declared.Layout.{Layout}
 use Rattle.rules.specs.declared.Instr.{Instr}
 use Rattle.rules.specs.declared.Machine.{Machine}
-use Rattle.rules.specs.Names.{bundleLength}
+use Rattle.rules.specs.Names.{mostBundles, bundleLength}
 use Rattle.rules.specs.Policies.{Policy, allowed}
 use Rattle.rules.specs.Words.{routine, bundlesFor}
 use Rattle.rules.specs.Bundles.{commandsOf, bundleAt}
-use Rattle.rules.specs.Machines.{installAnswer, installMemory}
+use Rattle.rules.specs.Machines.{onward, installAnswer, installMemory}
 use Rattle.rules.specs.Guests.{Pair, guestStart}
-use Rattle.rules.specs.Runs.{Given, eventsOf, carriedOf, atFirst, after, Served}
-use Rattle.rules.specs.Claims.{GuestRule, StateCell, Isolation}
+use Rattle.rules.specs.Runs.{Given, eventsOf, carriedOf, atFirst, afterRun, after, Served}
+use Rattle.rules.specs.Claims.{givenFor, GuestRule, NoWrap, StateCell, Isolation}
 use Rattle.rules.proofs.Facts.{Right, Bundled}
-use Rattle.rules.proofs.Conditions.{bundled-of, right-of, laid-of, machine-of, bundled-routine, right-routine}
+use Rattle.rules.proofs.Conditions.{passed-of, bundled-of, right-of, laid-of, machine-of, bundled-routine, right-routine}
 use Rattle.rules.proofs.Sim.{Stays}
-use Rattle.rules.proofs.Track.{recorded, stays-runs, install, agrees-after, cell-laws, allowed-runs, sound-runs, kept-runs}
+use Rattle.rules.proofs.Track.{recorded, stays-run, stays-runs, install, agrees-after, pc-in, cell-laws, allowed-runs, sound-runs, kept-runs}
 use Rattle.rules.proofs.Twins.{alone}
 
 -- the guest tracks an installation that answered 0
@@ -46,6 +47,30 @@ state-cell lay pol ws mem gs v =
     let ok = right-of lay pol ws mem (v .passed) (v .installed) in
     let bs = bundled-of lay ws (v .passed) in
     cell-laws lay pol ws n is ok bs (guestStart lay pol (installMemory lay pol mem)) (after lay pol ws mem gs) (stays lay pol ws mem gs n is ok bs v)
+
+-- two addresses of a list, the second one on from the first modulo 2 ^ 32
+no-turn : (base n pc to : ℕ) → n ≤ mostBundles → base + bundleLength * n ≤ 2 ^ 32 → pc < base + bundleLength * n → base ≤ to → to ≡ onward pc → pc + 1 < 2 ^ 32
+no-turn base n pc to most room l k e = omega arith
+
+pub no-wrap : NoWrap
+no-wrap lay pol ws mem gs v =
+    let n = length ws / bundleLength in
+    let is = bundleAt lay ws in
+    let p = passed-of lay ws (v .passed) in
+    let ok = right-of lay pol ws mem (v .passed) (v .installed) in
+    let bs = bundled-of lay ws (v .passed) in
+    let g0 = guestStart lay pol (installMemory lay pol mem) in
+    let c = after lay pol ws mem gs in
+    let w = stays lay pol ws mem gs n is ok bs v in
+    let i = pc-in lay pol ws n is ok bs g0 c w in
+    record {
+      from = i .0;
+      within = omega (arith, i .1, p .count);
+      top = omega (arith, ok .room, p .count);
+      onward =
+          λ g lent e.
+          no-turn (lay .base) n (c .machine .pc) _ (p .most) (ok .room) (i .1) (pc-in lay pol ws n is ok bs g0 (afterRun lay ws c (givenFor g 1)) (stays-run lay pol ws n is ok bs g0 c (givenFor g 1) _ refl lent w) .0) e;
+    }
 
 pub isolation : Isolation
 isolation lay pol ws mem gs v =

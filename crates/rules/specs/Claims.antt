@@ -19,7 +19,7 @@ use Rattle.rules.specs.Words.{routine, bundlesFor}
 use Rattle.rules.specs.Bytes.{readAnswer, readOutput, writeAnswer, writeOutput}
 use Rattle.rules.specs.Commands.{shlOf, fetchOf}
 use Rattle.rules.specs.Bundles.{addressOf, lastAddress, positionOf, shapeOf, bundleAt, baseRight, commandsOf, rewriteAnswer, rewriteOutput, checkAnswer}
-use Rattle.rules.specs.Machines.{State, leftIn, runFrom, runOf, installMemory}
+use Rattle.rules.specs.Machines.{State, onward, leftIn, runFrom, runOf, installMemory}
 use Rattle.rules.specs.Guests.{Course, going, ended, stopped, Guest, guestAfter, guestStart, boxOf}
 use Rattle.rules.specs.Runs.{begunFrom, Given, Carried, afterRun, allRuns, after, Run, recordedIn, Matches, Lent, Served, pairsOf, eventsOf, pendingAt}
 
@@ -245,6 +245,20 @@ pub record Isolated (lay : Layout) (pol : Policy) (ws mem : List ℕ) (gs : List
 -- demand 3
 abbrev pub Isolation : Type 0
 Isolation = (lay : Layout) (pol : Policy) (ws mem : List ℕ) (gs : List Given) → Served lay pol ws mem gs → Isolated lay pol ws mem gs
+
+-- ---- the pc
+
+-- 'The pc wraps at 2^32, which a passed routine, on demand 3's premise, never does': it stays in the list, which ends at 2^32 or before it,
+-- and where one more step goes on by one, that is no wrap
+pub record PcLaws (lay : Layout) (ws : List ℕ) (c : Carried) : Type 0 where
+  pub from : lay .base ≤ c .machine .pc
+  pub within : c .machine .pc < lay .base + length ws
+  pub top : lay .base + length ws ≤ 2 ^ 32
+  pub onward : (g : Given) → Lent lay c g → afterRun lay ws c (givenFor g 1) .machine .pc ≡ onward (c .machine .pc) → c .machine .pc + 1 < 2 ^ 32
+
+-- at every moment: a list of runs may end anywhere
+abbrev pub NoWrap : Type 0
+NoWrap = (lay : Layout) (pol : Policy) (ws mem : List ℕ) (gs : List Given) → Served lay pol ws mem gs → PcLaws lay ws (after lay pol ws mem gs)
 
 -- ---- the state cell
 

@@ -44,7 +44,7 @@ loadOf lay pol s room mem = record { machine = loadMachine lay pol s room mem; a
 -- ---- the numbers of a C host
 
 -- a layout as U, SL, SH, M, P, S, B
-abbrev pub layoutFrom : List ℕ → Layout
+unfoldable pub layoutFrom : List ℕ → Layout
 layoutFrom xs = layoutOf (getD xs 0 0) (getD xs 1 0) (getD xs 2 0) (getD xs 3 0) (getD xs 4 0) (getD xs 5 0) (getD xs 6 0)
 
 -- 0 running, 1 ended, 2 stopped, 3 faulted; any other number counts as faulted

@@ -10,7 +10,7 @@ use Rattle.rules.specs.declared.Ending.{Ending}
 use Rattle.rules.specs.declared.Ending.the-variants.{Done, NoArrow, Fault, LogFull, Silent, Spent, Refused}
 use Rattle.rules.specs.declared.Answer.{Answer}
 
--- U is from 1 to 4,096, S from 1 to 16, B has 16 bits
+-- U is from 1 to 4,096, S from 1 to 16, B has 32 bits
 abbrev pub mostCells : ℕ
 mostCells = 4096
 
@@ -18,7 +18,7 @@ abbrev pub mostStates : ℕ
 mostStates = 16
 
 abbrev pub baseBound : ℕ
-baseBound = 2 ^ 16
+baseBound = 2 ^ 32
 
 -- a policy's row has an entry for each of 16 events, of which the first 8 are orders; 255 is no arrow
 abbrev pub events : ℕ

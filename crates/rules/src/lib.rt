@@ -11,7 +11,7 @@ pub struct Layout {
     pub cell: u32,
     pub table: u32,
     pub states: u32,
-    pub base: u16,
+    pub base: u32,
 }
 
 impl Layout {
@@ -26,7 +26,7 @@ impl Layout {
         cell: u32,
         table: u32,
         states: u32,
-        base: u16,
+        base: u32,
     ) -> Layout
         ensures { λ r. ⌜ r ≡ layoutOf size low high cell table states base ⌝ }
     {
@@ -141,12 +141,12 @@ impl Machine {
     pub const HIDDEN: usize = 8;
 
     // The record that installing yields: registers 0, pc at the base, running.
-    pub fn new(base: u16) -> Machine
+    pub fn new(base: u32) -> Machine
         ensures { λ r. ⌜ r ≡ machineAt base ⌝ }
     {
         Machine {
             regs: [0; 9],
-            pc: base as u32,
+            pc: base,
             status: Status::Running,
         }
     }

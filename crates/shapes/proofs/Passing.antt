@@ -11,7 +11,7 @@ use Rattle.rules.specs.declared.Instr.the-variants.{PLAIN}
 use Rattle.rules.specs.Names.{mostBundles}
 use Rattle.rules.specs.Words.{kindOf, dOf, aOf, bOf, cOf, vOf, zeroOf, packOf, judgeAt, instrOf}
 use Rattle.rules.specs.Commands.{wordOf}
-use Rattle.rules.specs.Bundles.{shapeOf, bundleWord, bundleOf, valid, readOff, isBundle, isHalt}
+use Rattle.rules.specs.Bundles.{addressOf, shapeOf, bundleWord, bundleOf, valid, readOff, isBundle, isHalt}
 use Rattle.rules.proofs.Bools.{both}
 use Rattle.rules.proofs.Facts.{Valid}
 use Rattle.rules.proofs.WordLaws.{pack-fields}
@@ -22,8 +22,8 @@ use Rattle.shapes.proofs.Shapes.{off-plain}
 
 -- ---- one bundle
 
-pub fits : (n : ℕ) (i : Instr) (t : Bool) → 0 < n → n ≤ mostBundles → t ≡ valid n i → t ≡ true → Fits n i
-fits n i t s m et e = record { some = s; most = m; valid = sym et ∙ e }
+pub fits : (l : Layout) (n : ℕ) (i : Instr) (t : Bool) → 0 < n → n ≤ mostBundles → addressOf l n ≤ 2 ^ 32 → t ≡ valid n i → t ≡ true → Fits l n i
+fits l n i t s m r et e = record { some = s; most = m; top = r; valid = sym et ∙ e }
 
 module _ (l : Layout) (n : ℕ) (i : Instr) (w x y z : ℕ) (t : Bool) (et : t ≡ valid n i) where
   pub not-bundle : t ≡ false → false ≡ isBundle l n i w x y z

@@ -12,7 +12,7 @@ use Rattle.rules.specs.declared.Instr.{Instr}
 use Rattle.rules.specs.declared.Instr.the-variants.{HALT, PLAIN, LOAD, STORE, GOIF, GOX, EVENT}
 use Rattle.rules.specs.declared.Bundle.{Bundle}
 use Rattle.rules.specs.declared.Limits.{Limits}
-use Rattle.rules.specs.Names.{bundleLength, baseBound, guestRegisters, hidden, topRegister, topCondition, events}
+use Rattle.rules.specs.Names.{bundleLength, guestRegisters, hidden, topRegister, topCondition, events}
 use Rattle.rules.specs.Words.{kindOf, dOf, aOf, bOf, cOf, vOf, fieldsOf}
 use Rattle.rules.specs.Commands.{limitOf, limitsOf}
 use Rattle.rules.specs.Bundles.{addressOf, lastAddress, bundleOf, readOff, valid}
@@ -137,7 +137,7 @@ pub gox-words : (l : Layout) (n x : ℕ) (p q s t p′ s′ t′ : Bool) (g : �
 gox-words l n x p q s t p′ s′ t′ g eg ep eq es et =
     all-four p q s t p′ _ s′ t′ ep (eq ∙ ap (λ (m : ℕ). eqb x (cutWord 9 hidden hidden 0 0 (m - 1))) eg) es et
 
-module _ (l : Layout) (n : ℕ) (i : Instr) (f : Fits n i) (w x y z : ℕ) where
+module _ (l : Layout) (n : ℕ) (i : Instr) (f : Fits l n i) (w x y z : ℕ) where
   same-words : (w′ x′ y′ z′ : ℕ) → record { words = w′ ∷ x′ ∷ y′ ∷ z′ ∷ [] } ≡ bundleOf l n i
       → (eqb w w′ && eqb x x′ && eqb y y′ && eqb z z′) ≡ sameWords w x y z (bundleOf l n i .words)
   same-words w′ x′ y′ z′ e = ap (λ (b : Bundle). sameWords w x y z (b .words)) e
@@ -164,19 +164,18 @@ module _ (l : Layout) (n : ℕ) (i : Instr) (f : Fits n i) (w x y z : ℕ) where
         (same-words (cutWord 9 hidden a 0 0 (l .high)) (cutWord 10 hidden hidden 0 0 (l .low)) (cutWord 13 0 hidden b 0 0) 0
         (lay-store l n i f hh hl a b e (cutWord 9 hidden a 0 0 (l .high)) (cutWord 10 hidden hidden 0 0 (l .low)) (cutWord 13 0 hidden b 0 0) refl refl refl))
 
-  module _ (hb : l .base < baseBound) where
-    pub same-goif : (a b c v : ℕ) → i ≡ GOIF a b c v → (t : ℕ) → t ≡ addressOf l v → (r : Bool) → r ≡ alone w x y z (cutWord 14 0 a b c t)
-        → r ≡ sameWords w x y z (bundleOf l n i .words)
-    same-goif a b c v e t et r p =
-        p ∙ same-words (cutWord 14 0 a b c t) 0 0 0 (lay-goif l n i f hb a b c v e (cutWord 14 0 a b c t) (ap (cutWord 14 0 a b c) et))
+  pub same-goif : (a b c v : ℕ) → i ≡ GOIF a b c v → (t : ℕ) → t ≡ addressOf l v → (r : Bool) → r ≡ alone w x y z (cutWord 14 0 a b c t)
+      → r ≡ sameWords w x y z (bundleOf l n i .words)
+  same-goif a b c v e t et r p =
+      p ∙ same-words (cutWord 14 0 a b c t) 0 0 0 (lay-goif l n i f a b c v e (cutWord 14 0 a b c t) (ap (cutWord 14 0 a b c) et))
 
-    pub same-gox : (d a b c : ℕ) → i ≡ GOX d a b c → (r : Bool)
-        → r ≡ (eqb w (cutWord 11 hidden d 0 0 2) && eqb x (cutWord 9 hidden hidden 0 0 (lastAddress l n)) && eqb y (cutWord 10 hidden hidden 0 0 (l .base)) && eqb z (cutWord 15 hidden a b c 0))
-        → r ≡ sameWords w x y z (bundleOf l n i .words)
-    same-gox d a b c e r p =
-        p
-        ∙ same-words (cutWord 11 hidden d 0 0 2) (cutWord 9 hidden hidden 0 0 (lastAddress l n)) (cutWord 10 hidden hidden 0 0 (l .base)) (cutWord 15 hidden a b c 0)
-        (lay-gox l n i f hb d a b c e (cutWord 11 hidden d 0 0 2) (cutWord 9 hidden hidden 0 0 (lastAddress l n)) (cutWord 10 hidden hidden 0 0 (l .base)) (cutWord 15 hidden a b c 0) refl refl refl refl)
+  pub same-gox : (d a b c : ℕ) → i ≡ GOX d a b c → (r : Bool)
+      → r ≡ (eqb w (cutWord 11 hidden d 0 0 2) && eqb x (cutWord 9 hidden hidden 0 0 (lastAddress l n)) && eqb y (cutWord 10 hidden hidden 0 0 (l .base)) && eqb z (cutWord 15 hidden a b c 0))
+      → r ≡ sameWords w x y z (bundleOf l n i .words)
+  same-gox d a b c e r p =
+      p
+      ∙ same-words (cutWord 11 hidden d 0 0 2) (cutWord 9 hidden hidden 0 0 (lastAddress l n)) (cutWord 10 hidden hidden 0 0 (l .base)) (cutWord 15 hidden a b c 0)
+      (lay-gox l n i f d a b c e (cutWord 11 hidden d 0 0 2) (cutWord 9 hidden hidden 0 0 (lastAddress l n)) (cutWord 10 hidden hidden 0 0 (l .base)) (cutWord 15 hidden a b c 0) refl refl refl refl)
 
   pub same-event : (v : ℕ) → i ≡ EVENT v → (r : Bool)
       → r ≡ (eqb w (cutWord 16 hidden 0 0 0 v) && eqb x (cutWord 17 hidden 0 0 0 0) && eqb y (cutWord 18 hidden 0 0 0 0) && eqb z (cutWord 19 0 0 0 0 v))

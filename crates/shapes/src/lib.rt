@@ -9,14 +9,14 @@ use shape::valid;
 use words::guest::judge_at;
 ghost use mathlib.Core.Path.{_≡_};
 ghost use mathlib.Core.Bool.{true, _&&_, _||_};
-ghost use Prim.Native.Nat.{_≤_, _<_};
+ghost use Prim.Native.Nat.{_≤_, _<_, _^_};
 ghost use Rattle.rules.specs.Names.{mostBundles};
-ghost use Rattle.rules.specs.Bundles.{readOff, isBundle, isHalt};
+ghost use Rattle.rules.specs.Bundles.{addressOf, readOff, isBundle, isHalt};
 ghost use Rattle.shapes.specs.Sameness.{PlainWord};
 
 // Whether four words are the bundle of an instruction among n.
 fn is_bundle(l: Layout, n: usize, i: Instr, w: u64, x: u64, y: u64, z: u64) -> bool
-    requires { ⌜ (0 < n) × (n ≤ mostBundles) ⌝ }
+    requires { ⌜ (0 < n) × (n ≤ mostBundles) × (addressOf l n ≤ 2 ^ 32) ⌝ }
     ensures { λ r. ⌜ r ≡ isBundle l n i w x y z ⌝ }
 {
     if !valid(n, i) {
@@ -55,7 +55,7 @@ fn is_plain(n: usize, w: u64) -> bool
 
 // Whether four words are a bundle, and a HALT where no more follow. The plain ones, which are most, come first.
 pub fn passes_words(l: Layout, n: usize, w: u64, x: u64, y: u64, z: u64, more: bool) -> bool
-    requires { ⌜ (0 < n) × (n ≤ mostBundles) ⌝ }
+    requires { ⌜ (0 < n) × (n ≤ mostBundles) × (addressOf l n ≤ 2 ^ 32) ⌝ }
     ensures { λ r. ⌜ r ≡ (isBundle l n (readOff l w y z) w x y z && (more || isHalt (readOff l w y z))) ⌝ }
 {
     if is_plain(n, w) & (x == 0) & (y == 0) & (z == 0) & more {

@@ -16,7 +16,7 @@ ghost use mathlib.Core.Bool.{cond, _&&_};
 ghost use Prim.Native.Nat.{_+_, _-_, _≤_, _<_, _^_};
 ghost use lib.Dec.{ltb, eqb};
 ghost use Rattle.rules.specs.declared.Instr.the-variants.{PLAIN, LOAD, STORE, GOX};
-ghost use Rattle.rules.specs.Names.{guestRegisters, hidden, mostBundles};
+ghost use Rattle.rules.specs.Names.{guestRegisters, hidden};
 ghost use Rattle.rules.specs.Words.{kindOf, dOf, aOf, bOf, cOf};
 ghost use Rattle.rules.specs.Commands.{limitsOf};
 ghost use Rattle.rules.specs.Bundles.{addressOf, lastAddress, bundleOf, valid as isValid, readOff};
@@ -209,7 +209,7 @@ fn is_gox(
     y: u64,
     z: u64,
 ) -> bool
-    requires { ⌜ (0 < n) × (n ≤ mostBundles) ⌝ }
+    requires { ⌜ (0 < n) × (addressOf l n ≤ 2 ^ 32) ⌝ }
     ensures { λ r. ⌜ r ≡ (eqb w (cutWord 11 hidden d 0 0 2) && eqb x (cutWord 9 hidden hidden 0 0 (lastAddress l n)) && eqb y (cutWord 10 hidden hidden 0 0 (l .base)) && eqb z (cutWord 15 hidden a b c 0)) ⌝ }
 {
     is_word(w, 11, HIDDEN, d, 0, 0, 2)
@@ -229,7 +229,7 @@ fn is_event(e: u64, w: u64, x: u64, y: u64, z: u64) -> bool
 
 // Whether four words are those of an instruction's bundle.
 pub(crate) fn same(l: Layout, n: usize, i: Instr, w: u64, x: u64, y: u64, z: u64) -> bool
-    requires { ⌜ Fits n i ⌝ }
+    requires { ⌜ Fits l n i ⌝ }
     ensures { λ r. ⌜ r ≡ sameWords w x y z (bundleOf l n i .words) ⌝ }
 {
     match i {

@@ -104,7 +104,7 @@ fn rewrites_to_7(name: &[u8], layout: Layout, words: &[u64]) {
     print_case(name, rewriter::rewrite(layout, words, &mut commands));
 }
 
-fn drum(base: u16) -> Layout {
+fn drum(base: u32) -> Layout {
     Layout::new(1024, 256, 511, 0, 16, 2, base)
 }
 

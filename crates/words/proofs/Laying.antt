@@ -9,7 +9,7 @@ use Rattle.rules.specs.declared.Layout.{Layout}
 use Rattle.rules.specs.declared.Instr.{Instr}
 use Rattle.rules.specs.declared.Instr.the-variants.{HALT, PLAIN, LOAD, STORE, GOIF, GOX, EVENT}
 use Rattle.rules.specs.declared.Bundle.{Bundle}
-use Rattle.rules.specs.Names.{bundleLength, hidden, topWord, baseBound}
+use Rattle.rules.specs.Names.{bundleLength, hidden, topWord}
 use Rattle.rules.specs.Words.{packOf}
 use Rattle.rules.specs.Commands.{limitsOf, wordOf}
 use Rattle.rules.specs.Bundles.{addressOf, lastAddress, shapeOf, bundleWord, bundleOf, valid}
@@ -38,7 +38,7 @@ four : (w x y z w′ x′ y′ z′ : ℕ) → w ≡ w′ → x ≡ x′ → y �
 four w x y z w′ x′ y′ z′ ew ex ey ez i = record { words = ew i ∷ ex i ∷ ey i ∷ ez i ∷ [] }
 
 -- one law for each instruction: its words, cut, are its bundle
-module _ (l : Layout) (n : ℕ) (i : Instr) (f : Fits n i) where
+module _ (l : Layout) (n : ℕ) (i : Instr) (f : Fits l n i) where
   facts : (j : Instr) → i ≡ j → Valid n j
   facts j e = valid-is n j (subst (λ (x : Instr). valid n x ≡ true) e (f .valid))
 
@@ -81,26 +81,25 @@ module _ (l : Layout) (n : ℕ) (i : Instr) (f : Fits n i) where
         (ey ∙ uncut-word 13 0 hidden b 0 0 (omega arith) (omega arith) (omega arith) (omega (arith, g .1)) (omega arith) (omega arith))
         refl)
 
-  module _ (hb : l .base < baseBound) where
-    pub lay-goif : (a b c v : ℕ) → i ≡ GOIF a b c v → (w : ℕ) → w ≡ cutWord 14 0 a b c (addressOf l v) → record { words = w ∷ 0 ∷ 0 ∷ 0 ∷ [] } ≡ bundleOf l n i
-    unfolding bundleWord shapeOf wordOf
-    lay-goif a b c v e w ew =
-        let g = facts (GOIF a b c v) e in
-        let m = f .most in
-        rw e
-        (four _ _ _ _ _ _ _ _ (ew ∙ uncut-word 14 0 a b c (addressOf l v) (omega arith) (omega arith) (omega (arith, g .0)) (omega (arith, g .1)) (omega (arith, g .2)) (omega (arith, g .3))) refl refl refl)
+  pub lay-goif : (a b c v : ℕ) → i ≡ GOIF a b c v → (w : ℕ) → w ≡ cutWord 14 0 a b c (addressOf l v) → record { words = w ∷ 0 ∷ 0 ∷ 0 ∷ [] } ≡ bundleOf l n i
+  unfolding bundleWord shapeOf wordOf
+  lay-goif a b c v e w ew =
+      let g = facts (GOIF a b c v) e in
+      let m = f .top in
+      rw e
+      (four _ _ _ _ _ _ _ _ (ew ∙ uncut-word 14 0 a b c (addressOf l v) (omega arith) (omega arith) (omega (arith, g .0)) (omega (arith, g .1)) (omega (arith, g .2)) (omega (arith, g .3, f .top))) refl refl refl)
 
-    pub lay-gox : (d a b c : ℕ) → i ≡ GOX d a b c → (w x y z : ℕ) → w ≡ cutWord 11 hidden d 0 0 2 → x ≡ cutWord 9 hidden hidden 0 0 (lastAddress l n)
-        → y ≡ cutWord 10 hidden hidden 0 0 (l .base) → z ≡ cutWord 15 hidden a b c 0 → record { words = w ∷ x ∷ y ∷ z ∷ [] } ≡ bundleOf l n i
-    unfolding bundleWord shapeOf wordOf
-    lay-gox d a b c e w x y z ew ex ey ez =
-        let g = facts (GOX d a b c) e in
-        let m = f .most in
-        rw e
-        (four _ _ _ _ _ _ _ _ (ew ∙ uncut-word 11 hidden d 0 0 2 (omega arith) (omega arith) (omega (arith, g .0)) (omega arith) (omega arith) (omega arith))
-        (ex ∙ uncut-word 9 hidden hidden 0 0 (lastAddress l n) (omega arith) (omega arith) (omega arith) (omega arith) (omega arith) (omega arith))
-        (ey ∙ uncut-word 10 hidden hidden 0 0 (l .base) (omega arith) (omega arith) (omega arith) (omega arith) (omega arith) (omega arith))
-        (ez ∙ uncut-word 15 hidden a b c 0 (omega arith) (omega arith) (omega (arith, g .1)) (omega (arith, g .2)) (omega (arith, g .3)) (omega arith)))
+  pub lay-gox : (d a b c : ℕ) → i ≡ GOX d a b c → (w x y z : ℕ) → w ≡ cutWord 11 hidden d 0 0 2 → x ≡ cutWord 9 hidden hidden 0 0 (lastAddress l n)
+      → y ≡ cutWord 10 hidden hidden 0 0 (l .base) → z ≡ cutWord 15 hidden a b c 0 → record { words = w ∷ x ∷ y ∷ z ∷ [] } ≡ bundleOf l n i
+  unfolding bundleWord shapeOf wordOf
+  lay-gox d a b c e w x y z ew ex ey ez =
+      let g = facts (GOX d a b c) e in
+      let m = f .top in
+      rw e
+      (four _ _ _ _ _ _ _ _ (ew ∙ uncut-word 11 hidden d 0 0 2 (omega arith) (omega arith) (omega (arith, g .0)) (omega arith) (omega arith) (omega arith))
+      (ex ∙ uncut-word 9 hidden hidden 0 0 (lastAddress l n) (omega arith) (omega arith) (omega arith) (omega arith) (omega arith) (omega arith))
+      (ey ∙ uncut-word 10 hidden hidden 0 0 (l .base) (omega arith) (omega arith) (omega arith) (omega arith) (omega arith) (omega arith))
+      (ez ∙ uncut-word 15 hidden a b c 0 (omega arith) (omega arith) (omega (arith, g .1)) (omega (arith, g .2)) (omega (arith, g .3)) (omega arith)))
 
   pub lay-event : (v : ℕ) → i ≡ EVENT v → (w x y z : ℕ) → w ≡ cutWord 16 hidden 0 0 0 v → x ≡ cutWord 17 hidden 0 0 0 0 → y ≡ cutWord 18 hidden 0 0 0 0
       → z ≡ cutWord 19 0 0 0 0 v → record { words = w ∷ x ∷ y ∷ z ∷ [] } ≡ bundleOf l n i
@@ -118,5 +117,5 @@ module _ (l : Layout) (n : ℕ) (i : Instr) (f : Fits n i) where
   pub jump-fits : (a b c v : ℕ) → i ≡ GOIF a b c v → bundleLength * v < 2 ^ 64
   jump-fits a b c v e = let g = facts (GOIF a b c v) e in omega (arith, g .3, f .most)
 
-  pub landing-fits : l .base < baseBound → (a b c v : ℕ) → i ≡ GOIF a b c v → addressOf l v < 2 ^ 64
-  landing-fits h a b c v e = let g = facts (GOIF a b c v) e in omega (arith, g .3, f .most)
+  pub landing-fits : (a b c v : ℕ) → i ≡ GOIF a b c v → addressOf l v < 2 ^ 64
+  landing-fits a b c v e = let g = facts (GOIF a b c v) e in omega (arith, g .3, f .top)

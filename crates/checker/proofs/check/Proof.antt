@@ -1,6 +1,6 @@
 use borrow.Author.Tests.{not-true, not-false}
 use borrow.Author.Needs.{needs}
-use Rattle.checker.proofs.Passing.{bad-layout, bad-count, bad-base, count-some, count-most, count-all, checked}
+use Rattle.checker.proofs.Passing.{bad-layout, bad-count, bad-base, count-some, count-most, count-all, base-room, checked}
 use Rattle.checker.proofs.check.Statement.{statement}
 use Rattle.checker.proofs.check.Tie as tie
 
@@ -14,5 +14,5 @@ check-spec =
     (λ c κs. search needs)
     (λ c. search (bad-count, not-true, not-false, needs))
     (λ c. search (bad-base, not-true, not-false, needs))
-    (λ c κs. search (count-some, count-most, count-all, not-false, needs))
+    (λ c κs. search (count-some, count-most, count-all, base-room, not-false, needs))
     (λ c. search (checked, not-false, needs)))

@@ -45,5 +45,5 @@ bundle-spec =
     (λ c. search (lay-load, needs))
     (λ c. search (lay-store, needs))
     (λ c. search (lay-goif, needs))
-    (λ c. let base = c .before .before .before .before .before .before .before .before .before .struct-known .given .1 .1 .1 .1 .1 .1 .0 in search (lay-gox, base, needs))
+    (λ c. search (lay-gox, needs))
     (λ c. search (lay-event, needs)))
