@@ -9,14 +9,14 @@
 #include <string.h>
 #include <time.h>
 
-typedef void Run(const uint32_t layout[7], const uint64_t *, size_t, uint32_t machine[11], uint32_t *, size_t, uint32_t,
+typedef void Run(const uint32_t layout[8], const uint64_t *, size_t, uint32_t machine[11], uint32_t *, size_t, uint32_t,
                  const uint32_t *, size_t, uint32_t *, size_t, uint32_t answer[4]);
 Run run_O2, run_O3;
 enum { KINDS = 3, MOST_ROUNDS = 1001 };
 static Run *const RUNS[KINDS] = {hemdroas_run, run_O2, run_O3};
 
-enum { U = 1024, SL = 256, SH = 511, M = 0, P = 16, S = 2, B = 4096, LOG = 800000, READINGS = 400000, BUNDLES = 8 };
-static const uint32_t layout[7] = {U, SL, SH, M, P, S, B};
+enum { U = 1024, SL = 256, SH = 511, M = 0, P = 16, S = 2, B = 4096, Q = 64, LOG = 800000, READINGS = 400000, BUNDLES = 8 };
+static const uint32_t layout[8] = {U, SL, SH, M, P, S, B, Q};
 
 /* The word of a command. */
 static uint64_t word(uint64_t k, uint64_t d, uint64_t a, uint64_t b, uint64_t c, uint64_t v) {
@@ -50,9 +50,10 @@ static void same(const char *name, size_t cells) {
         }
 }
 
-/* All cells 0: in state 0 every event leads to state 0. */
+/* All cells 0, but every instruction is a landing: in state 0 every event leads to state 0. */
 static void fresh(int i) {
     memset(memory[i], 0, sizeof memory[i]);
+    memset(memory[i] + Q, 255, 32 * sizeof memory[i][0]);
     memset(machine[i], 0, sizeof machine[i]);
     machine[i][9] = B;
 }

@@ -14,8 +14,8 @@
 enum { CELLS = 1024, STATE_CELL = 0, STATES = 2, MOST_COMMANDS = 4096, LOG = 64 };
 enum { GAS = 0, DOOR = 2, NO_ARROW = 255 };
 
-/* U, SL, SH, M, P, S, B */
-static const uint32_t layout[7] = {CELLS, 256, 511, STATE_CELL, 16, STATES, 4096};
+/* U, SL, SH, M, P, S, B, Q */
+static const uint32_t layout[8] = {CELLS, 256, 511, STATE_CELL, 16, STATES, 4096, 64};
 
 /* Gas at 70, open the door, and gas again, which the policy forbids. */
 static const uint8_t routine[] = {0x04, 0x00,
@@ -25,6 +25,9 @@ static const uint8_t routine[] = {0x04, 0x00,
                                   0x01, 0x0C};
 
 static const uint32_t readings[] = {1800, 1950, 2100};
+
+/* The routine has no GOX; its first instruction would be a landing. */
+static const uint32_t landings[] = {0};
 
 /* The commands of the routine, and the memory of the drum. */
 static uint64_t commands[MOST_COMMANDS];
@@ -42,7 +45,8 @@ int main(void)
 
     uint32_t machine[11];
     uint32_t answer[2]; /* number, and place or count of commands */
-    hemdroas_load(layout, STATES, 0, table, sizeof table, routine, sizeof routine,
+    hemdroas_load(layout, STATES, 0, table, sizeof table,
+                  landings, sizeof landings / sizeof landings[0], routine, sizeof routine,
                   commands, MOST_COMMANDS, memory, CELLS, machine, answer);
     printf("answer %" PRIu32 "\n", answer[0]);
     if (answer[0] != 0) {

@@ -14,7 +14,7 @@
  * other too. No call keeps a pointer. A pointer to an empty buffer is not
  * followed, but must not be null.
  *
- * layout[7], in this order:
+ * layout[8], in this order:
  *   U   memory cells, 1 to 4096
  *   SL  first cell of the sandbox
  *   SH  last cell of the sandbox
@@ -22,12 +22,14 @@
  *   P   first cell of the policy's table, 16 cells per state
  *   S   policy states, 1 to 16
  *   B   address of the first command
- * It is right when U, S and B are in these ranges; SL <= SH < U, M < U and
- * P + 16 * S <= U; SH - SL + 1 is a power of two and SL a multiple of it; and
- * sandbox, state cell and table share no cell.
+ *   Q   first of 32 cells with a bit for each landing
+ * It is right when U and S are in these ranges; SL <= SH < U, M < U,
+ * P + 16 * S <= U and Q + 32 <= U; SH - SL + 1 is a power of two and SL a
+ * multiple of it; and sandbox, state cell, table and landing cells share no
+ * cell.
  *
  * machine[11]: r0 to r8, pc, status. Status is 0 running, 1 ended, 2 stopped,
- * 3 faulted; any number above 3 counts as faulted.
+ * 3 faulted, 4 strayed; any number above 4 counts as faulted.
  *
  * answer[2]: the number, then the place. Number 0 is success, and the place
  * then is the count of words, bytes or commands written (0 for check and
@@ -46,6 +48,7 @@
  *  11 bad bundle       commands of no allowed shape, or no HALT at the end
  *  12 bad count        not 4, 8, 16, ... 4096 commands
  *  13 bad base         B no multiple of the number of commands
+ *  14 bad landings     landings not strictly rising, or one above 1023
  *  17 bad pair         event above 15 or without its partner, or more than four
  *                      events named
  *
@@ -72,22 +75,23 @@ void hemdroas_write  (const uint64_t *words, size_t n, uint8_t *bytes, size_t ro
 /* Rewrites n words into commands, 4 for each of 1, 2, 4, ... 1024 bundles: the
  * smallest such count above n. B must be a multiple of the commands' number.
  * 4096 commands are always room enough. */
-void hemdroas_rewrite(const uint32_t layout[7], const uint64_t *words, size_t n, uint64_t *commands, size_t room, uint32_t answer[2]);
+void hemdroas_rewrite(const uint32_t layout[8], const uint64_t *words, size_t n, uint64_t *commands, size_t room, uint32_t answer[2]);
 
 /* Checks that n commands, run under this layout, keep to sandbox and policy. */
-void hemdroas_check  (const uint32_t layout[7], const uint64_t *commands, size_t n, uint32_t answer[2]);
+void hemdroas_check  (const uint32_t layout[8], const uint64_t *commands, size_t n, uint32_t answer[2]);
 
 /* 1 if states is 1 to 16 and each of the word's four bytes is below states or
  * 255, else 0: the test that installing makes of the policy's table, four
  * bytes together. */
 uint32_t hemdroas_word_right(uint32_t states, uint32_t word);
 
-/* Writes the start state to cell M and the policy's table from cell P on, and
- * yields a machine at the first command. states must be the layout's S, len
+/* Writes the start state to cell M, the policy's table from cell P on and the
+ * bits of the landings from cell Q on, and yields a machine at the first
+ * command. landings are the instructions, rising, that a GOX may go to. states must be the layout's S, len
  * 16 times that; table[16 * s + e] is the state after event e in state s, or
  * 255 where event e is not allowed. */
-void hemdroas_install(const uint32_t layout[7], uint32_t states, uint32_t start, const uint8_t *table, size_t len,
-                      uint32_t *memory, size_t cells, uint32_t machine[11], uint32_t answer[2]);
+void hemdroas_install(const uint32_t layout[8], uint32_t states, uint32_t start, const uint8_t *table, size_t len,
+                      const uint32_t *landings, size_t count, uint32_t *memory, size_t cells, uint32_t machine[11], uint32_t answer[2]);
 
 /* Loads a routine of n bytes: reads, rewrites and checks it, then installs the
  * policy. The answer is the first refusal of the four, with its place, so that
@@ -95,8 +99,8 @@ void hemdroas_install(const uint32_t layout[7], uint32_t states, uint32_t start,
  * count of commands, which then stand at the start of commands. 4096 commands
  * are always room enough. It takes about 50 KB of stack, the four calls by
  * themselves 10 KB at most. */
-void hemdroas_load   (const uint32_t layout[7], uint32_t states, uint32_t start, const uint8_t *table, size_t len,
-                      const uint8_t *bytes, size_t n, uint64_t *commands, size_t room,
+void hemdroas_load   (const uint32_t layout[8], uint32_t states, uint32_t start, const uint8_t *table, size_t len,
+                      const uint32_t *landings, size_t count, const uint8_t *bytes, size_t n, uint64_t *commands, size_t room,
                       uint32_t *memory, size_t cells, uint32_t machine[11], uint32_t answer[2]);
 
 /* Runs until the routine ends, pauses or has done budget steps. Each event
@@ -110,9 +114,10 @@ void hemdroas_load   (const uint32_t layout[7], uint32_t states, uint32_t start,
  *   23 log full      pause: go on with an empty log
  *   24 probe silent  pause: go on with new readings; comes before 23 where both are true
  *   25 spent         pause: go on with a new budget
+ *   26 no landing    a GOX to an instruction that is no landing stopped it
  *    7 bad layout    refused, and nothing done; three zeros follow
  * After a pause, lend the same machine and memory again. */
-void hemdroas_run    (const uint32_t layout[7], const uint64_t *commands, size_t n, uint32_t machine[11], uint32_t *memory, size_t cells,
+void hemdroas_run    (const uint32_t layout[8], const uint64_t *commands, size_t n, uint32_t machine[11], uint32_t *memory, size_t cells,
                       uint32_t budget, const uint32_t *readings, size_t r, uint32_t *log, size_t g, uint32_t answer[4]);
 
 /* Looks ahead: answers as hemdroas_run would, with these readings, writes the
@@ -120,7 +125,7 @@ void hemdroas_run    (const uint32_t layout[7], const uint64_t *commands, size_t
  * leave, which is machine's own numbers if it is refused. Neither machine nor
  * memory changes. The run is done on a copy of the memory, which takes about
  * 17 KB of stack. */
-void hemdroas_preview(const uint32_t layout[7], const uint64_t *commands, size_t n, const uint32_t machine[11], const uint32_t *memory, size_t cells,
+void hemdroas_preview(const uint32_t layout[8], const uint64_t *commands, size_t n, const uint32_t machine[11], const uint32_t *memory, size_t cells,
                       uint32_t budget, const uint32_t *readings, size_t r, uint32_t *log, size_t g, uint32_t after[11], uint32_t answer[4]);
 
 /* Makes the policy of a list of n / 2 pairs of events, pairs[2 * i] before

@@ -2,7 +2,7 @@
 use Prim.Native.Nat.{ℕ, zero, suc, _+_, _*_, _/_, _%_, _^_, _≤_}
 use mathlib.Core.Path.{_≡_}
 use mathlib.Core.Bool.{Bool, true, _&&_, _||_, not, cond}
-use mathlib.Core.List.{List}
+use mathlib.Core.List.{List, []}
 use lib.ListN.{length, getD}
 use lib.Dec.{eqb, leb, ltb}
 use lib.Bits.{bitOr}
@@ -86,7 +86,7 @@ tableOf ps = build (entryOf ps) (bytesOf ps)
 
 -- 'the policy in which the second of a pair has an arrow only once the first has been recorded'; 'the start state is 0'
 abbrev pub madePolicy : List ℕ → Policy
-madePolicy ps = policyOf (statesOf ps) 0 (tableOf ps)
+madePolicy ps = policyOf (statesOf ps) 0 (tableOf ps) []
 
 -- an event has no arrow in a state
 abbrev pub stuck : List ℕ → ℕ → ℕ → Bool

@@ -72,7 +72,7 @@ pub extern "C" fn hemdroas_write(words: &[u64], bytes: &mut [u8], answer: &mut [
 // Rewrites a routine's words into commands.
 #[no_mangle]
 pub extern "C" fn hemdroas_rewrite(
-    layout: &[u32; 7],
+    layout: &[u32; 8],
     words: &[u64],
     commands: &mut [u64],
     answer: &mut [u32; 2],
@@ -85,7 +85,7 @@ pub extern "C" fn hemdroas_rewrite(
 
 // Checks a list of commands.
 #[no_mangle]
-pub extern "C" fn hemdroas_check(layout: &[u32; 7], commands: &[u64], answer: &mut [u32; 2])
+pub extern "C" fn hemdroas_check(layout: &[u32; 8], commands: &[u64], answer: &mut [u32; 2])
     ensures { λ _. ⌜ now (answer .exit) ≡ answerTo (checkAnswer (layoutFrom (now (layout .entry))) (now (commands .entry))) ⌝ }
 {
     *answer = answer_of(checker::check(layout_of(layout), commands));
@@ -105,20 +105,21 @@ pub extern "C" fn hemdroas_word_right(states: u32, word: u32) -> u32
 // Installs a policy.
 #[no_mangle]
 pub extern "C" fn hemdroas_install(
-    layout: &[u32; 7],
+    layout: &[u32; 8],
     states: u32,
     start: u32,
     table: &[u8],
+    landings: &[u32],
     memory: &mut [u32],
     machine: &mut [u32; 11],
     answer: &mut [u32; 2],
 )
-    ensures answer { λ _. ⌜ now (answer .exit) ≡ answerTo (installAnswer (layoutFrom (now (layout .entry))) (policyOf states start (now (table .entry))) (now (memory .entry))) ⌝ }
-    ensures machine { λ _. ⌜ now (machine .exit) ≡ machineTo (installMachine (layoutFrom (now (layout .entry))) (policyOf states start (now (table .entry))) (now (memory .entry))) ⌝ }
-    ensures memory { λ _. ⌜ now (memory .exit) ≡ installMemory (layoutFrom (now (layout .entry))) (policyOf states start (now (table .entry))) (now (memory .entry)) ⌝ }
+    ensures answer { λ _. ⌜ now (answer .exit) ≡ answerTo (installAnswer (layoutFrom (now (layout .entry))) (policyOf states start (now (table .entry)) (now (landings .entry))) (now (memory .entry))) ⌝ }
+    ensures machine { λ _. ⌜ now (machine .exit) ≡ machineTo (installMachine (layoutFrom (now (layout .entry))) (policyOf states start (now (table .entry)) (now (landings .entry))) (now (memory .entry))) ⌝ }
+    ensures memory { λ _. ⌜ now (memory .exit) ≡ installMemory (layoutFrom (now (layout .entry))) (policyOf states start (now (table .entry)) (now (landings .entry))) (now (memory .entry)) ⌝ }
 {
     let policy = Policy { states, start };
-    let done = installer::install(layout_of(layout), policy, table, memory);
+    let done = installer::install(layout_of(layout), policy, table, landings, memory);
     *machine = record_of(done.machine);
     *answer = answer_of(done.answer);
 }
@@ -126,23 +127,32 @@ pub extern "C" fn hemdroas_install(
 // Loads a routine: all that comes before a run, in one call.
 #[no_mangle]
 pub extern "C" fn hemdroas_load(
-    layout: &[u32; 7],
+    layout: &[u32; 8],
     states: u32,
     start: u32,
     table: &[u8],
+    landings: &[u32],
     bytes: &[u8],
     commands: &mut [u64],
     memory: &mut [u32],
     machine: &mut [u32; 11],
     answer: &mut [u32; 2],
 )
-    ensures answer { λ _. ⌜ now (answer .exit) ≡ answerTo (loadAnswer (layoutFrom (now (layout .entry))) (policyOf states start (now (table .entry))) (now (bytes .entry)) (length (now (commands .entry))) (now (memory .entry))) ⌝ }
-    ensures machine { λ _. ⌜ now (machine .exit) ≡ machineTo (loadMachine (layoutFrom (now (layout .entry))) (policyOf states start (now (table .entry))) (now (bytes .entry)) (length (now (commands .entry))) (now (memory .entry))) ⌝ }
-    ensures commands { λ _. ⌜ now (commands .exit) ≡ loadCommands (layoutFrom (now (layout .entry))) (policyOf states start (now (table .entry))) (now (bytes .entry)) (now (commands .entry)) (now (memory .entry)) ⌝ }
-    ensures memory { λ _. ⌜ now (memory .exit) ≡ loadMemory (layoutFrom (now (layout .entry))) (policyOf states start (now (table .entry))) (now (bytes .entry)) (length (now (commands .entry))) (now (memory .entry)) ⌝ }
+    ensures answer { λ _. ⌜ now (answer .exit) ≡ answerTo (loadAnswer (layoutFrom (now (layout .entry))) (policyOf states start (now (table .entry)) (now (landings .entry))) (now (bytes .entry)) (length (now (commands .entry))) (now (memory .entry))) ⌝ }
+    ensures machine { λ _. ⌜ now (machine .exit) ≡ machineTo (loadMachine (layoutFrom (now (layout .entry))) (policyOf states start (now (table .entry)) (now (landings .entry))) (now (bytes .entry)) (length (now (commands .entry))) (now (memory .entry))) ⌝ }
+    ensures commands { λ _. ⌜ now (commands .exit) ≡ loadCommands (layoutFrom (now (layout .entry))) (policyOf states start (now (table .entry)) (now (landings .entry))) (now (bytes .entry)) (now (commands .entry)) (now (memory .entry)) ⌝ }
+    ensures memory { λ _. ⌜ now (memory .exit) ≡ loadMemory (layoutFrom (now (layout .entry))) (policyOf states start (now (table .entry)) (now (landings .entry))) (now (bytes .entry)) (length (now (commands .entry))) (now (memory .entry)) ⌝ }
 {
     let policy = Policy { states, start };
-    let loaded = sandbox::load(layout_of(layout), policy, table, bytes, commands, memory);
+    let loaded = sandbox::load(
+        layout_of(layout),
+        policy,
+        table,
+        landings,
+        bytes,
+        commands,
+        memory,
+    );
     *machine = record_of(loaded.machine);
     *answer = answer_of(loaded.answer);
 }
@@ -150,7 +160,7 @@ pub extern "C" fn hemdroas_load(
 // Runs a record; one that is refused comes back as it was.
 #[no_mangle]
 pub extern "C" fn hemdroas_run(
-    layout: &[u32; 7],
+    layout: &[u32; 8],
     commands: &[u64],
     machine: &mut [u32; 11],
     memory: &mut [u32],
@@ -176,7 +186,7 @@ pub extern "C" fn hemdroas_run(
 // Previews a run: the answer, the log and, in `after`, the record that `hemdroas_run` would leave.
 #[no_mangle]
 pub extern "C" fn hemdroas_preview(
-    layout: &[u32; 7],
+    layout: &[u32; 8],
     commands: &[u64],
     machine: &[u32; 11],
     memory: &[u32],

@@ -1,6 +1,8 @@
 // What the word at pc would do: a pure decision, applied by the machine.
+use rules::Bundle;
 use rules::Effect;
 use rules::Ending;
+use rules::Layout;
 use rules::Policy;
 use rules::Status;
 use words::arith;
@@ -10,11 +12,11 @@ ghost use mathlib.Core.Bool.{true, cond};
 ghost use Prim.Native.Nat.{_+_, _*_};
 ghost use lib.ListN.{length, getD};
 ghost use lib.Dec.{ltb, eqb};
-ghost use Rattle.rules.specs.declared.Status.the-variants.{Stopped, Faulted};
+ghost use Rattle.rules.specs.declared.Status.the-variants.{Stopped, Faulted, Strayed};
 ghost use Rattle.rules.specs.declared.Effect.the-variants.{Go, Put, Cell, End};
 ghost use Rattle.rules.specs.Names.{events, noArrow};
 ghost use Rattle.rules.specs.Commands.{isCommand, commandOf, holdsOf, fetchOf};
-ghost use Rattle.rules.specs.Machines.{onward, viewOf, effectOf, eventEffect, ifRoom};
+ghost use Rattle.rules.specs.Machines.{onward, viewOf, landsAt, effectOf, eventEffect, ifRoom};
 
 // The next pc is formed only in the arms that need it, which keeps a register free across the match.
 fn target(c: u64, x: u32, y: u32, to: u32, pc: u32) -> Effect
@@ -22,6 +24,54 @@ fn target(c: u64, x: u32, y: u32, to: u32, pc: u32) -> Effect
 {
     if arith::holds(c, x, y) {
         return Effect::Go(to);
+    }
+    Effect::Go(arith::add(pc, 1))
+}
+
+const LENGTH: u32 = Bundle::LENGTH as u32;
+
+const MOST: u32 = Bundle::MOST as u32;
+
+// Whether an address is B + 4j and bit j of the landing cells stands.
+fn lands(to: u32, base: u32, landings: u32, memory: &[u32]) -> bool
+    ensures { λ r. ⌜ r ≡ landsAt (now (memory .entry)) base landings to ⌝ }
+{
+    if to < base {
+        return false;
+    }
+    let off = to - base;
+    let j = off / LENGTH;
+    if off % LENGTH != 0 {
+        return false;
+    }
+    if j >= MOST {
+        return false;
+    }
+    let at = landings as usize + (j / Layout::CELL_BITS) as usize;
+    if at < memory.len() {
+        return (memory[at] >> (j % Layout::CELL_BITS)) % 2 == 1;
+    }
+    false
+}
+
+// A jump through a register: only to a landing.
+fn jump(
+    c: u64,
+    x: u32,
+    y: u32,
+    to: u32,
+    pc: u32,
+    base: u32,
+    landings: u32,
+    memory: &[u32],
+) -> Effect
+    ensures { λ r. ⌜ r ≡ cond (holdsOf c x y) (cond (landsAt (now (memory .entry)) base landings to) (Go to) (End Strayed)) (Go (onward pc)) ⌝ }
+{
+    if arith::holds(c, x, y) {
+        if lands(to, base, landings, memory) {
+            return Effect::Go(to);
+        }
+        return Effect::End(Status::Strayed);
     }
     Effect::Go(arith::add(pc, 1))
 }
@@ -100,12 +150,14 @@ fn act(
     pc: u32,
     cell: u32,
     table: u32,
+    base: u32,
+    landings: u32,
     memory: &[u32],
     free: usize,
     left: usize,
 ) -> Effect
     requires { ⌜ isCommand w ≡ true ⌝ }
-    ensures { λ r. ⌜ r ≡ effectOf (commandOf w) (viewOf (now (regs .entry)) pc (now (memory .entry)) cell table free left) ⌝ }
+    ensures { λ r. ⌜ r ≡ effectOf (commandOf w) (viewOf (now (regs .entry)) pc (now (memory .entry)) cell table base landings free left) ⌝ }
 {
     let k = w % 256;
     let d = ((w >> 8) % 16) as usize;
@@ -131,7 +183,7 @@ fn act(
         12 => load(d, x, memory),
         13 => store(x, y, memory),
         14 => target(c, x, y, v, pc),
-        15 => target(c, x, y, regs[d], pc),
+        15 => jump(c, x, y, regs[d], pc, base, landings, memory),
         16 => look(d, cell, table, v, memory),
         17 => stop_if(regs[d], pc),
         18 => store(cell, regs[d], memory),
@@ -147,14 +199,16 @@ fn decide(
     pc: u32,
     cell: u32,
     table: u32,
+    base: u32,
+    landings: u32,
     memory: &[u32],
     free: usize,
     left: usize,
 ) -> Effect
-    ensures { λ r. ⌜ r ≡ effectOf (commandOf w) (viewOf (now (regs .entry)) pc (now (memory .entry)) cell table free left) ⌝ }
+    ensures { λ r. ⌜ r ≡ effectOf (commandOf w) (viewOf (now (regs .entry)) pc (now (memory .entry)) cell table base landings free left) ⌝ }
 {
     if command::is_command(w) {
-        return act(w, regs, pc, cell, table, memory, free, left);
+        return act(w, regs, pc, cell, table, base, landings, memory, free, left);
     }
     Effect::End(Status::Faulted)
 }
@@ -167,15 +221,27 @@ pub fn next_effect(
     pc: u32,
     cell: u32,
     table: u32,
+    landings: u32,
     memory: &[u32],
     free: usize,
     left: usize,
 ) -> Effect
-    ensures { λ r. ⌜ r ≡ effectOf (fetchOf (now (commands .entry)) base pc) (viewOf (now (regs .entry)) pc (now (memory .entry)) cell table free left) ⌝ }
+    ensures { λ r. ⌜ r ≡ effectOf (fetchOf (now (commands .entry)) base pc) (viewOf (now (regs .entry)) pc (now (memory .entry)) cell table base landings free left) ⌝ }
 {
     let at = std::num::wrapping_sub_usize(pc as usize, base as usize);
     if at < commands.len() {
-        return decide(commands[at], regs, pc, cell, table, memory, free, left);
+        return decide(
+            commands[at],
+            regs,
+            pc,
+            cell,
+            table,
+            base,
+            landings,
+            memory,
+            free,
+            left,
+        );
     }
     Effect::End(Status::Faulted)
 }

@@ -10,13 +10,13 @@ ghost use Rattle.rules.specs.Layouts.{rightLayout};
 ghost use Rattle.rules.specs.Loading.{layoutFrom, statusFrom, statusNumber, machineFrom, machineTo};
 
 // A layout.
-pub fn layout_of(xs: &[u32; 7]) -> Layout
+pub fn layout_of(xs: &[u32; 8]) -> Layout
     ensures { λ r. ⌜ r ≡ layoutFrom (now (xs .entry)) ⌝ }
 {
-    Layout::new(xs[0], xs[1], xs[2], xs[3], xs[4], xs[5], xs[6])
+    Layout::new(xs[0], xs[1], xs[2], xs[3], xs[4], xs[5], xs[6], xs[7])
 }
 
-// A status; any number above 3 counts as faulted.
+// A status; any number above 4 counts as faulted.
 fn status_of(x: u32) -> Status
     ensures { λ r. ⌜ r ≡ statusFrom x ⌝ }
 {
@@ -24,6 +24,7 @@ fn status_of(x: u32) -> Status
         0 => Status::Running,
         1 => Status::Ended,
         2 => Status::Stopped,
+        4 => Status::Strayed,
         _ => Status::Faulted,
     }
 }
@@ -36,6 +37,7 @@ fn status_number(t: Status) -> u32
         Status::Ended => 1,
         Status::Stopped => 2,
         Status::Faulted => 3,
+        Status::Strayed => 4,
     }
 }
 

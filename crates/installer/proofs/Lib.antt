@@ -1,2 +1,3 @@
 pub mod Words
+pub mod Marks
 pub mod Installs

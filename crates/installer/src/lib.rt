@@ -1,5 +1,6 @@
-// Installing a policy: its start state and its table into the machine's memory, and a fresh record.
+// Installing a policy and a list of landings: its start state, its table and their bits into the machine's memory, and a fresh record.
 use rules::Answer;
+use rules::Bundle;
 use rules::Installed;
 use rules::Layout;
 use rules::Machine;
@@ -7,11 +8,15 @@ use rules::Policy;
 use rules::Refusal;
 use words::layout;
 ghost use mathlib.Core.Path.{_≡_};
-ghost use Prim.Native.Nat.{_+_, _*_, _≤_, _<_};
-ghost use lib.ListN.{length, take, drop};
+ghost use mathlib.Core.Bool.{true};
+ghost use Prim.Native.Nat.{_+_, _*_, _/_, _%_, _^_, _≤_, _<_};
+ghost use mathlib.Core.List.{[]};
+ghost use lib.Bits.{bitOr};
+ghost use lib.ListN.{length, getD, set, take, drop};
 ghost use lib.Seq.{sets};
-ghost use Rattle.rules.specs.Names.{mostStates, answer};
+ghost use Rattle.rules.specs.Names.{mostStates, mostBundles, landingCells, cellBits, answer};
 ghost use Rattle.rules.specs.Policies.{policyOf, entriesRight, lowBytes, wordBytes, statesRight, wordRight, rightPolicy};
+ghost use Rattle.rules.specs.Landings.{rightLandings, landingsOf};
 ghost use Rattle.rules.specs.Machines.{machineRefused, installOf, installMemory};
 
 // A number in each of a word's four bytes: 1, the low seven bits, and the top bit.
@@ -23,6 +28,9 @@ const TOPS: u32 = 0x8080_8080;
 
 // The bytes of a word.
 const WORD: usize = 4;
+
+// A landing is below it.
+const MOST: u32 = Bundle::MOST as u32;
 
 // Whether a right layout can have so many states.
 fn states_right(states: u32) -> bool
@@ -117,9 +125,65 @@ fn store_table(memory: &mut [u32], at: u32, table: &[u8])
     }
 }
 
+// Whether a list of landings rises strictly and has no entry above 1,023.
+fn landings_right(landings: &[u32]) -> bool
+    ensures { λ r. ⌜ r ≡ rightLandings (now (landings .entry)) ⌝ }
+{
+    let mut low: u32 = 0;
+    let mut i: usize = 0;
+    while i < landings.len() {
+        let x = landings[i];
+        if x < low {
+            return false;
+        }
+        if x >= MOST {
+            return false;
+        }
+        low = x + 1;
+        i = i + 1;
+    }
+    true
+}
+
+// A landing's bit set.
+fn mark(cells: &mut [u32; 32], x: u32)
+    requires { ⌜ (x < mostBundles) × (length (now cells) ≡ landingCells) ⌝ }
+    ensures { λ _. ⌜ now (cells .exit) ≡ set (now (cells .entry)) (x / cellBits) (bitOr (getD (now (cells .entry)) (x / cellBits) 0) (2 ^ (x % cellBits))) ⌝ }
+{
+    let k = (x / Layout::CELL_BITS) as usize;
+    cells[k] = cells[k] | (1u32 << (x % Layout::CELL_BITS));
+}
+
+// The landing cells of a list: landing 32k + j is bit j of cell k.
+fn landing_cells(landings: &[u32]) -> [u32; 32]
+    requires { ⌜ rightLandings (now landings) ≡ true ⌝ }
+    ensures { λ r. ⌜ r ≡ landingsOf (now (landings .entry)) ⌝ }
+{
+    let mut cells = [0u32; 32];
+    let mut i: usize = 0;
+    while i < landings.len() {
+        mark(&mut cells, landings[i]);
+        i = i + 1;
+    }
+    cells
+}
+
+// Cells into those from an address on.
+fn store_cells(memory: &mut [u32], at: u32, cells: &[u32])
+    requires { ⌜ at + length (now cells) ≤ length (now memory) ⌝ }
+    ensures { λ _. ⌜ now (memory .exit) ≡ sets (now (memory .entry)) at (now (cells .entry)) ⌝ }
+{
+    let first = at as usize;
+    let mut i: usize = 0;
+    while i < cells.len() {
+        memory[first + i] = cells[i];
+        i = i + 1;
+    }
+}
+
 // Whether a policy can be installed under a layout: 10's four conditions.
 fn policy_right(layout: Layout, policy: Policy, table: &[u8]) -> bool
-    ensures { λ r. ⌜ r ≡ rightPolicy layout (policyOf (policy .states) (policy .start) (now (table .entry))) ⌝ }
+    ensures { λ r. ⌜ r ≡ rightPolicy layout (policyOf (policy .states) (policy .start) (now (table .entry)) []) ⌝ }
 {
     let states = policy.states;
     let entries = entries_right(states, table);
@@ -139,10 +203,16 @@ fn refused(number: u8) -> Installed
     }
 }
 
-// Installing a policy: the start state to the state cell and the table to its cells, nothing else.
-pub fn install(layout: Layout, policy: Policy, table: &[u8], memory: &mut [u32]) -> Installed
-    ensures { λ r. ⌜ r ≡ installOf layout (policyOf (policy .states) (policy .start) (now (table .entry))) (now (memory .entry)) ⌝ }
-    ensures leaves { λ _. ⌜ now (memory .exit) ≡ installMemory layout (policyOf (policy .states) (policy .start) (now (table .entry))) (now (memory .entry)) ⌝ }
+// Installing: the start state to the state cell, the table to its cells and the landings' bits to theirs, nothing else.
+pub fn install(
+    layout: Layout,
+    policy: Policy,
+    table: &[u8],
+    landings: &[u32],
+    memory: &mut [u32],
+) -> Installed
+    ensures { λ r. ⌜ r ≡ installOf layout (policyOf (policy .states) (policy .start) (now (table .entry)) (now (landings .entry))) (now (memory .entry)) ⌝ }
+    ensures leaves { λ _. ⌜ now (memory .exit) ≡ installMemory layout (policyOf (policy .states) (policy .start) (now (table .entry)) (now (landings .entry))) (now (memory .entry)) ⌝ }
 {
     let fits = layout::right(layout) & (memory.len() == layout.size as usize);
     if !fits {
@@ -151,8 +221,13 @@ pub fn install(layout: Layout, policy: Policy, table: &[u8], memory: &mut [u32])
     if !policy_right(layout, policy, table) {
         return refused(Refusal::BAD_POLICY);
     }
+    if !landings_right(landings) {
+        return refused(Refusal::BAD_LANDINGS);
+    }
+    let marks = landing_cells(landings);
     cells::poke(memory, layout.cell as usize, policy.start);
     store_table(memory, layout.table, table);
+    store_cells(memory, layout.landings, &marks);
     let machine = Machine::new(layout.base);
     Installed {
         machine,

@@ -15,8 +15,9 @@ use Rattle.rules.specs.declared.Answer.{Answer}
 use Rattle.rules.specs.declared.Instr.{Instr}
 use Rattle.rules.specs.declared.Instr.the-variants.{HALT, PLAIN, LOAD, STORE, GOIF, GOX, EVENT}
 use Rattle.rules.specs.Names.{mostInstructions, mostBundles, mostCommands, bundleLength, events, noArrow}
-use Rattle.rules.specs.Layouts.{rightLayout, tableEnd}
+use Rattle.rules.specs.Layouts.{rightLayout, tableEnd, landingsEnd}
 use Rattle.rules.specs.Policies.{Policy, entryRight, entriesRight, rightPolicy}
+use Rattle.rules.specs.Landings.{rightLandings, landingsOf}
 use Rattle.rules.specs.Words.{judgeAt, instrOf, routine, bundlesFor}
 use Rattle.rules.specs.Commands.{commandOf, fetchOf}
 use Rattle.rules.specs.Bundles.{bundleWord, bundlesFrom, rewritten, commandsOf, commandCount, baseRight, placeAnswer, rewriteAnswer, valid, bundleAt, isBundle, shapedAt, isHalt, passesAt, checkFrom, countRight, checkAnswer}
@@ -26,6 +27,7 @@ use Rattle.rules.proofs.Facts.{Right, Valid, Bundled, Laid}
 use Rattle.rules.proofs.Bools.{no, cases, both, either, cond-ind}
 use Rattle.rules.proofs.Refusals.{TakesEach, takes-each, taken-then}
 use Rattle.rules.proofs.Layouts.{LayoutFacts, layout-facts, outside}
+use Rattle.rules.proofs.Landings.{length-landings, marks-of}
 use Rattle.rules.proofs.Masks.{masks, sizes, base-room}
 use Rattle.rules.proofs.Packing.{Held, bundle-reads}
 use Rattle.rules.proofs.GuestWords.{taken-valid}
@@ -203,7 +205,9 @@ pub fits-of : (lay : Layout) (pol : Policy) (mem : List ℕ) → installAnswer l
 unfolding installAnswer
 fits-of lay pol mem =
     let P = (fits lay mem ≡ true) × (rightPolicy lay pol ≡ true) in
-    taken-if P (fits lay mem) _ _ (λ z. omega arith) (λ f. taken-if P (rightPolicy lay pol) _ _ (λ z. omega arith) (λ p e. (f, p)))
+    taken-if P (fits lay mem) _ _ (λ z. omega arith)
+    (λ f. taken-if P (rightPolicy lay pol) _ _ (λ z. omega arith)
+    (λ p. taken-if P (rightLandings (pol .landings)) _ _ (λ z. omega arith) (λ r e. (f, p))))
 
 pub machine-of : (lay : Layout) (pol : Policy) (mem : List ℕ) → installAnswer lay pol mem .number ≡ 0 → installMachine lay pol mem ≡ machineAt (lay .base)
 unfolding installMachine
@@ -256,13 +260,22 @@ laid-of lay pol mem e =
     let p = policy-facts lay pol (o .1) in
     let start = set mem (lay .cell) (pol .start) in
     let long = length-set mem (lay .cell) (pol .start) in
+    let mid = sets start (lay .table) (pol .table) in
+    let marks = landingsOf (pol .landings) in
+    let wide = length-landings (pol .landings) in
+    let same : length mid ≡ lay .size = length-sets start (lay .table) (pol .table) ∙ long ∙ size in
     rw (eq-eqb _ _ e)
     (record {
-      size = length-sets start (lay .table) (pol .table) ∙ long ∙ size;
+      size = length-sets mid (lay .landings) marks ∙ same;
       cell =
-          sets-beside (pol .table) start (lay .table) (lay .cell) (⊎-elim (λ h. inl h) (λ h. inr (omega (arith, p .size, p .states))) (f .cell-table))
+          sets-beside marks mid (lay .landings) (lay .cell) (⊎-elim (λ h. inl h) (λ h. inr (omega (arith, wide))) (f .cell-landings))
+          ∙ sets-beside (pol .table) start (lay .table) (lay .cell) (⊎-elim (λ h. inl h) (λ h. inr (omega (arith, p .size, p .states))) (f .cell-table))
           ∙ getD-set-same mem (lay .cell) (pol .start) 0 (omega (arith, f .cell));
-      table = λ i h. sets-at (pol .table) start (lay .table) i noArrow (omega (arith, p .size, p .states, f .table)) (omega (arith, p .size, p .states));
+      table =
+          λ i h.
+          sets-beside marks mid (lay .landings) (lay .table + i) (⊎-elim (λ x. inl (omega arith)) (λ x. inr (omega (arith, wide))) (f .table-landings))
+          ∙ sets-at (pol .table) start (lay .table) i noArrow (omega (arith, p .size, p .states, f .table)) (omega (arith, p .size, p .states));
+      marks = marks-of (sets mid (lay .landings) marks) (pol .landings) (lay .landings) (λ k h. sets-at marks mid (lay .landings) k 0 (omega (arith, wide, same, f .landings)) (omega (arith, wide)));
     })
 
 -- ---- a right layout with a right policy
@@ -278,6 +291,9 @@ right-facts lay pol n r q single most base =
       table = f .table;
       cell-out = outside lay (lay .cell) (f .cell-box);
       table-out = λ i h. outside lay (lay .table + i) (⊎-elim (λ x. inr (omega arith)) (λ x. inl (omega arith)) (f .table-box));
+      landings-out = λ k h. outside lay (lay .landings + k) (⊎-elim (λ x. inr (omega arith)) (λ x. inl (omega arith)) (f .landings-box));
+      landings-cell = λ k h e. ⊎-elim (λ (x : lay .cell < lay .landings). omega arith) (λ (x : landingsEnd lay ≤ lay .cell). omega arith) (f .cell-landings);
+      most = most;
       table-cell = λ i h e. ⊎-elim (λ (x : lay .cell < lay .table). omega arith) (λ (x : tableEnd lay ≤ lay .cell). omega arith) (f .cell-table);
       entries =
           λ q e hq he.

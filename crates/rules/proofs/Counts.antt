@@ -15,7 +15,7 @@ use Rattle.rules.specs.declared.Answer.{Answer}
 use Rattle.rules.specs.declared.One.{One}
 use Rattle.rules.specs.declared.One.the-variants.{Word, Bad}
 use Rattle.rules.specs.declared.Status.{Status}
-use Rattle.rules.specs.declared.Status.the-variants.{Running, Ended, Stopped, Faulted}
+use Rattle.rules.specs.declared.Status.the-variants.{Running, Ended, Stopped, Faulted, Strayed}
 use Rattle.rules.specs.declared.Effect.{Effect}
 use Rattle.rules.specs.declared.Effect.the-variants.{Go, Put, Cell, Order, Probe, End, Wait}
 use Rattle.rules.specs.declared.Command.{Command}
@@ -25,9 +25,10 @@ use Rattle.rules.specs.Words.{strayFields, highFields, fieldSets, number
 use Rattle.rules.specs.Bytes.{sizeOf, gap, mapOf, fieldsAt, oneFields, oneMap, oneOf, thenAnswer, scanOf, countOf, wordsIn, readAnswer, oneOut, bytesOf, writeAnswer}
 use Rattle.rules.specs.Layouts.{rightLayout}
 use Rattle.rules.specs.Policies.{Policy, rightPolicy}
-use Rattle.rules.specs.Commands.{fetchOf}
+use Rattle.rules.specs.Landings.{rightLandings}
+use Rattle.rules.specs.Commands.{fetchOf, holdsOf}
 use Rattle.rules.specs.Bundles.{baseRight, rewritten, commandsOf, commandCount, placeAnswer, rewriteAnswer, countRight, passesAt, checkFrom, checkAnswer}
-use Rattle.rules.specs.Machines.{ifRoom, View, State, Ran, fits, installAnswer, regAt, entryOf, effectOf, withPair, applyOf, seen, nextOf, stepOf, endingOf, endedIn, unlessOver, unlessWait, runFrom, startOf, runOf}
+use Rattle.rules.specs.Machines.{ifRoom, View, State, Ran, fits, installAnswer, regAt, entryOf, landsAt, effectOf, withPair, applyOf, seen, nextOf, stepOf, endingOf, endedIn, unlessOver, unlessWait, runFrom, startOf, runOf}
 use Rattle.rules.specs.Loading.{loadAnswer}
 use Rattle.rules.proofs.Bools.{cond-ind, both}
 use Rattle.rules.proofs.Refusals.{taken-then}
@@ -204,7 +205,9 @@ pub install-bound : (lay : Layout) (pol : Policy) (mem : List ℕ) → Bounded 0
 unfolding installAnswer
 install-bound lay pol mem =
     cond-ind (Bounded 0 0) (fits lay mem)
-    (λ _. cond-ind (Bounded 0 0) (rightPolicy lay pol) (λ _. at-start _ _ _ (lit< tt)) (λ _. at-start _ _ _ (lit< tt)))
+    (λ _. cond-ind (Bounded 0 0) (rightPolicy lay pol)
+    (λ _. cond-ind (Bounded 0 0) (rightLandings (pol .landings)) (λ _. at-start _ _ _ (lit< tt)) (λ _. at-start _ _ _ (lit< tt)))
+    (λ _. at-start _ _ _ (lit< tt)))
     (λ _. at-start _ _ _ (lit< tt))
 
 pub load-bound : (lay : Layout) (pol : Policy) (s : List ℕ) (room : ℕ) (mem : List ℕ) → Bounded mostCommands room (loadAnswer lay pol s room mem)
@@ -242,7 +245,9 @@ room (Plain k d a b v) s = tt
 room (Load d a) s = cond-ind (Room (s .free) (s .left)) (ltb (regAt s a) (length (s .mem))) (λ _. tt) (λ _. tt)
 room (Store a b) s = cond-ind (Room (s .free) (s .left)) (ltb (regAt s a) (length (s .mem))) (λ _. tt) (λ _. tt)
 room (GoIf a b c v) s = tt
-room (GoReg d a b c) s = tt
+room (GoReg d a b c) s =
+    cond-ind (Room (s .free) (s .left)) (holdsOf c (regAt s a) (regAt s b))
+    (λ _. cond-ind (Room (s .free) (s .left)) (landsAt (s .mem) (s .base) (s .landings) (regAt s d)) (λ _. tt) (λ _. tt)) (λ _. tt)
 room (Look d v) s =
     cond-ind (Room (s .free) (s .left)) (ltb (s .cell) (length (s .mem)))
     (λ _. cond-ind (Room (s .free) (s .left)) (ltb (entryOf s v) (length (s .mem))) (λ _. tt) (λ _. tt)) (λ _. tt)
@@ -295,6 +300,7 @@ over-counts l rd n k Running s r h b q = q
 over-counts l rd n k Ended s r h b q = record { steps = h; pairs = omega arith; used = omega arith; drawn = b .drawn; room = b .room; log = b .log; rest = b .rest }
 over-counts l rd n k Stopped s r h b q = record { steps = h; pairs = omega arith; used = omega arith; drawn = b .drawn; room = b .room; log = b .log; rest = b .rest }
 over-counts l rd n k Faulted s r h b q = record { steps = h; pairs = omega arith; used = omega arith; drawn = b .drawn; room = b .room; log = b .log; rest = b .rest }
+over-counts l rd n k Strayed s r h b q = record { steps = h; pairs = omega arith; used = omega arith; drawn = b .drawn; room = b .room; log = b .log; rest = b .rest }
 
 wait-counts : (l rd : List ℕ) (n k : ℕ) (e : Effect) (s : State) (r : Ran) → k ≤ n → Counted l rd k k s → RunCounts l rd n r → RunCounts l rd n (unlessWait e (λ d. endedIn d k s) r)
 wait-counts l rd n k (Wait e) s r h b q = record { steps = h; pairs = omega arith; used = omega arith; drawn = b .drawn; room = b .room; log = b .log; rest = b .rest }

@@ -2,6 +2,7 @@ pub mod Bools
 pub mod Refusals
 pub mod Facts
 pub mod Layouts
+pub mod Landings
 pub mod Masks
 pub mod Packing
 pub mod WordLaws

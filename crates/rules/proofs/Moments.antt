@@ -5,7 +5,7 @@ use Prim.Native.Nat.{ℕ, zero, suc, _+_}
 use native.Mathlib.Omega.{arith}
 use Rattle.rules.specs.declared.Layout.{Layout}
 use Rattle.rules.specs.declared.Status.{Status}
-use Rattle.rules.specs.declared.Status.the-variants.{Running, Ended, Stopped, Faulted}
+use Rattle.rules.specs.declared.Status.the-variants.{Running, Ended, Stopped, Faulted, Strayed}
 use Rattle.rules.specs.declared.Ending.{Ending}
 use Rattle.rules.specs.declared.Effect.{Effect}
 use Rattle.rules.specs.declared.Effect.the-variants.{Go, Put, Cell, Order, Probe, End, Wait}
@@ -31,6 +31,7 @@ module _ (lay : Layout) (ws rd : List ℕ) (l : ℕ) where
   over-follows k b c d s Ended x r h q = record { run = over-at (s .status) Ended _ _ h; begun = over-at (s .status) Ended _ _ h }
   over-follows k b c d s Stopped x r h q = record { run = over-at (s .status) Stopped _ _ h; begun = over-at (s .status) Stopped _ _ h }
   over-follows k b c d s Faulted x r h q = record { run = over-at (s .status) Faulted _ _ h; begun = over-at (s .status) Faulted _ _ h }
+  over-follows k b c d s Strayed x r h q = record { run = over-at (s .status) Strayed _ _ h; begun = over-at (s .status) Strayed _ _ h }
 
   wait-follows : (k b c d : ℕ) (s : State) (e : Effect) (x r : Ran) → s .status ≡ Running → nextOf lay ws rd s ≡ e → Follows x r c d → Follows (unlessWait e (λ i. endedIn i k s) x) (unlessWait e (λ i. endedIn i k s) r) (unlessWait e (λ i. b) c) (unlessWait e (λ i. b) d)
   unfolding runFrom begunFrom

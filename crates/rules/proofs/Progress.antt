@@ -15,7 +15,7 @@ use Rattle.rules.specs.declared.Instr.the-variants.{HALT, PLAIN, LOAD, S
 use Rattle.rules.specs.declared.Command.{Command}
 use Rattle.rules.specs.declared.Command.the-variants.{Nop, Halt, Plain, Load, Store, GoIf, GoReg, Look, StopIf, Keep, Event, Stray}
 use Rattle.rules.specs.declared.Status.{Status}
-use Rattle.rules.specs.declared.Status.the-variants.{Running, Ended, Stopped, Faulted}
+use Rattle.rules.specs.declared.Status.the-variants.{Running, Ended, Stopped, Faulted, Strayed}
 use Rattle.rules.specs.declared.Ending.{Ending}
 use Rattle.rules.specs.declared.Ending.the-variants.{LogFull, Silent}
 use Rattle.rules.specs.declared.Effect.{Effect}
@@ -24,7 +24,7 @@ use Rattle.rules.specs.Names.{orders, noArrow, bundleLength, hidden}
 use Rattle.rules.specs.Policies.{Policy}
 use Rattle.rules.specs.Commands.{fetchOf, holdsOf}
 use Rattle.rules.specs.Bundles.{addressOf, positionOf, shapeOf, bundleAt}
-use Rattle.rules.specs.Machines.{State, Ran, View, regAt, ifCell, ifRoom, entryOf, onward, effectOf, applyOf, seen, nextOf, stepOf, unlessWait, runFrom, startOf, runOf, fits, installMemory}
+use Rattle.rules.specs.Machines.{State, Ran, View, regAt, ifCell, landsAt, ifLanding, ifRoom, entryOf, onward, effectOf, applyOf, seen, nextOf, stepOf, unlessWait, runFrom, startOf, runOf, fits, installMemory}
 use Rattle.rules.specs.Guests.{Pair, Guest, rOf, guestStart}
 use Rattle.rules.specs.Runs.{begins, begunFrom, runOn, afterTaken, afterRun, after, eventIn}
 use Rattle.rules.specs.Claims.{Stands, Progress}
@@ -53,7 +53,8 @@ still (Plain k d a b x) v e = tt
 still (Load d a) v e = cond-ind Still (ltb (regAt v a) (length (v .mem))) (λ _. tt) (λ _. tt)
 still (Store a b) v e = cond-ind Still (ltb (regAt v a) (length (v .mem))) (λ _. tt) (λ _. tt)
 still (GoIf a b c x) v e = tt
-still (GoReg d a b c) v e = tt
+still (GoReg d a b c) v e =
+    cond-ind Still (holdsOf c (regAt v a) (regAt v b)) (λ _. cond-ind Still (landsAt (v .mem) (v .base) (v .landings) (regAt v d)) (λ _. tt) (λ _. tt)) (λ _. tt)
 still (Look d x) v e = cond-ind Still (ltb (v .cell) (length (v .mem))) (λ _. cond-ind Still (ltb (entryOf v x) (length (v .mem))) (λ _. tt) (λ _. tt)) (λ _. tt)
 still (StopIf d) v e = cond-ind Still (eqb (regAt v d) noArrow) (λ _. tt) (λ _. tt)
 still (Keep d) v e = cond-ind Still (ltb (v .cell) (length (v .mem))) (λ _. tt) (λ _. tt)
@@ -142,6 +143,10 @@ module _ (lay : Layout) (rd : List ℕ) (s : State) where
   moves-room : (e : Effect) → Moves lay rd s e → Moves lay rd s (ifRoom (length (s .log) - 2 * s .pairs) e)
   moves-room e m = cond-ind (Moves lay rd s) (ltb (length (s .log) - 2 * s .pairs) 2) (λ _ f. absurd (f LogFull refl)) (λ _. m)
 
+  -- to a first command; where there is no landing it stops
+  moves-landing : (x v : ℕ) → v ≡ addressOf lay x → Moves lay rd s (ifLanding (seen lay rd s) v)
+  moves-landing x v e = cond-ind (Moves lay rd s) (landsAt (s .mem) (lay .base) (lay .landings) v) (λ _. jumps lay rd s true x v e) (λ _. moves-end Strayed (λ x. no (cc)))
+
   moves-event : (v : ℕ) → Moves lay rd s (effectOf (Event v) (seen lay rd s))
   unfolding effectOf applyOf
   moves-event v =
@@ -168,7 +173,8 @@ module _ (lay : Layout) (rd : List ℕ) (s : State) where
   mid-moves pol n g h k b i p (store2 at bk q e) = moves-at _ _ (moves-cell _ _)
   mid-moves pol n g h k b i p (gox1 at bk q e) = moves-put hidden _
   mid-moves pol n g h k b i p (gox2 at bk q e) = moves-put hidden _
-  mid-moves pol n g h k b i p (gox3 {d = d} {a = x} {b′ = y} {t = c} at bk q e) = jumps lay rd s (holdsOf c (getD (s .regs) x 0) (getD (s .regs) y 0)) (rOf g d % n) _ e
+  mid-moves pol n g h k b i p (gox3 {d = d} {a = x} {b′ = y} {t = c} at bk q e) =
+      cond-ind (Moves lay rd s) (holdsOf c (getD (s .regs) x 0) (getD (s .regs) y 0)) (λ _. moves-landing (rOf g d % n) _ e) (λ _. moves-on)
   mid-moves pol n g h k b i p (event1 at bk q e) = cond-ind (Moves lay rd s) (eqb (getD (s .regs) hidden 0) noArrow) (λ _. moves-end Stopped (λ x. no (cc))) (λ _. moves-on)
   mid-moves pol n g h k b i p (event2 at bk q e some) = moves-at _ _ (moves-cell (lay .cell) _)
   mid-moves pol n g h k b i p (event3 {e = x} at bk q some) = moves-event x
@@ -221,6 +227,7 @@ running Running = inl refl
 running Ended = inr (λ x. no (cc))
 running Stopped = inr (λ x. no (cc))
 running Faulted = inr (λ x. no (cc))
+running Strayed = inr (λ x. no (cc))
 
 -- ---- addresses, as numbers: one on from position p of bundle h
 goes-on : (base n h p pc to : ℕ) → base + bundleLength * n ≤ 2 ^ 32 → h < n → p < 3 → pc ≡ base + bundleLength * h + p → to ≡ onward pc → to ≡ base + bundleLength * h + suc p
@@ -244,12 +251,12 @@ more-left r p e = omega arith
 
 module _ (lay : Layout) (pol : Policy) (ws : List ℕ) (n : ℕ) (is : ℕ → Instr) (ok : Right lay pol n) (bs : Bundled lay ws n is) (past : List Pair) (u0 rd : List ℕ) (g0 : Guest) where
   sim-moves : (s : State) (g : Guest) (k b : ℕ) → s .status ≡ Running → Sim lay pol n is g k b s → Moves lay rd s (nextOf lay ws rd s)
-  sim-moves s g k b run (over f st h p lh lp pc q bk) = absurd (f (course-going (g .course) (sym st ∙ run)))
+  sim-moves s g k b run (over f st h p lh lp si pc q bk) = absurd (f (course-going (g .course) (sym st ∙ run)))
   sim-moves s g k b run (live gg st h p lh lp pc m) = rw (fetched lay pol ws n is ok bs s h p lh lp pc) (mid-moves lay rd s pol n g h k b (is h) p m)
 
   -- a first command, by its bundle
   sim-start : (s : State) (g : Guest) (k b : ℕ) → s .status ≡ Running → positionOf lay (s .pc) ≡ 0 → Sim lay pol n is g k b s → (h : ℕ) × (h < n) × (s .pc ≡ addressOf lay h + 0)
-  sim-start s g k b run z (over f st h p lh lp pc q bk) = absurd (f (course-going (g .course) (sym st ∙ run)))
+  sim-start s g k b run z (over f st h p lh lp si pc q bk) = absurd (f (course-going (g .course) (sym st ∙ run)))
   sim-start s g k b run z (live gg st h p lh lp pc m) = (h, lh, omega arith)
 
   room-on : (s : State) (h p : ℕ) → h < n → p < 3 → s .pc ≡ addressOf lay h + p → Room rd s → Room rd (stepOf lay ws rd s)

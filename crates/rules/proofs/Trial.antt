@@ -7,8 +7,9 @@ use native.Mathlib.Omega.{arith}
 use lib.Count.{ones, leadingZeros}
 use lib.ListN.{set, replicate}
 use lib.Seq.{getD-set-other}
-use Rattle.rules.specs.Layouts.{rightLayout, inBox, inTable, protected}
+use Rattle.rules.specs.Layouts.{rightLayout, inBox, inTable, inLandings, protected}
 use Rattle.rules.specs.Policies.{rightPolicy}
+use Rattle.rules.specs.Landings.{rightLandings, bitsFrom, landingsOf}
 use Rattle.rules.specs.Words.{instrOf, routine, bundlesFor}
 use Rattle.rules.specs.Commands.{isCommand, commandOf, wordOf, fetchOf, plainOf}
 use Rattle.rules.specs.Bundles.{shapeOf, bundleWord, rewritten, valid, readOff, bundleAt, isBundle, shapedAt, passesAt, checkFrom, checkAnswer}
@@ -29,7 +30,7 @@ unfolding ones leadingZeros rightLayout instrOf routine bundlesFor wordOf shapeO
 passed = refl
 
 served-with : (x : ℕ) → Served layout policy commands (memory x) (runs x)
-unfolding ones rightLayout rightPolicy installAnswer inBox inTable protected afterRun
+unfolding ones rightLayout rightPolicy rightLandings installAnswer inBox inTable inLandings protected afterRun
 served-with x =
     record {
       passed = passed;
@@ -38,17 +39,17 @@ served-with x =
     }
 
 installed-with : (x : ℕ) → installMemory layout policy (memory x) ≡ set (installMemory layout policy (memory 0)) 700 x
-unfolding ones rightLayout rightPolicy installAnswer installMemory
+unfolding ones rightLayout rightPolicy rightLandings bitsFrom landingsOf installAnswer installMemory
 installed-with x = refl
 
 alike-in : (x y : ℕ) → Matches layout (installMemory layout policy (memory x)) (installMemory layout policy (memory y))
-unfolding inBox inTable protected
+unfolding inBox inTable inLandings protected
 alike-in x y =
     let mem = installMemory layout policy (memory 0) in
     rw (installed-with x, installed-with y) (λ i s. free-set mem 700 x refl i s ∙ sym (free-set mem 700 y refl i s))
 
 given-alike : (x y : ℕ) → Each Alike (runs x) (runs y)
-unfolding ones leadingZeros rightLayout rightPolicy instrOf routine bundlesFor wordOf shapeOf bundleWord rewritten isCommand commandOf fetchOf plainOf installAnswer installMemory installMachine effectOf applyOf runFrom runOf runOn afterTaken afterRun
+unfolding ones leadingZeros rightLayout rightPolicy rightLandings bitsFrom landingsOf instrOf routine bundlesFor wordOf shapeOf bundleWord rewritten isCommand commandOf fetchOf plainOf installAnswer installMemory installMachine effectOf applyOf runFrom runOf runOn afterTaken afterRun
 given-alike x y = (
   record { readings = refl; budget = refl; log = refl; memory = refl },
   (
@@ -74,7 +75,7 @@ guest-with x =
     ap (λ (y : Guest). y .records) four
 
 pub sample-holds : SampleHolds
-unfolding ones leadingZeros rightLayout rightPolicy instrOf routine bundlesFor wordOf shapeOf bundleWord rewritten isCommand commandOf fetchOf plainOf installAnswer installMemory installMachine effectOf applyOf runFrom runOf begins begunFrom runOn afterTaken afterRun afterRuns runsOf
+unfolding ones leadingZeros rightLayout rightPolicy rightLandings bitsFrom landingsOf instrOf routine bundlesFor wordOf shapeOf bundleWord rewritten isCommand commandOf fetchOf plainOf installAnswer installMemory installMachine effectOf applyOf runFrom runOf begins begunFrom runOn afterTaken afterRun afterRuns runsOf
 sample-holds =
     record {
       served = served-with;

@@ -1,18 +1,18 @@
 -- Isolation (d): two lists of runs that are alike in all but free cells and what the logs held do the same, run by run.
 use mathlib.Core.Path.{_≡_, refl, sym, _∙_, ap, subst}
-use mathlib.Core.Bool.{Bool, true, false}
+use mathlib.Core.Bool.{Bool, true, false, _&&_}
 use mathlib.Core.Logic.{⊎-elim}
 use mathlib.Core.List.{List, [], _∷_}
-use Prim.Native.Nat.{ℕ, zero, suc, _+_, _*_, _<_}
+use Prim.Native.Nat.{ℕ, zero, suc, _+_, _-_, _*_, _/_, _%_, _<_}
 use native.Mathlib.Omega.{arith}
 use borrow.Author.Tests.{ltb-true, ltb-false, eqb-false, eqb-true}
-use lib.Dec.{eqb, ltb}
+use lib.Dec.{eqb, leb, ltb}
 use lib.ListN.{length, getD, set, length-set, List·getD-eq-default}
 use lib.Seq.{getD-set-same, getD-set-other, set-out}
 use Rattle.rules.specs.declared.Command.{Command}
 use Rattle.rules.specs.declared.Command.the-variants.{Nop, Halt, Plain, Load, Store, GoIf, GoReg, Look, StopIf, Keep, Event, Stray}
 use Rattle.rules.specs.declared.Status.{Status}
-use Rattle.rules.specs.declared.Status.the-variants.{Running, Ended, Stopped, Faulted}
+use Rattle.rules.specs.declared.Status.the-variants.{Running, Ended, Stopped, Faulted, Strayed}
 use Rattle.rules.specs.declared.Ending.{Ending}
 use Rattle.rules.specs.declared.Effect.{Effect}
 use Rattle.rules.specs.declared.Effect.the-variants.{Go, Put, Cell, Order, Probe, End, Wait}
@@ -21,20 +21,22 @@ use Rattle.rules.specs.declared.Outcome.{Outcome}
 use Rattle.rules.specs.declared.Layout.{Layout}
 use Rattle.rules.specs.declared.Instr.{Instr}
 use Rattle.rules.specs.declared.Instr.the-variants.{HALT, PLAIN, LOAD, STORE, GOIF, GOX, EVENT}
-use Rattle.rules.specs.Names.{events, hidden}
+use Rattle.rules.specs.Names.{mostBundles, bundleLength, cellBits, events, hidden}
 use Rattle.rules.specs.Layouts.{inBox, rightLayout}
 use Rattle.rules.specs.Policies.{Policy}
+use Rattle.rules.specs.Landings.{marked}
 use Rattle.rules.specs.Commands.{fetchOf}
-use Rattle.rules.specs.Machines.{viewOf, effectOf, State, stateOf, withPair, applyOf, seen, nextOf, stepOf, endingOf, Ran, endedIn, unlessOver, unlessWait, fits, startOf, runFrom, runOf, installMemory}
+use Rattle.rules.specs.Machines.{viewOf, landsAt, effectOf, State, stateOf, withPair, applyOf, seen, nextOf, stepOf, endingOf, Ran, endedIn, unlessOver, unlessWait, fits, startOf, runFrom, runOf, installMemory}
 use Rattle.rules.specs.Bundles.{shapeOf}
 use Rattle.rules.specs.Guests.{Pair, Guest, rOf, guestStart}
 use Rattle.rules.specs.Runs.{Given, pairsOf, Carried, carriedOf, atFirst, runOn, afterTaken, begins, afterRun, runsOf, Matches, Lent, Lends, Served}
 use Rattle.rules.specs.Claims.{Each, Alike, Same}
 use Rattle.rules.proofs.Bools.{no, cases, both}
+use Rattle.rules.proofs.Landings.{marked-same}
 use Rattle.rules.proofs.Facts.{Right, Valid, Bundled, Laid}
 use Rattle.rules.proofs.Conditions.{machine-of}
 use Rattle.rules.proofs.Sim.{Mid, start, rest, load1, load2, store1, store2, gox1, gox2, gox3, event1, event2, event3, Sim, over, live, Known, Stays}
-use Rattle.rules.proofs.Track.{course-going, lent-box, lent-cell, lent-table, tracks, step-known, enter, stays-run, install}
+use Rattle.rules.proofs.Track.{course-going, lent-box, lent-cell, lent-table, lent-landing, tracks, step-known, enter, stays-run, install}
 
 -- ---- two states with the same machine and counts, alike in what is seen of memory and in the pairs logged
 abbrev besides : State → List ℕ → List ℕ → State
@@ -118,7 +120,22 @@ Safe lay (Keep d) regs mem = Unit {0}
 Safe lay (Event v) regs mem = Unit {0}
 Safe lay Stray regs mem = Unit {0}
 
-effect-alike : (lay : Layout) (c : Command) (regs mem mem′ : List ℕ) (pc free left : ℕ) → length mem ≡ length mem′ → Matches lay mem mem′ → Safe lay c regs mem → effectOf c (viewOf regs pc mem′ (lay .cell) (lay .table) free left) ≡ effectOf c (viewOf regs pc mem (lay .cell) (lay .table) free left)
+-- a landing is looked up in the landing cells alone
+lands-alike : (lay : Layout) (mem mem′ : List ℕ) (to : ℕ) → Matches lay mem mem′ → landsAt mem′ (lay .base) (lay .landings) to ≡ landsAt mem (lay .base) (lay .landings) to
+unfolding landsAt
+lands-alike lay mem mem′ to m = by (leb (lay .base) to && eqb ((to - lay .base) % bundleLength) 0) _ refl
+  where
+    j : ℕ
+    j = (to - lay .base) / bundleLength
+
+    by : (p t : Bool) → ltb j mostBundles ≡ t → (p && t && marked mem′ (lay .landings) j) ≡ (p && t && marked mem (lay .landings) j)
+    by true true e =
+        let l = ltb-true j mostBundles e in
+        marked-same mem′ mem (lay .landings) j (sym (m (lay .landings + j / cellBits) (lent-landing lay (j / cellBits) (omega arith))))
+    by true false e = refl
+    by false t e = refl
+
+effect-alike : (lay : Layout) (c : Command) (regs mem mem′ : List ℕ) (pc free left : ℕ) → length mem ≡ length mem′ → Matches lay mem mem′ → Safe lay c regs mem → effectOf c (viewOf regs pc mem′ (lay .cell) (lay .table) (lay .base) (lay .landings) free left) ≡ effectOf c (viewOf regs pc mem (lay .cell) (lay .table) (lay .base) (lay .landings) free left)
 unfolding effectOf
 effect-alike lay Nop regs mem mem′ pc free left n m f = refl
 effect-alike lay Halt regs mem mem′ pc free left n m f = refl
@@ -126,7 +143,7 @@ effect-alike lay (Plain k d a b v) regs mem mem′ pc free left n m f = refl
 effect-alike lay (Load d a) regs mem mem′ pc free left n m f = rw (← n, ← m (getD regs a 0) (lent-box lay _ f))
 effect-alike lay (Store a b) regs mem mem′ pc free left n m f = rw (← n)
 effect-alike lay (GoIf a b c v) regs mem mem′ pc free left n m f = refl
-effect-alike lay (GoReg d a b c) regs mem mem′ pc free left n m f = refl
+effect-alike lay (GoReg d a b c) regs mem mem′ pc free left n m f = rw (lands-alike lay mem mem′ (getD regs d 0) m)
 effect-alike lay (Look d v) regs mem mem′ pc free left n m f =
     let q = getD mem (lay .cell) 0 in
     let z : lay .table + (events * q + v) ≡ lay .table + events * q + v = omega arith in
@@ -163,6 +180,7 @@ over-alike lay Running x x′ y y′ p q = q refl
 over-alike lay Ended x x′ y y′ p q = p
 over-alike lay Stopped x x′ y y′ p q = p
 over-alike lay Faulted x x′ y y′ p q = p
+over-alike lay Strayed x x′ y y′ p q = p
 
 wait-alike : (lay : Layout) (e : Effect) (x x′ : Ending → Ran) (y y′ : Ran) → ((d : Ending) → RanAlike lay (x d) (x′ d)) → (((d : Ending) → e ≡ Wait d → ⊥) → RanAlike lay y y′) → RanAlike lay (unlessWait e x y) (unlessWait e x′ y′)
 wait-alike lay (Wait d) x x′ y y′ p q = p d
@@ -280,7 +298,7 @@ mid-safe lay pol n regs mem g h k b i p ok v l (event2 at bk q e some) = tt
 mid-safe lay pol n regs mem g h k b i p ok v l (event3 at bk q some) = tt
 
 sim-safe : (lay : Layout) (pol : Policy) (ws : List ℕ) (n : ℕ) (is : ℕ → Instr) (s : State) (g : Guest) (k b : ℕ) → Right lay pol n → Bundled lay ws n is → g .state < lay .states → s .status ≡ Running → Sim lay pol n is g k b s → Safe lay (fetchOf ws (lay .base) (s .pc)) (s .regs) (s .mem)
-sim-safe lay pol ws n is s g k b ok bs l run (over f st h p lh lp pc q bk) = absurd (f (course-going (g .course) (sym st ∙ run)))
+sim-safe lay pol ws n is s g k b ok bs l run (over f st h p lh lp si pc q bk) = absurd (f (course-going (g .course) (sym st ∙ run)))
 sim-safe lay pol ws n is s g k b ok bs l run (live gg st h p lh lp pc m) =
     let e : fetchOf ws (lay .base) (s .pc) ≡ shapeOf lay n (is h) p = ap (fetchOf ws (lay .base)) pc ∙ bs .each h p lh lp in
     rw e (mid-safe lay pol n (s .regs) (s .mem) g h k b (is h) p ok (bs .valid h lh) l m)

@@ -9,18 +9,19 @@ use lib.Count.{ones}
 use Rattle.rules.specs.declared.Layout.{Layout}
 use Rattle.rules.specs.declared.Machine.{Machine}
 use Rattle.rules.specs.declared.Status.{Status}
-use Rattle.rules.specs.declared.Status.the-variants.{Running, Ended, Stopped, Faulted}
+use Rattle.rules.specs.declared.Status.the-variants.{Running, Ended, Stopped, Faulted, Strayed}
 use Rattle.rules.specs.declared.Ending.{Ending}
-use Rattle.rules.specs.declared.Ending.the-variants.{Done, NoArrow, Fault, LogFull, Silent, Spent, Refused}
-use Rattle.rules.specs.Names.{mostInstructions, mostBundles, bundleLength, bundleShift, guestRegisters, answer, endingNumber}
+use Rattle.rules.specs.declared.Ending.the-variants.{Done, NoArrow, Fault, LogFull, Silent, Spent, NoLanding, Refused}
+use Rattle.rules.specs.Names.{mostInstructions, mostBundles, bundleLength, bundleShift, landingCells, cellBits, guestRegisters, answer, endingNumber}
 use Rattle.rules.specs.Layouts.{span, rightLayout, widthOf, maskOf, inBox}
 use Rattle.rules.specs.Policies.{Policy, allowed, stateOver}
+use Rattle.rules.specs.Landings.{listed, landingsOf, bitAt}
 use Rattle.rules.specs.Words.{routine, bundlesFor}
 use Rattle.rules.specs.Bytes.{readAnswer, readOutput, writeAnswer, writeOutput}
 use Rattle.rules.specs.Commands.{shlOf, fetchOf}
 use Rattle.rules.specs.Bundles.{addressOf, lastAddress, positionOf, shapeOf, bundleAt, baseRight, commandsOf, rewriteAnswer, rewriteOutput, checkAnswer}
 use Rattle.rules.specs.Machines.{State, onward, leftIn, runFrom, runOf, installMemory}
-use Rattle.rules.specs.Guests.{Course, going, ended, stopped, Guest, guestAfter, guestStart, boxOf}
+use Rattle.rules.specs.Guests.{Course, going, ended, stopped, strayed, Guest, guestAfter, guestStart, boxOf}
 use Rattle.rules.specs.Runs.{begunFrom, Given, Carried, afterRun, allRuns, after, Run, recordedIn, Matches, Lent, Served, pairsOf, eventsOf, pendingAt}
 
 -- ---- masks and sizes
@@ -35,6 +36,10 @@ pub record MaskLaws (lay : Layout) : Type 0 where
 
 abbrev pub Masks : Type 0
 Masks = (lay : Layout) → rightLayout lay ≡ true → MaskLaws lay
+
+-- 'instruction 32k + j in bit j of cell Q + k': exactly those bits of the 32 cells are set
+abbrev pub Landings : Type 0
+Landings = (ls : List ℕ) (k j : ℕ) → k < landingCells → j < cellBits → bitAt (getD (landingsOf ls) k 0) j ≡ listed ls (cellBits * k + j)
 
 -- 'N is the smallest power of two greater than n', and at most 1,024
 pub record SizeLaws (n : ℕ) : Type 0 where
@@ -105,9 +110,10 @@ statusAfter Fault = Faulted
 statusAfter LogFull = Running
 statusAfter Silent = Running
 statusAfter Spent = Running
+statusAfter NoLanding = Strayed
 statusAfter Refused = Running
 
--- a run that is not refused answers 20, 21 or 22 exactly where its record has ended, stopped or faulted
+-- a run that is not refused answers 20, 21, 22 or 26 exactly where its record has ended, stopped, faulted or strayed
 abbrev pub Endings : Type 0
 Endings =
     (lay : Layout) (ws : List ℕ) (m : Machine) (mem : List ℕ) (budget : ℕ) (reads log : List ℕ) →
@@ -144,13 +150,14 @@ abbrev pub statusOf : Course → Status
 statusOf going = Running
 statusOf ended = Ended
 statusOf stopped = Stopped
+statusOf strayed = Strayed
 
 -- on the first command of a bundle, or no longer running
 abbrev pub Stands : Layout → Machine → Type 0
 Stands lay m = (positionOf lay (m .pc) ≡ 0) ⊎ (m .status ≡ Running → ⊥)
 
 -- 'on ending, r0 to r7, sandbox, state cell, records and readings used'; and on the instruction to come.
--- The ending is the record's status: by Endings a run answers 20 or 21 exactly where it has ended or stopped
+-- The ending is the record's status: by Endings a run answers 20, 21 or 26 exactly where it has ended, stopped or strayed
 pub record Agrees (lay : Layout) (g : Guest) (c : Carried) : Type 0 where
   pub ending : c .machine .status ≡ statusOf (g .course)
   pub regs : take guestRegisters (c .machine .regs) ≡ g .regs

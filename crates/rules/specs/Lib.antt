@@ -2,6 +2,7 @@ pub mod Names
 pub mod Signed
 pub mod Layouts
 pub mod Policies
+pub mod Landings
 pub mod Words
 pub mod Bytes
 pub mod Commands

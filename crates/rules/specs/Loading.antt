@@ -10,7 +10,7 @@ use Rattle.rules.specs.declared.Answer.{Answer}
 use Rattle.rules.specs.declared.RunAnswer.{RunAnswer}
 use Rattle.rules.specs.declared.Installed.{Installed}
 use Rattle.rules.specs.declared.Status.{Status}
-use Rattle.rules.specs.declared.Status.the-variants.{Running, Ended, Stopped, Faulted}
+use Rattle.rules.specs.declared.Status.the-variants.{Running, Ended, Stopped, Faulted, Strayed}
 use Rattle.rules.specs.Names.{mostInstructions, registers, answer, ifTaken, orElse, outputOf, endingNumber, first}
 use Rattle.rules.specs.Layouts.{layoutOf}
 use Rattle.rules.specs.Policies.{Policy}
@@ -43,19 +43,20 @@ loadOf lay pol s room mem = record { machine = loadMachine lay pol s room mem; a
 
 -- ---- the numbers of a C host
 
--- a layout as U, SL, SH, M, P, S, B
+-- a layout as U, SL, SH, M, P, S, B, Q
 unfoldable pub layoutFrom : List ℕ → Layout
-layoutFrom xs = layoutOf (getD xs 0 0) (getD xs 1 0) (getD xs 2 0) (getD xs 3 0) (getD xs 4 0) (getD xs 5 0) (getD xs 6 0)
+layoutFrom xs = layoutOf (getD xs 0 0) (getD xs 1 0) (getD xs 2 0) (getD xs 3 0) (getD xs 4 0) (getD xs 5 0) (getD xs 6 0) (getD xs 7 0)
 
--- 0 running, 1 ended, 2 stopped, 3 faulted; any other number counts as faulted
+-- 0 running, 1 ended, 2 stopped, 3 faulted, 4 strayed; any other number counts as faulted
 abbrev pub statusFrom : ℕ → Status
-statusFrom x = first ((eqb x 0, Running) ∷ (eqb x 1, Ended) ∷ (eqb x 2, Stopped) ∷ []) Faulted
+statusFrom x = first ((eqb x 0, Running) ∷ (eqb x 1, Ended) ∷ (eqb x 2, Stopped) ∷ (eqb x 4, Strayed) ∷ []) Faulted
 
 abbrev pub statusNumber : Status → ℕ
 statusNumber Running = 0
 statusNumber Ended = 1
 statusNumber Stopped = 2
 statusNumber Faulted = 3
+statusNumber Strayed = 4
 
 -- a record as its registers, pc and status
 abbrev pub machineFrom : List ℕ → Machine

@@ -5,9 +5,9 @@ use mathlib.Core.List.{List, [], _∷_, _++_}
 use lib.ListN.{length, drop}
 use lib.Dec.{eqb, ltb}
 use Rattle.rules.specs.declared.Refusal.{Refusal}
-use Rattle.rules.specs.declared.Refusal.the-variants.{Taken, Short, Foreign, UnknownKind, OffRange, Oversize, Trailing, BadLayout, BadLanding, SmallOutput, BadPolicy, BadBundle, BadCount, BadBase}
+use Rattle.rules.specs.declared.Refusal.the-variants.{Taken, Short, Foreign, UnknownKind, OffRange, Oversize, Trailing, BadLayout, BadLanding, SmallOutput, BadPolicy, BadBundle, BadCount, BadBase, BadLandings}
 use Rattle.rules.specs.declared.Ending.{Ending}
-use Rattle.rules.specs.declared.Ending.the-variants.{Done, NoArrow, Fault, LogFull, Silent, Spent, Refused}
+use Rattle.rules.specs.declared.Ending.the-variants.{Done, NoArrow, Fault, LogFull, Silent, Spent, NoLanding, Refused}
 use Rattle.rules.specs.declared.Answer.{Answer}
 
 -- U is from 1 to 4,096, S from 1 to 16, B has 32 bits
@@ -42,6 +42,13 @@ bundleLength = 4
 
 abbrev pub mostCommands : ℕ
 mostCommands = bundleLength * mostBundles
+
+-- a landing is an instruction from 0 to 1,023; 32 cells hold a bit for each
+abbrev pub landingCells : ℕ
+landingCells = 32
+
+abbrev pub cellBits : ℕ
+cellBits = 32
 
 -- a bundle number shifted by it is times 4: 4 is 2 ^ 2
 abbrev pub bundleShift : ℕ
@@ -99,6 +106,7 @@ numberOf BadPolicy = 10  -- bad policy
 numberOf BadBundle = 11  -- bad bundle
 numberOf BadCount = 12  -- bad count
 numberOf BadBase = 13  -- bad base
+numberOf BadLandings = 14  -- bad landing list
 
 -- the table of endings, with its words; a refused run answers 7
 abbrev pub endingNumber : Ending → ℕ
@@ -108,6 +116,7 @@ endingNumber Fault = 22  -- fault
 endingNumber LogFull = 23  -- log full
 endingNumber Silent = 24  -- probe silent
 endingNumber Spent = 25  -- spent
+endingNumber NoLanding = 26  -- no landing
 endingNumber Refused = numberOf BadLayout
 
 -- a number with its place

@@ -7,14 +7,15 @@ use lib.Dec.{eqb, leb, ltb}
 use Rattle.rules.specs.declared.Layout.{Layout}
 use Rattle.rules.specs.Names.{mostStates, events, noArrow}
 
--- the state count, the start state and the table
+-- what is installed: the state count, the start state and the table of a policy, and the list of landings
 pub record Policy : Type 0 where
   pub states : ℕ
   pub start : ℕ
   pub table : List ℕ
+  pub landings : List ℕ
 
-abbrev pub policyOf : ℕ → ℕ → List ℕ → Policy
-policyOf s q t = record { states = s; start = q; table = t }
+abbrev pub policyOf : ℕ → ℕ → List ℕ → List ℕ → Policy
+policyOf s q t ls = record { states = s; start = q; table = t; landings = ls }
 
 -- the state after event n in state s, or 255: 'byte 16 × s + n'; no entry is no arrow
 abbrev pub arrow : Policy → ℕ → ℕ → ℕ

@@ -17,11 +17,11 @@ use Rattle.rules.specs.Runs.{Given, atFirst, afterRun, Run, recordedIn, 
 use Rattle.rules.specs.Claims.{Each, Alike, Same}
 
 abbrev pub layout : Layout
-layout = layoutOf 1024 256 511 0 16 2 4096
+layout = layoutOf 1024 256 511 0 16 2 4096 64
 
--- the door's event 2 goes to state 1, which has no arrow for event 0, gas
+-- the door's event 2 goes to state 1, which has no arrow for event 0, gas; instructions 3 and 40 are landings
 abbrev pub policy : Policy
-policy = policyOf 2 0 (0 ∷ 0 ∷ 1 ∷ replicate 13 0 ++ 255 ∷ replicate 15 1)
+policy = policyOf 2 0 (0 ∷ 0 ∷ 1 ∷ replicate 13 0 ++ 255 ∷ replicate 15 1) (3 ∷ 40 ∷ [])
 
 -- SET r0, 70; EVENT 0; EVENT 2; EVENT 0
 abbrev pub code : List ℕ

@@ -7,21 +7,23 @@ use lib.ListN.{length, set, replicate}
 use lib.Dec.{eqb}
 use Rattle.rules.specs.declared.Layout.{Layout}
 use Rattle.rules.specs.declared.Answer.{Answer}
+use Rattle.rules.specs.declared.Outcome.{Outcome}
 use Rattle.rules.specs.declared.Status.the-variants.{Running}
-use Rattle.rules.specs.Names.{mostInstructions, bundleLength, registers}
+use Rattle.rules.specs.Names.{mostInstructions, bundleLength, registers, events, endingNumber}
 use Rattle.rules.specs.Layouts.{layoutOf, rightLayout, maskOf}
+use Rattle.rules.specs.Policies.{policyOf}
 use Rattle.rules.specs.Words.{packOf, bundlesFor}
 use Rattle.rules.specs.Bytes.{readAnswer, writeOutput}
 use Rattle.rules.specs.Commands.{plainOf, holdsOf}
 use Rattle.rules.specs.Bundles.{rewriteAnswer, checkAnswer, commandsOf}
-use Rattle.rules.specs.Machines.{machineOf, runOf}
+use Rattle.rules.specs.Machines.{machineOf, installMemory, runOf}
 
 pub data Row : Type 0 where
   masks : (sl sh e r : ℕ) → Row  -- address e masks to r
   rightness : (l : Layout) (r : Bool) → Row  -- whether the layout is right
   checks : (l : Layout) (ws : List ℕ) (r place : ℕ) → Row  -- checking's number and place
   rewrites : (l : Layout) (ws : List ℕ) (room r place : ℕ) → Row  -- rewriting's number and place
-  reaches : (l : Layout) (x r : ℕ) → Row  -- pc after the four commands of GOX r0 in a routine of seven instructions, with x in r0
+  reaches : (l : Layout) (x e r : ℕ) → Row  -- ending and pc after the four commands of GOX r0 in a routine of seven instructions, with x in r0 and landing 3
   computes : (k x v r : ℕ) → Row  -- what a plain command puts into rd
   holds : (c x y : ℕ) (r : Bool) → Row  -- condition c
   writes : (w : ℕ) (bytes : List ℕ) → Row  -- what writing a word leaves after its count
@@ -37,24 +39,26 @@ sameList (x ∷ xs) (y ∷ ys) = eqb x y && sameList xs ys
 abbrev pub answersAs : Answer → ℕ → ℕ → Bool
 answersAs a r place = eqb (a .number) r && eqb (a .place) place
 
--- U 64, SL 8, SH 15, M 0, P 16, S 1 and a base
+-- U 64, SL 8, SH 15, M 0, P 16, S 1, Q 32 and a base
 abbrev pub smallLayout : ℕ → Layout
-smallLayout b = layoutOf 64 8 15 0 16 1 b
+smallLayout b = layoutOf 64 8 15 0 16 1 b 32
 
 -- GOX r0, always; then HALTs to seven instructions
 abbrev pub goxRoutine : List ℕ
 goxRoutine = packOf 11 0 0 0 0 0 ∷ replicate 6 0
 
-abbrev pub reached : Layout → ℕ → ℕ
+-- on the memory that installing leaves, with landing 3 alone
+abbrev pub reached : Layout → ℕ → Outcome
 reached l x =
-    runOf l (commandsOf l goxRoutine) (machineOf (set (replicate registers 0) 0 x) (l .base) Running) (replicate (l .size) 0) bundleLength [] [] .outcome .machine .pc
+    runOf l (commandsOf l goxRoutine) (machineOf (set (replicate registers 0) 0 x) (l .base) Running)
+    (installMemory l (policyOf 1 0 (replicate events 0) (3 ∷ [])) (replicate (l .size) 0)) bundleLength [] [] .outcome
 
 abbrev pub rowHolds : Row → Bool
 rowHolds (masks sl sh e r) = eqb (maskOf sl sh e) r
 rowHolds (rightness l r) = Bool·beq (rightLayout l) r
 rowHolds (checks l ws r place) = answersAs (checkAnswer l ws) r place
 rowHolds (rewrites l ws room r place) = answersAs (rewriteAnswer l ws room) r place
-rowHolds (reaches l x r) = eqb (reached l x) r
+rowHolds (reaches l x e r) = eqb (endingNumber (reached l x .answer .ending)) e && eqb (reached l x .machine .pc) r
 rowHolds (computes k x v r) = eqb (plainOf k x 0 v) r
 rowHolds (holds c x y r) = Bool·beq (holdsOf c x y) r
 rowHolds (writes w bytes) = sameList (writeOutput (w ∷ []) (replicate (2 + length bytes) 0)) (1 ∷ 0 ∷ bytes)
@@ -72,14 +76,15 @@ rows =
     ∷ masks 256 511 768 256
     ∷ masks 256 511 4294967295 511
     ∷ masks 7 7 0 7
-    ∷ checks (layoutOf 64 6 9 0 16 1 0) (1 ∷ 0 ∷ 0 ∷ 0 ∷ []) 7 0
+    ∷ checks (layoutOf 64 6 9 0 16 1 0 32) (1 ∷ 0 ∷ 0 ∷ 0 ∷ []) 7 0
     ∷ masks 6 9 9 15
     ∷ rightness (smallLayout 0) true
     ∷ checks (smallLayout 0) (1 ∷ 0 ∷ 0 ∷ 0 ∷ []) 0 0
-    ∷ rightness (layoutOf 64 8 13 0 16 1 0) false
-    ∷ reaches (smallLayout 32) 3 44
-    ∷ reaches (smallLayout 32) 11 44
-    ∷ reaches (smallLayout 32) 0x40000003 44
+    ∷ rightness (layoutOf 64 8 13 0 16 1 0 32) false
+    ∷ reaches (smallLayout 32) 3 25 44
+    ∷ reaches (smallLayout 32) 11 25 44
+    ∷ reaches (smallLayout 32) 0x40000003 25 44
+    ∷ reaches (smallLayout 32) 4 26 35
     ∷ rewrites (smallLayout 16) goxRoutine 32 13 0
     ∷ checks (smallLayout 16) (commandsOf (smallLayout 32) goxRoutine) 13 0
     ∷ computes 8 (2 ^ 32 - 7) 1 (2 ^ 32 - 4)

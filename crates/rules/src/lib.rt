@@ -3,7 +3,7 @@ ghost use mathlib.Core.Path.{_≡_};
 ghost use Rattle.rules.specs.Layouts.{layoutOf};
 ghost use Rattle.rules.specs.Machines.{machineAt, machineRefused};
 
-// The layout of one drum's memory: U, SL, SH, M, P, S and B of document 01.
+// The layout of one drum's memory: U, SL, SH, M, P, S, B and Q of document 01.
 pub struct Layout {
     pub size: u32,
     pub low: u32,
@@ -12,12 +12,17 @@ pub struct Layout {
     pub table: u32,
     pub states: u32,
     pub base: u32,
+    pub landings: u32,
 }
 
 impl Layout {
     pub const MOST_CELLS: u32 = 4096;
 
     pub const MOST_STATES: u32 = 16;
+    // The cells that hold a bit for each landing, and the bits of one.
+    pub const LANDING_CELLS: u32 = 32;
+
+    pub const CELL_BITS: u32 = 32;
 
     pub fn new(
         size: u32,
@@ -27,8 +32,9 @@ impl Layout {
         table: u32,
         states: u32,
         base: u32,
+        landings: u32,
     ) -> Layout
-        ensures { λ r. ⌜ r ≡ layoutOf size low high cell table states base ⌝ }
+        ensures { λ r. ⌜ r ≡ layoutOf size low high cell table states base landings ⌝ }
     {
         Layout {
             size,
@@ -38,6 +44,7 @@ impl Layout {
             table,
             states,
             base,
+            landings,
         }
     }
 }
@@ -125,6 +132,7 @@ pub enum Status {
     Ended,
     Stopped,
     Faulted,
+    Strayed,
 }
 
 // The machine's record.
@@ -179,6 +187,7 @@ pub enum Refusal {
     BadBundle,
     BadCount,
     BadBase,
+    BadLandings,
 }
 
 impl Refusal {
@@ -209,6 +218,8 @@ impl Refusal {
     pub const BAD_COUNT: u8 = 12;
 
     pub const BAD_BASE: u8 = 13;
+
+    pub const BAD_LANDINGS: u8 = 14;
 }
 
 // A refusal's number, or 0, and its place, or what was written.
@@ -231,6 +242,7 @@ pub enum Ending {
     LogFull,
     Silent,
     Spent,
+    NoLanding,
     Refused,
 }
 

@@ -99,13 +99,14 @@ pub fn load(
     layout: Layout,
     policy: Policy,
     table: &[u8],
+    landings: &[u32],
     bytes: &[u8],
     commands: &mut [u64],
     memory: &mut [u32],
 ) -> Installed
-    ensures answer { λ r. ⌜ r ≡ loadOf layout (policyOf (policy .states) (policy .start) (now (table .entry))) (now (bytes .entry)) (length (now (commands .entry))) (now (memory .entry)) ⌝ }
-    ensures commands { λ _. ⌜ now (commands .exit) ≡ loadCommands layout (policyOf (policy .states) (policy .start) (now (table .entry))) (now (bytes .entry)) (now (commands .entry)) (now (memory .entry)) ⌝ }
-    ensures memory { λ _. ⌜ now (memory .exit) ≡ loadMemory layout (policyOf (policy .states) (policy .start) (now (table .entry))) (now (bytes .entry)) (length (now (commands .entry))) (now (memory .entry)) ⌝ }
+    ensures answer { λ r. ⌜ r ≡ loadOf layout (policyOf (policy .states) (policy .start) (now (table .entry)) (now (landings .entry))) (now (bytes .entry)) (length (now (commands .entry))) (now (memory .entry)) ⌝ }
+    ensures commands { λ _. ⌜ now (commands .exit) ≡ loadCommands layout (policyOf (policy .states) (policy .start) (now (table .entry)) (now (landings .entry))) (now (bytes .entry)) (now (commands .entry)) (now (memory .entry)) ⌝ }
+    ensures memory { λ _. ⌜ now (memory .exit) ≡ loadMemory layout (policyOf (policy .states) (policy .start) (now (table .entry)) (now (landings .entry))) (now (bytes .entry)) (length (now (commands .entry))) (now (memory .entry)) ⌝ }
     ensures within { λ r. ⌜ (r .answer .number ≡ 0 → r .answer .place ≤ length (now (commands .exit))) ⌝ }
 {
     let mut list = [0u64; 4096];
@@ -117,7 +118,7 @@ pub fn load(
             answer: a,
         };
     }
-    let i = installer::install(layout, policy, table, memory);
+    let i = installer::install(layout, policy, table, landings, memory);
     let b = i.answer;
     let unfit = b.number;
     if unfit != Refusal::TAKEN {
@@ -143,6 +144,7 @@ pub fn ending_number(e: Ending) -> u32
         Ending::LogFull => 23,
         Ending::Silent => 24,
         Ending::Spent => 25,
+        Ending::NoLanding => 26,
         Ending::Refused => Refusal::BAD_LAYOUT as u32,
     }
 }

@@ -105,7 +105,7 @@ fn rewrites_to_7(name: &[u8], layout: Layout, words: &[u64]) {
 }
 
 fn drum(base: u32) -> Layout {
-    Layout::new(1024, 256, 511, 0, 16, 2, base)
+    Layout::new(1024, 256, 511, 0, 16, 2, base, 64)
 }
 
 fn bad_words(layout: Layout) {
@@ -132,7 +132,7 @@ fn lists(layout: Layout) {
 fn layouts() {
     rewrites(
         b"rewrite sandbox_6_to_9",
-        Layout::new(64, 6, 9, 0, 16, 1, 0),
+        Layout::new(64, 6, 9, 0, 16, 1, 0, 32),
         &[0xd],
     );
     rewrites(b"rewrite base_16_of_7", drum(16), &[0, 0, 0, 0, 0, 0, 0]);

@@ -55,8 +55,19 @@ fn run(layout: Layout, commands: &[u64], start: Machine, memory: &mut [u32; 1024
     print_end(sandbox::ending_number(e), a.steps, memory[0]);
 }
 
+// Landings 0 to 1,023.
+fn all_landings() -> [u32; 1024] {
+    let mut xs = [0u32; 1024];
+    let mut i: usize = 0;
+    while i < 1024 {
+        xs[i] = i as u32;
+        i += 1;
+    }
+    xs
+}
+
 fn try_routine(bytes: &[u8]) {
-    let layout = Layout::new(1024, 256, 511, 0, 16, 2, 4096);
+    let layout = Layout::new(1024, 256, 511, 0, 16, 2, 4096, 64);
     // State 0 stays but for event 2, the door; in state 1 event 0, gas, has no arrow.
     let table = [
         0u8,
@@ -96,9 +107,18 @@ fn try_routine(bytes: &[u8]) {
         states: 2,
         start: 0,
     };
+    let landings = all_landings();
     let mut commands = [0u64; 4096];
     let mut memory = [0u32; 1024];
-    let i = sandbox::load(layout, policy, &table, bytes, &mut commands, &mut memory);
+    let i = sandbox::load(
+        layout,
+        policy,
+        &table,
+        &landings,
+        bytes,
+        &mut commands,
+        &mut memory,
+    );
     let a = i.answer;
     let refused = a.number;
     print_answer(refused);

@@ -9,4 +9,5 @@ status-of-spec =
     (λ c. rw (c .match .keys1))
     (λ c. rw (c .match .keys2))
     (λ c. rw (c .match .keys3))
+    (λ c. rw (c .match .keys4))
     (λ c. search ne-eqb))

@@ -22,8 +22,8 @@ refused-requires c κs = search needs
 returns : tie.Need-returns
 returns c =
     let t = c .before .before .before in
-    let x = t .before .before .before .before .before .before .args in
-    not-translated (x .layout) (policyOf (x .policy .states) (x .policy .start) (x .table .now)) (x .bytes .now) (x .commands .now) (x .memory .now) _ (t .translate .ensures .0) (c .before .if1 .taken) _ (c .refused .ensures)
+    let x = t .before .before .before .before .before .before .before .args in
+    not-translated (x .layout) (policyOf (x .policy .states) (x .policy .start) (x .table .now) (x .landings .now)) (x .bytes .now) (x .commands .now) (x .memory .now) _ (t .translate .ensures .0) (c .before .if1 .taken) _ (c .refused .ensures)
 
 install-requires : tie.Need-install-requires
 install-requires c κs = search needs
@@ -35,11 +35,11 @@ returns-2 : tie.Need-returns-2
 returns-2 c =
     let i = c .before .before .before .before in
     let t = i .before .before .before .before in
-    let x = t .before .before .before .before .before .before .args in
-    not-installed (x .layout) (policyOf (x .policy .states) (x .policy .start) (x .table .now)) (x .bytes .now) (x .commands .now) (x .memory .now) _ (t .translate .ensures .0) (i .before .before .if1 .left) _ (i .install .ensures .0) _ (i .install .ensures .1) (c .if2 .taken)
+    let x = t .before .before .before .before .before .before .before .args in
+    not-installed (x .layout) (policyOf (x .policy .states) (x .policy .start) (x .table .now) (x .landings .now)) (x .bytes .now) (x .commands .now) (x .memory .now) _ (t .translate .ensures .0) (i .before .before .if1 .left) _ (i .install .ensures .0) _ (i .install .ensures .1) (c .if2 .taken)
 
 -- what translating left, once installing answered
-listed : (c : tie.After-install) → let t = c .before .before .before .before in let x = t .before .before .before .before .before .before .args in Listed (x .layout) (x .bytes .now) (length (x .commands .now)) (t .translate .last .1 .1 .1 .0) (t .translate .result)
+listed : (c : tie.After-install) → let t = c .before .before .before .before in let x = t .before .before .before .before .before .before .before .args in Listed (x .layout) (x .bytes .now) (length (x .commands .now)) (t .translate .last .1 .1 .1 .0) (t .translate .result)
 listed c =
     let t = c .before .before .before .before in
     t .translate .ensures .1 (c .before .before .if1 .left)
@@ -67,8 +67,8 @@ returns-3 c =
     let n = w .before .before .before in
     let i = n .before .before .before .before in
     let t = i .before .before .before .before in
-    let x = t .before .before .before .before .before .before .args in
-    loaded (x .layout) (policyOf (x .policy .states) (x .policy .start) (x .table .now)) (x .bytes .now) (x .commands .now) (x .memory .now) _ (t .translate .ensures .0) (i .before .before .if1 .left) _ (i .install .ensures .0) _ (i .install .ensures .1) (n .if2 .left) _ (t .translate .ensures .1) _ (w .copy .ensures)
+    let x = t .before .before .before .before .before .before .before .args in
+    loaded (x .layout) (policyOf (x .policy .states) (x .policy .start) (x .table .now) (x .landings .now)) (x .bytes .now) (x .commands .now) (x .memory .now) _ (t .translate .ensures .0) (i .before .before .if1 .left) _ (i .install .ensures .0) _ (i .install .ensures .1) (n .if2 .left) _ (t .translate .ensures .1) _ (w .copy .ensures)
 
 pub load-spec : {M : Type 1} → statement M
 load-spec =

@@ -8,6 +8,9 @@ use Rattle.trial.proofs.try_routine.Tie as tie
 new-requires : tie.Need-new-requires
 new-requires c κs = search needs
 
+all-landings-requires : tie.Need-all-landings-requires
+all-landings-requires c κs = search needs
+
 slice-aggregate-load : tie.Need-slice-aggregate-load
 slice-aggregate-load c = search needs
 
@@ -16,6 +19,9 @@ slice-aggregate-load-2 c = search needs
 
 slice-aggregate-load-3 : tie.Need-slice-aggregate-load-3
 slice-aggregate-load-3 c = search needs
+
+slice-aggregate-load-4 : tie.Need-slice-aggregate-load-4
+slice-aggregate-load-4 c = search needs
 
 load-requires : tie.Need-load-requires
 load-requires c κs = search needs
@@ -43,9 +49,11 @@ try-routine-spec =
     tie.close
     (tie.spec
     new-requires
+    all-landings-requires
     slice-aggregate-load
     slice-aggregate-load-2
     slice-aggregate-load-3
+    slice-aggregate-load-4
     load-requires
     print-answer-requires
     returns
