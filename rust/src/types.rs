@@ -19,8 +19,8 @@ pub struct Layout {
     pub table: u32,
     /// S, the number of policy states.
     pub states: u32,
-    /// B, the address of the first command. It has 16 bits; the C interface
-    /// carries it in 32, and a number above 65,535 is no right layout.
+    /// B, the address of the first command: any number, but a multiple of the
+    /// list's length.
     pub code_base: u32,
 }
 

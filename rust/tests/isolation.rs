@@ -273,7 +273,7 @@ fn mutate(rng: &mut Rng, layout: &Layout, list: &mut [u64]) {
             list[x & !3] = list[y & !3];
         }
         10 => {
-            let target = layout.code_base + rng.below(size + 2) as u32;
+            let target = layout.code_base.wrapping_add(rng.below(size + 2) as u32);
             list[x] = list[x] & 0xffff_ffff | u64::from(target) << 32;
         }
         _ => {

@@ -57,7 +57,7 @@ fn a_layout_is_right_up_to_each_of_its_bounds() {
         state_cell: 16,
         table: 0,
         states: 1,
-        code_base: 65_535,
+        code_base: 0,
     };
     assert!(is_right(&right));
     let wrong = [
@@ -99,13 +99,13 @@ fn a_layout_is_right_up_to_each_of_its_bounds() {
             sandbox_high: u32::MAX,
             ..right
         },
-        Layout {
-            code_base: 65_536,
-            ..right
-        },
     ];
     for layout in wrong {
         assert!(!is_right(&layout), "{layout:?}");
+    }
+    // No code base makes a layout wrong, an odd one neither.
+    for code_base in [1, 65_532, 65_535, 65_536, 65_537, u32::MAX - 3, u32::MAX] {
+        assert!(is_right(&Layout { code_base, ..right }));
     }
     // The largest of all.
     assert!(is_right(&Layout {

@@ -18,9 +18,9 @@ pub fn is_right(layout: &Layout) -> bool {
         state_cell,
         table,
         states,
-        code_base,
+        ..
     } = layout;
-    if !(1..=4096).contains(&cells) || !(1..=16).contains(&states) || code_base > 0xffff {
+    if !(1..=4096).contains(&cells) || !(1..=16).contains(&states) {
         return false;
     }
     if sandbox_low > sandbox_high || sandbox_high >= cells || state_cell >= cells {

@@ -97,16 +97,23 @@ pub fn trial_table() -> [u8; 32] {
     table
 }
 
+/// The last code base at which so many bundles can lie: 2^32 − 4N.
+pub fn top_base(bundles: usize) -> u32 {
+    (4 * bundles as u32).wrapping_neg()
+}
+
 /// A code base at which so many bundles can lie.
 pub fn base_for(rng: &mut Rng, bundles: usize) -> u32 {
-    let size = 4 * bundles;
-    let room = 65_536 / size;
-    let at = match rng.below(4) {
+    let size = 4 * bundles as u32;
+    let any = match rng.below(8) {
         0 => 0,
-        1 => room - 1,
-        _ => rng.below(room),
+        1 => 65_535,
+        2 => 65_536,
+        3 => top_base(bundles),
+        4 | 5 => rng.below(65_536) as u32,
+        _ => rng.word(),
     };
-    (at * size) as u32
+    any / size * size
 }
 
 /// A right layout for a list of so many bundles.
@@ -167,10 +174,6 @@ pub fn senseless_layout(rng: &mut Rng, layout: &Layout) -> Layout {
             10 => other.wrapping_add(array[field]),
             _ => array[field] ^ 1 << rng.below(13),
         };
-    }
-    if rng.chance(15) {
-        // Beyond its 16 bits, and else in order.
-        array[6] = (array[6] & 0xffff) + (rng.between(1, 65_535) as u32) * 65_536;
     }
     Layout::from_array(array)
 }
