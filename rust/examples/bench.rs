@@ -23,6 +23,7 @@ const LAYOUT: Layout = Layout {
     table: 16,
     states: 16,
     code_base: 4096,
+    landings: 512,
 };
 const BUDGET: u32 = 20_000;
 
@@ -96,6 +97,11 @@ fn full_length() -> Vec<u64> {
         .collect()
 }
 
+/// Every landing that there can be.
+fn all_landings() -> Vec<u32> {
+    (0..1024).collect()
+}
+
 /// Adds 1 to each cell of the sandbox, with some arithmetic beside it.
 fn cell_loop() -> Vec<u64> {
     vec![
@@ -144,7 +150,7 @@ fn runner<'a>(run: Run, list: &'a [u64], table: &'a [u8]) -> impl FnMut() -> Run
         start: 0,
         table,
     };
-    let (answer, installed) = model::install(&LAYOUT, &policy, &mut memory);
+    let (answer, installed) = model::install(&LAYOUT, &policy, &all_landings(), &mut memory);
     assert_eq!(answer, Answer::Taken(0));
     let readings: Vec<u32> = (0..BUDGET).collect();
     let mut log = vec![0; 2 * BUDGET as usize];
@@ -318,14 +324,32 @@ fn main() {
         table: &table,
     };
     let (mut ours, mut theirs) = (vec![0; 4096], vec![0; 4096]);
-    let expected = model::install(&LAYOUT, &policy, &mut ours);
-    assert_eq!(native::install(&LAYOUT, &policy, &mut theirs), expected);
+    let landings = all_landings();
+    let expected = model::install(&LAYOUT, &policy, &landings, &mut ours);
+    assert_eq!(
+        native::install(&LAYOUT, &policy, &landings, &mut theirs),
+        expected
+    );
     assert_eq!(theirs, ours);
     figure(
         "install, 16 states",
-        257,
+        289,
         "cell",
-        &mut || _ = black_box(native::install(&LAYOUT, black_box(&policy), &mut theirs)),
-        &mut || _ = black_box(model::install(&LAYOUT, black_box(&policy), &mut ours)),
+        &mut || {
+            _ = black_box(native::install(
+                &LAYOUT,
+                black_box(&policy),
+                black_box(&landings),
+                &mut theirs,
+            ))
+        },
+        &mut || {
+            _ = black_box(model::install(
+                &LAYOUT,
+                black_box(&policy),
+                black_box(&landings),
+                &mut ours,
+            ))
+        },
     );
 }

@@ -21,7 +21,7 @@ extern "C" {
         answer: *mut [u32; 2],
     );
     fn hemdroas_rewrite(
-        layout: *const [u32; 7],
+        layout: *const [u32; 8],
         words: *const u64,
         n: usize,
         commands: *mut u64,
@@ -29,29 +29,33 @@ extern "C" {
         answer: *mut [u32; 2],
     );
     fn hemdroas_check(
-        layout: *const [u32; 7],
+        layout: *const [u32; 8],
         commands: *const u64,
         n: usize,
         answer: *mut [u32; 2],
     );
     fn hemdroas_word_right(states: u32, word: u32) -> u32;
     fn hemdroas_install(
-        layout: *const [u32; 7],
+        layout: *const [u32; 8],
         states: u32,
         start: u32,
         table: *const u8,
         len: usize,
+        landings: *const u32,
+        count: usize,
         memory: *mut u32,
         cells: usize,
         machine: *mut [u32; 11],
         answer: *mut [u32; 2],
     );
     fn hemdroas_load(
-        layout: *const [u32; 7],
+        layout: *const [u32; 8],
         states: u32,
         start: u32,
         table: *const u8,
         len: usize,
+        landings: *const u32,
+        count: usize,
         bytes: *const u8,
         n: usize,
         commands: *mut u64,
@@ -62,7 +66,7 @@ extern "C" {
         answer: *mut [u32; 2],
     );
     fn hemdroas_run(
-        layout: *const [u32; 7],
+        layout: *const [u32; 8],
         commands: *const u64,
         n: usize,
         machine: *mut [u32; 11],
@@ -76,7 +80,7 @@ extern "C" {
         answer: *mut [u32; 4],
     );
     fn hemdroas_preview(
-        layout: *const [u32; 7],
+        layout: *const [u32; 8],
         commands: *const u64,
         n: usize,
         machine: *const [u32; 11],
@@ -207,11 +211,17 @@ pub fn word_right(states: u32, word: u32) -> bool {
     }
 }
 
-/// Writes the policy into memory and yields a machine at the first command;
-/// after a refusal, [`Machine::REFUSED`].
-pub fn install(layout: &Layout, policy: &Policy, memory: &mut [u32]) -> (Answer, Machine) {
+/// Writes the policy and the bits of the landings, a rising list, into memory
+/// and yields a machine at the first command; after a refusal,
+/// [`Machine::REFUSED`].
+pub fn install(
+    layout: &Layout,
+    policy: &Policy,
+    landings: &[u32],
+    memory: &mut [u32],
+) -> (Answer, Machine) {
     let mut record = Machine::REFUSED.to_record();
-    let answer = install_record(layout, policy, memory, &mut record);
+    let answer = install_record(layout, policy, landings, memory, &mut record);
     (answer, record.to_machine())
 }
 
@@ -219,6 +229,7 @@ pub fn install(layout: &Layout, policy: &Policy, memory: &mut [u32]) -> (Answer,
 pub fn install_record(
     layout: &Layout,
     policy: &Policy,
+    landings: &[u32],
     memory: &mut [u32],
     record: &mut Record,
 ) -> Answer {
@@ -230,6 +241,8 @@ pub fn install_record(
             policy.start,
             policy.table.as_ptr(),
             policy.table.len(),
+            landings.as_ptr(),
+            landings.len(),
             memory.as_mut_ptr(),
             memory.len(),
             &mut record.0,
@@ -245,12 +258,21 @@ pub fn install_record(
 pub fn load(
     layout: &Layout,
     policy: &Policy,
+    landings: &[u32],
     bytes: &[u8],
     commands: &mut [u64],
     memory: &mut [u32],
 ) -> (Answer, Machine) {
     let mut record = Machine::REFUSED.to_record();
-    let answer = load_record(layout, policy, bytes, commands, memory, &mut record);
+    let answer = load_record(
+        layout,
+        policy,
+        landings,
+        bytes,
+        commands,
+        memory,
+        &mut record,
+    );
     (answer, record.to_machine())
 }
 
@@ -258,6 +280,7 @@ pub fn load(
 pub fn load_record(
     layout: &Layout,
     policy: &Policy,
+    landings: &[u32],
     bytes: &[u8],
     commands: &mut [u64],
     memory: &mut [u32],
@@ -271,6 +294,8 @@ pub fn load_record(
             policy.start,
             policy.table.as_ptr(),
             policy.table.len(),
+            landings.as_ptr(),
+            landings.len(),
             bytes.as_ptr(),
             bytes.len(),
             commands.as_mut_ptr(),
@@ -301,7 +326,7 @@ pub fn run(
 }
 
 /// [`run`] on a record of the C interface, whose status may be any number:
-/// above 3 counts as faulted and comes back as 3, unless the run is refused.
+/// above 4 counts as faulted and comes back as 3, unless the run is refused.
 pub fn run_record(
     layout: &Layout,
     commands: &[u64],

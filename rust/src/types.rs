@@ -22,11 +22,13 @@ pub struct Layout {
     /// B, the address of the first command: any number, but a multiple of the
     /// list's length.
     pub code_base: u32,
+    /// Q, the first of 32 cells with a bit for each landing.
+    pub landings: u32,
 }
 
 impl Layout {
-    /// The layout as the C interface takes it: U, SL, SH, M, P, S, B.
-    pub fn to_array(&self) -> [u32; 7] {
+    /// The layout as the C interface takes it: U, SL, SH, M, P, S, B, Q.
+    pub fn to_array(&self) -> [u32; 8] {
         [
             self.cells,
             self.sandbox_low,
@@ -35,12 +37,14 @@ impl Layout {
             self.table,
             self.states,
             self.code_base,
+            self.landings,
         ]
     }
 
-    /// The layout that an array U, SL, SH, M, P, S, B stands for.
-    pub fn from_array(array: [u32; 7]) -> Self {
-        let [cells, sandbox_low, sandbox_high, state_cell, table, states, code_base] = array;
+    /// The layout that an array U, SL, SH, M, P, S, B, Q stands for.
+    pub fn from_array(array: [u32; 8]) -> Self {
+        let [cells, sandbox_low, sandbox_high, state_cell, table, states, code_base, landings] =
+            array;
         Layout {
             cells,
             sandbox_low,
@@ -49,6 +53,7 @@ impl Layout {
             table,
             states,
             code_base,
+            landings,
         }
     }
 }
@@ -76,6 +81,8 @@ pub enum Status {
     Stopped,
     /// It left its list, its memory or the command words.
     Faulted,
+    /// It took a jump through a register to no landing.
+    Strayed,
 }
 
 impl Status {
@@ -86,15 +93,17 @@ impl Status {
             Status::Ended => 1,
             Status::Stopped => 2,
             Status::Faulted => 3,
+            Status::Strayed => 4,
         }
     }
 
-    /// The status of a record's number: above 3 counts as faulted.
+    /// The status of a record's number: above 4 counts as faulted.
     pub fn from_number(number: u32) -> Self {
         match number {
             0 => Status::Running,
             1 => Status::Ended,
             2 => Status::Stopped,
+            4 => Status::Strayed,
             _ => Status::Faulted,
         }
     }
@@ -177,6 +186,8 @@ pub enum Refusal {
     BadCount,
     /// 13: a code base that is no multiple of the list's length.
     BadBase,
+    /// 14: landings that do not rise strictly, or one above 1,023.
+    BadLandings,
     /// 17: a pair with an event above 15 or without its partner, or more than
     /// four named events.
     BadPair,
@@ -184,7 +195,7 @@ pub enum Refusal {
 
 impl Refusal {
     /// Every refusal, in the order of their numbers.
-    pub const ALL: [Refusal; 14] = [
+    pub const ALL: [Refusal; 15] = [
         Refusal::ShortWeight,
         Refusal::ForeignMatter,
         Refusal::UnknownVariety,
@@ -198,10 +209,11 @@ impl Refusal {
         Refusal::BadBundle,
         Refusal::BadCount,
         Refusal::BadBase,
+        Refusal::BadLandings,
         Refusal::BadPair,
     ];
 
-    /// The number: 1 to 13, or 17.
+    /// The number: 1 to 14, or 17.
     pub fn number(self) -> u32 {
         match self {
             Refusal::ShortWeight => 1,
@@ -217,6 +229,7 @@ impl Refusal {
             Refusal::BadBundle => 11,
             Refusal::BadCount => 12,
             Refusal::BadBase => 13,
+            Refusal::BadLandings => 14,
             Refusal::BadPair => 17,
         }
     }
@@ -296,11 +309,14 @@ pub enum Ending {
     ProbeSilent,
     /// 25: the budget is used up. The machine can go on.
     Spent,
+    /// 26: a jump through a register to no landing, and the routine was
+    /// stopped.
+    NoLanding,
 }
 
 impl Ending {
     /// Every ending, in the order of their numbers.
-    pub const ALL: [Ending; 7] = [
+    pub const ALL: [Ending; 8] = [
         Ending::BadLayout,
         Ending::Ended,
         Ending::NoArrow,
@@ -308,9 +324,10 @@ impl Ending {
         Ending::LogFull,
         Ending::ProbeSilent,
         Ending::Spent,
+        Ending::NoLanding,
     ];
 
-    /// The number: 7, or 20 to 25.
+    /// The number: 7, or 20 to 26.
     pub fn number(self) -> u32 {
         match self {
             Ending::BadLayout => 7,
@@ -320,6 +337,7 @@ impl Ending {
             Ending::LogFull => 23,
             Ending::ProbeSilent => 24,
             Ending::Spent => 25,
+            Ending::NoLanding => 26,
         }
     }
 

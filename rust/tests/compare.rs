@@ -17,12 +17,13 @@ const OPERATIONS: [(&str, &[usize]); 9] = [
     ("write", &[0, 2, 3, 4, 5, 9]),
     ("rewrite", &[0, 2, 3, 4, 5, 7, 8, 9, 13]),
     ("check", &[0, 7, 11, 12, 13]),
-    ("install", &[0, 7, 10]),
-    // 1 to 6 by reading, 7 to 9 and 13 by rewriting, 7 and 10 by installing;
+    ("install", &[0, 7, 10, 14]),
+    // 1 to 6 by reading, 7 to 9 and 13 by rewriting, 7, 10 and 14 by
+    // installing;
     // the checker refuses nothing that was rewritten.
-    ("load", &[0, 1, 2, 3, 4, 5, 6, 7, 8, 9, 10, 13]),
-    ("run", &[7, 20, 21, 22, 23, 24, 25]),
-    ("preview", &[7, 20, 21, 22, 23, 24, 25]),
+    ("load", &[0, 1, 2, 3, 4, 5, 6, 7, 8, 9, 10, 13, 14]),
+    ("run", &[7, 20, 21, 22, 23, 24, 25, 26]),
+    ("preview", &[7, 20, 21, 22, 23, 24, 25, 26]),
     ("befores", &[0, 9, 17]),
 ];
 const READ: usize = 0;
@@ -42,8 +43,8 @@ const LEAST_CASES: u64 = 100_000;
 /// How often each number was answered.
 #[derive(Default)]
 struct Tally {
-    seen: [[u64; 26]; 9],
-    /// Runs whose record came in with a status above 3.
+    seen: [[u64; 27]; 9],
+    /// Runs whose record came in with a status above 4.
     strange_status: u64,
     /// Cases taken with a code base above 65,535.
     far_base: u64,
@@ -118,17 +119,24 @@ fn install(
     tally: &mut Tally,
     layout: &Layout,
     policy: &Policy,
+    landings: &[u32],
     memory: &mut Vec<u32>,
     record: Record,
 ) -> (Answer, Record) {
     let before = memory.clone();
     let (mut ours, mut our_record) = (before.clone(), record);
     let mut their_record = record;
-    let expected = model::install_record(layout, policy, &mut ours, &mut our_record);
-    let answer = native::install_record(layout, policy, memory, &mut their_record);
-    assert_eq!(answer, expected, "installing {policy:?} under {layout:?}");
+    let expected = model::install_record(layout, policy, landings, &mut ours, &mut our_record);
+    let answer = native::install_record(layout, policy, landings, memory, &mut their_record);
+    assert_eq!(
+        answer, expected,
+        "installing {policy:?}, {landings:?} under {layout:?}"
+    );
     assert_eq!(their_record, our_record, "record of {policy:?}, {layout:?}");
-    assert_eq!(*memory, ours, "memory of {policy:?} under {layout:?}");
+    assert_eq!(
+        *memory, ours,
+        "memory of {policy:?}, {landings:?} under {layout:?}"
+    );
     if answer != Answer::Taken(0) {
         assert_eq!(*memory, before);
     }
@@ -146,12 +154,20 @@ struct Loading {
 }
 
 /// Loads with both, and compares.
-fn load(tally: &mut Tally, layout: &Layout, policy: &Policy, bytes: &[u8], mut lent: Loading) {
+fn load(
+    tally: &mut Tally,
+    layout: &Layout,
+    policy: &Policy,
+    landings: &[u32],
+    bytes: &[u8],
+    mut lent: Loading,
+) {
     let before = lent.clone();
     let mut ours = lent.clone();
     let expected = model::load_record(
         layout,
         policy,
+        landings,
         bytes,
         &mut ours.commands,
         &mut ours.memory,
@@ -160,12 +176,13 @@ fn load(tally: &mut Tally, layout: &Layout, policy: &Policy, bytes: &[u8], mut l
     let answer = native::load_record(
         layout,
         policy,
+        landings,
         bytes,
         &mut lent.commands,
         &mut lent.memory,
         &mut lent.record,
     );
-    let input = || format!("{bytes:02x?} with {policy:?} under {layout:?}");
+    let input = || format!("{bytes:02x?} with {policy:?}, {landings:?} under {layout:?}");
     assert_eq!(answer, expected, "loading {}", input());
     assert_eq!(lent, ours, "what was lent to the load of {}", input());
     assert_untouched(answer, &before.commands, &lent.commands);
@@ -236,7 +253,7 @@ fn run(
     if answer.ending == Ending::BadLayout {
         assert_eq!(*lent, before, "a refused run alters nothing");
     }
-    if before.record.0[10] > 3 {
+    if before.record.0[10] > 4 {
         tally.strange_status += 1;
     }
     note_layout(tally, layout, answer.ending.number());
@@ -535,12 +552,21 @@ fn layouts(tally: &mut Tally, rng: &mut Rng) {
         let layout = senseless_layout(rng, &right);
         let _ = check(tally, &layout, &list);
     }
-    // All small layouts with one state, about and inside 18 to 20 cells.
-    for cells in 17..=20 {
-        for low in 0..=20 {
+    // Small layouts with one state, table and landings at either end or next to
+    // each other, the rest everywhere.
+    for cells in 49..=52 {
+        for (table, landings) in [
+            (0, 16),
+            (32, 0),
+            (0, 20),
+            (36, 0),
+            (1, 17),
+            (33, 1),
+            (16, 20),
+        ] {
             for size in [0, 1, 2, 3, 4] {
-                for state_cell in 0..=20 {
-                    for table in 0..=4 {
+                for low in 0..=52 {
+                    for state_cell in 0..=52 {
                         let sandbox_high = u32::wrapping_add(low, size).wrapping_sub(1);
                         let layout = Layout {
                             cells,
@@ -550,11 +576,33 @@ fn layouts(tally: &mut Tally, rng: &mut Rng) {
                             table,
                             states: 1,
                             code_base: 0,
+                            landings,
                         };
                         let _ = check(tally, &layout, &list);
                     }
                 }
             }
+        }
+    }
+    // The landings everywhere, and far off.
+    let right = Layout {
+        cells: 60,
+        sandbox_low: 56,
+        sandbox_high: 57,
+        state_cell: 52,
+        table: 2,
+        states: 1,
+        code_base: 0,
+        landings: 20,
+    };
+    for landings in (0..64).chain(u32::MAX - 64..=u32::MAX) {
+        for cells in 50..=60 {
+            let layout = Layout {
+                landings,
+                cells,
+                ..right
+            };
+            let _ = check(tally, &layout, &list);
         }
     }
 }
@@ -638,6 +686,7 @@ struct Installation {
     states: u32,
     start: u32,
     table: Vec<u8>,
+    landings: Vec<u32>,
     cells: usize,
 }
 
@@ -655,9 +704,10 @@ impl Installation {
 fn some_installation(rng: &mut Rng, mut layout: Layout) -> Installation {
     let (mut start, mut table) = policy(rng, layout.states, 80);
     let mut states = layout.states;
+    let mut landings = landings(rng);
     let mut cells = layout.cells as usize;
     for _ in 0..rng.below(3) {
-        match rng.below(9) {
+        match rng.below(11) {
             0 => {
                 start = rng.pick(&[
                     states.wrapping_sub(1),
@@ -688,7 +738,8 @@ fn some_installation(rng: &mut Rng, mut layout: Layout) -> Installation {
                 table[last] = rng.next() as u8;
             }
             6 => layout = senseless_layout(rng, &layout),
-            7 => cells = rng.pick(&[cells.saturating_sub(1), cells + 1, 0, 4096]),
+            7 | 8 => spoil_landings(rng, &mut landings),
+            9 => cells = rng.pick(&[cells.saturating_sub(1), cells + 1, 0, 4096]),
             _ => {}
         }
     }
@@ -697,7 +748,30 @@ fn some_installation(rng: &mut Rng, mut layout: Layout) -> Installation {
         states,
         start,
         table,
+        landings,
         cells,
+    }
+}
+
+/// An entry too large, two alike or two the wrong way round, at either end of
+/// the list or inside.
+fn spoil_landings(rng: &mut Rng, landings: &mut Vec<u32>) {
+    let length = landings.len();
+    match rng.below(5) {
+        0 => landings.push(rng.pick(&[1023, 1024, 1025, 65_536 + 5, 1 << 31, u32::MAX])),
+        1 if length > 0 => {
+            let at = rng.below(length);
+            landings[at] = rng.pick(&[0, 1023, 1024, u32::MAX]);
+        }
+        2 if length > 0 => {
+            let at = rng.below(length);
+            landings.insert(at, landings[at]);
+        }
+        3 if length > 1 => {
+            let at = rng.below(length - 1);
+            landings.swap(at, at + 1);
+        }
+        _ => landings.push(rng.below(1024) as u32),
     }
 }
 
@@ -708,7 +782,8 @@ fn installing(tally: &mut Tally, rng: &mut Rng) {
         let mut memory = rng.cells(installation.cells);
         let record = some_record(rng);
         let policy = installation.policy();
-        let _ = install(tally, &installation.layout, &policy, &mut memory, record);
+        let (layout, landings) = (&installation.layout, &installation.landings);
+        let _ = install(tally, layout, &policy, landings, &mut memory, record);
     }
 }
 
@@ -729,7 +804,7 @@ fn each_byte_of_a_table(tally: &mut Tally, rng: &mut Rng) {
                 let mut memory = rng.cells(layout.cells as usize);
                 let record = some_record(rng);
                 let installed = as_policy(&layout, &start_and_table);
-                let _ = install(tally, &layout, &installed, &mut memory, record);
+                let _ = install(tally, &layout, &installed, &[], &mut memory, record);
             }
         }
     }
@@ -751,7 +826,8 @@ fn loading(tally: &mut Tally, rng: &mut Rng) {
             record: some_record(rng),
         };
         let policy = installation.policy();
-        load(tally, &installation.layout, &policy, &bytes, lent);
+        let (layout, landings) = (&installation.layout, &installation.landings);
+        load(tally, layout, &policy, landings, &bytes, lent);
     }
 }
 
@@ -884,8 +960,8 @@ fn hand_made_runs(tally: &mut Tally, rng: &mut Rng) {
                 .wrapping_add(rng.below(length.max(1)) as u32),
         };
         record[10] = match rng.below(20) {
-            0 => rng.between(1, 3) as u32,
-            1 => rng.pick(&[3, 4, 5, 255, 256, 1 << 16, 1 << 31, u32::MAX]),
+            0 => rng.between(1, 4) as u32,
+            1 => rng.pick(&[4, 5, 6, 255, 256, 1 << 16, 1 << 31, u32::MAX]),
             _ => 0,
         };
         match rng.below(30) {
@@ -997,7 +1073,7 @@ fn lists_of_pairs(tally: &mut Tally, rng: &mut Rng) {
             };
             let mut memory = rng.cells(layout.cells as usize);
             let record = some_record(rng);
-            let (answer, _) = install(tally, &layout, &policy, &mut memory, record);
+            let (answer, _) = install(tally, &layout, &policy, &[], &mut memory, record);
             assert_eq!(answer, Answer::Taken(0), "installing {pairs:?}");
         }
     }
@@ -1034,7 +1110,8 @@ fn runs_in_a_row(tally: &mut Tally, rng: &mut Rng) {
         let installed = as_policy(&layout, &start_and_table);
         let mut memory = rng.cells(layout.cells as usize);
         let record = some_record(rng);
-        let (answer, record) = install(tally, &layout, &installed, &mut memory, record);
+        let landings = landings(rng);
+        let (answer, record) = install(tally, &layout, &installed, &landings, &mut memory, record);
         assert_eq!(answer, Answer::Taken(0));
         let mut lent = Lent {
             record,
@@ -1060,7 +1137,102 @@ fn runs_in_a_row(tally: &mut Tally, rng: &mut Rng) {
 fn is_free(layout: &Layout, cell: u32) -> bool {
     let sandbox = layout.sandbox_low..=layout.sandbox_high;
     let table = layout.table..layout.table + 16 * layout.states;
-    !sandbox.contains(&cell) && !table.contains(&cell) && cell != layout.state_cell
+    let landings = layout.landings..layout.landings + 32;
+    !sandbox.contains(&cell)
+        && !table.contains(&cell)
+        && !landings.contains(&cell)
+        && cell != layout.state_cell
+}
+
+/// Each cause of 14, and each list of landings beside it that is right: the
+/// bits that were there before make no difference.
+fn landing_lists(tally: &mut Tally, rng: &mut Rng) {
+    let mut lists: Vec<Vec<u32>> = vec![vec![], (0..1024).collect(), (0..1025).collect()];
+    lists.extend((0..1024).map(|landing| vec![landing]));
+    for near in [0, 1, 31, 32, 33, 1021, 1022, 1023, 1024, 1 << 31, u32::MAX] {
+        lists.push(vec![near]);
+        for other in [0, 1, 5, 31, 32, 1022, 1023, 1024, u32::MAX] {
+            // Rising, alike or falling; behind a list that is right, and before one.
+            lists.push(vec![other, near]);
+            lists.push(vec![0, 1, 2, other, near]);
+            lists.push(vec![other, near, 1020, 1023]);
+        }
+    }
+    for list in lists {
+        let rising = list.windows(2).all(|pair| pair[0] < pair[1]);
+        let small = list.iter().all(|&landing| landing <= 1023);
+        for _ in 0..3 {
+            let layout = right_layout(rng, 1);
+            let start_and_table = policy(rng, layout.states, 80);
+            let installed = as_policy(&layout, &start_and_table);
+            let mut memory = rng.cells(layout.cells as usize);
+            let record = some_record(rng);
+            let (answer, _) = install(tally, &layout, &installed, &list, &mut memory, record);
+            assert_eq!(answer.is_taken(), rising && small, "{list:?}");
+        }
+    }
+}
+
+/// Each cause of 26: a jump through a register to an address below the base,
+/// between two bundles, past instruction 1,023 or without its bit, taken and
+/// not taken, and the same machine run again. A jump to a landing goes on, past
+/// the list's end too.
+fn jumps(tally: &mut Tally, rng: &mut Rng) {
+    for turn in 0..20_000 {
+        let mut layout = right_layout(rng, 1);
+        if rng.chance(50) {
+            layout.code_base = rng.pick(&[0, 3, 65_536, u32::MAX - 4095, u32::MAX - 100, 4096]);
+        }
+        let base = layout.code_base;
+        let length = rng.between(1, 12) as u32;
+        let at = rng.below(length as usize) as u32;
+        let j = match rng.below(6) {
+            0 => rng.between(1022, 1026) as u32,
+            1 => rng.below(2048) as u32,
+            2 => rng.word() >> 2,
+            _ => rng.below(8) as u32,
+        };
+        let target = match rng.below(4) {
+            0 => base.wrapping_sub(4 * (1 + j)),
+            1 => base.wrapping_add(4 * j + rng.between(1, 3) as u32),
+            _ => base.wrapping_add(j.wrapping_mul(4)),
+        };
+        let (through, a, b) = (
+            rng.below(9) as u64,
+            rng.below(9) as u64,
+            rng.below(9) as u64,
+        );
+        let mut list = vec![0; length as usize];
+        list[at as usize] = pack(command::GOXR, through, a, b, rng.below(4) as u64, 0);
+        let mut record = [0; 11];
+        for register in &mut record[..9] {
+            *register = rng.pick(&[0, 1, target, u32::MAX]);
+        }
+        record[through as usize] = target;
+        record[9] = base.wrapping_add(at);
+        let mut memory = rng.cells(layout.cells as usize);
+        // All bits about that of the target set, or none of them.
+        let fill = if turn % 2 == 0 { u32::MAX } else { 0 };
+        let q = layout.landings as usize;
+        memory[q..q + 32].fill(fill);
+        if rng.chance(50) {
+            memory[q + j as usize / 32 % 32] ^= 1 << (j % 32);
+        }
+        let mut lent = Lent {
+            record: Record(record),
+            memory,
+            log: Vec::new(),
+        };
+        for _ in 0..2 {
+            let before = lent.clone();
+            let answer = run(tally, &layout, &list, &mut lent, 1, &[]);
+            if answer.ending == Ending::NoLanding {
+                let mut stopped = before;
+                stopped.record.0[10] = 4;
+                assert_eq!(lent, stopped, "only the status changes");
+            }
+        }
+    }
 }
 
 /// For each number of bundles the first bases, those about 65,536, the last,
@@ -1104,11 +1276,13 @@ fn bases(tally: &mut Tally, rng: &mut Rng) {
                     memory: rng.cells(layout.cells as usize),
                     record: some_record(rng),
                 };
-                load(tally, &layout, &installed, &bytes, lent);
+                let landings = landings(rng);
+                load(tally, &layout, &installed, &landings, &bytes, lent);
 
                 let mut memory = rng.cells(layout.cells as usize);
                 let record = some_record(rng);
-                let (answer, record) = install(tally, &layout, &installed, &mut memory, record);
+                let (answer, record) =
+                    install(tally, &layout, &installed, &landings, &mut memory, record);
                 assert_eq!(answer, Answer::Taken(0));
                 let mut lent = Lent {
                     record,
@@ -1159,11 +1333,12 @@ fn sample() {
         start: 0,
         table: &table,
     };
+    let landings: Vec<u32> = (0..1024).collect();
     let mut memory = [0; 1024];
-    let (answer, mut machine) = native::install(&TRIAL, &policy, &mut memory);
+    let (answer, mut machine) = native::install(&TRIAL, &policy, &landings, &mut memory);
     assert_eq!(answer, Answer::Taken(0));
     let (mut loaded, mut cells) = ([0; 32], [0; 1024]);
-    let answer = native::load(&TRIAL, &policy, &SAMPLE, &mut loaded, &mut cells);
+    let answer = native::load(&TRIAL, &policy, &landings, &SAMPLE, &mut loaded, &mut cells);
     assert_eq!(answer, (Answer::Taken(32), machine));
     assert_eq!((loaded, cells), (commands, memory));
     let mut log = [0; 64];
@@ -1238,7 +1413,7 @@ fn the_test_of_one_word_is_that_of_its_bytes() {
 fn the_library_does_what_the_model_does() {
     sample();
     type Part = fn(&mut Tally, &mut Rng);
-    let parts: [(&str, Part); 18] = [
+    let parts: [(&str, Part); 20] = [
         ("reading", reading),
         ("writing", writing),
         ("each bit of an instruction", each_bit_of_an_instruction),
@@ -1254,6 +1429,8 @@ fn the_library_does_what_the_model_does() {
         ("runs in a row", runs_in_a_row),
         ("long memories", long_memories),
         ("bases", bases),
+        ("landing lists", landing_lists),
+        ("jumps", jumps),
         ("each list of pairs", each_list_of_pairs),
         ("lists of pairs", lists_of_pairs),
         ("each event of a pair", each_event_of_a_pair),
@@ -1274,17 +1451,17 @@ fn the_library_does_what_the_model_does() {
             .collect();
         say(&format!("{name}: {}", counts.join(", ")));
     }
-    let mut sums = [0; 26];
+    let mut sums = [0; 27];
     for seen in &tally.seen {
         for (sum, count) in sums.iter_mut().zip(seen) {
             *sum += count;
         }
     }
-    let numbers = (0..=13).chain([17]).chain(20..=25);
+    let numbers = (0..=14).chain([17]).chain(20..=26);
     let sums: Vec<String> = numbers.map(|n| format!("{n}: {}", sums[n])).collect();
     say(&format!("all: {}", sums.join(", ")));
     say(&format!(
-        "{} cases; {} steps, {} pairs, {} readings; {} records with a status above 3, {} cases taken with a base above 65,535; {} loads refused for the memory alone; {} previews of more than 4,096 cells; {} policies made with events never allowed",
+        "{} cases; {} steps, {} pairs, {} readings; {} records with a status above 4, {} cases taken with a base above 65,535; {} loads refused for the memory alone; {} previews of more than 4,096 cells; {} policies made with events never allowed",
         tally.cases(), tally.steps, tally.pairs, tally.readings, tally.strange_status, tally.far_base, tally.other_memory, tally.long_memory, tally.rings
     ));
 

@@ -13,6 +13,7 @@ struct Guest<'a> {
     layout: &'a Layout,
     words: &'a [u64],
     table: &'a [u8],
+    landings: &'a [u32],
     readings: &'a [u32],
     registers: [u32; 8],
     at: u32,
@@ -51,7 +52,12 @@ impl Guest<'_> {
             guest::LOAD => self.registers[to] = self.sandbox[cell],
             guest::STORE => self.sandbox[cell] = y,
             guest::GOIF if holds => next = v(word),
-            guest::GOX if holds => next = register(d(word)) % n,
+            guest::GOX if holds => {
+                next = register(d(word)) % n;
+                if !self.landings.contains(&next) {
+                    return Status::Strayed;
+                }
+            }
             guest::GOIF | guest::GOX => {}
             guest::EVENT => {
                 let event = v(word);
@@ -76,7 +82,7 @@ impl Guest<'_> {
 fn the_machine_follows_the_guest_rule() {
     let seed = common::seed(1);
     let mut rng = Rng::new(seed);
-    let (mut steps, mut ended, mut stopped, mut pairs) = (0_u64, 0, 0, 0);
+    let (mut steps, mut ended, mut stopped, mut strayed, mut pairs) = (0_u64, 0, 0, 0, 0);
     for _ in 0..4000 {
         let (layout, words) = layout_and_routine(&mut rng);
         let mut commands = vec![0; 4 * bundle_count(words.len())];
@@ -85,6 +91,7 @@ fn the_machine_follows_the_guest_rule() {
         assert_eq!(check(&layout, &commands), Answer::Taken(0));
         let arrows = rng.between(70, 100);
         let start_and_table = policy(&mut rng, layout.states, arrows);
+        let landings = common::landings(&mut rng);
         let mut memory = rng.cells(layout.cells as usize);
         let sandbox = layout.sandbox_low as usize..=layout.sandbox_high as usize;
         let readings = rng.cells(300);
@@ -92,6 +99,7 @@ fn the_machine_follows_the_guest_rule() {
             layout: &layout,
             words: &words,
             table: &start_and_table.1,
+            landings: &landings,
             readings: &readings,
             registers: [0; 8],
             at: 0,
@@ -101,7 +109,7 @@ fn the_machine_follows_the_guest_rule() {
             used: 0,
         };
         let installed = as_policy(&layout, &start_and_table);
-        let (answer, mut machine) = install(&layout, &installed, &mut memory);
+        let (answer, mut machine) = install(&layout, &installed, &landings, &mut memory);
         assert_eq!(answer, Answer::Taken(0));
 
         let mut recorded = Vec::new();
@@ -140,6 +148,7 @@ fn the_machine_follows_the_guest_rule() {
             match status {
                 Status::Running => assert_eq!(machine.pc, layout.code_base + 4 * guest.at),
                 Status::Ended => ended += 1,
+                Status::Strayed => strayed += 1,
                 _ => stopped += 1,
             }
             if status != Status::Running {
@@ -149,7 +158,7 @@ fn the_machine_follows_the_guest_rule() {
         pairs += recorded.len();
     }
     say(&format!(
-        "guest rule: seed {seed}, {steps} instructions, {ended} ended, {stopped} stopped, {pairs} pairs"
+        "guest rule: seed {seed}, {steps} instructions, {ended} ended, {stopped} stopped, {strayed} without a landing, {pairs} pairs"
     ));
-    assert!(steps > 50_000 && ended > 500 && stopped > 500 && pairs > 5000);
+    assert!(steps > 50_000 && ended > 500 && stopped > 300 && strayed > 150 && pairs > 5000);
 }

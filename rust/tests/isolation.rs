@@ -1,6 +1,6 @@
 //! Isolation by running: whatever a passed list does in a row of runs, the
-//! cells outside its sandbox stay as the host has them, the table stays as
-//! installed, the state cell follows the policy, and nothing that the list
+//! cells outside its sandbox stay as the host has them, table and landings stay
+//! as installed, the state cell follows the policy, and nothing that the list
 //! does depends on the free cells or on what the logs held before.
 
 mod common;
@@ -16,6 +16,7 @@ enum Zone {
     Sandbox,
     State,
     Table,
+    Landings,
     Free,
 }
 
@@ -28,6 +29,8 @@ fn zone(layout: &Layout, cell: usize) -> Zone {
         Zone::State
     } else if table.contains(&cell) {
         Zone::Table
+    } else if (layout.landings..layout.landings + 32).contains(&cell) {
+        Zone::Landings
     } else {
         Zone::Free
     }
@@ -59,17 +62,19 @@ struct Tally {
     pairs: u64,
     stores: u64,
     between_keep_and_event: u64,
-    endings: [u64; 26],
+    endings: [u64; 27],
 }
 
 /// Installs and runs a list in a world of its own canaries, and checks the
 /// protection of every cell on the way.
+#[allow(clippy::too_many_arguments)]
 fn world(
     rng: &mut Rng,
     tally: &mut Tally,
     layout: &Layout,
     list: &[u64],
     start_and_table: &(u32, Vec<u8>),
+    landings: &[u32],
     sandbox: &[u32],
     given: &[Given],
 ) -> Vec<Seen> {
@@ -79,12 +84,18 @@ fn world(
     let mut canaries = memory.clone();
 
     let policy = as_policy(layout, start_and_table);
-    let (answer, mut machine) = install(layout, &policy, &mut memory);
+    let (answer, mut machine) = install(layout, &policy, landings, &mut memory);
     assert_eq!(answer, Answer::Taken(0));
     let (start, table) = start_and_table;
     canaries[layout.state_cell as usize] = *start;
     for (at, &to) in table.iter().enumerate() {
         canaries[layout.table as usize + at] = u32::from(to);
+    }
+    for cell in 0..32 {
+        canaries[(layout.landings + cell) as usize] = (0..32)
+            .filter(|bit| landings.contains(&(32 * cell + bit)))
+            .map(|bit| 1 << bit)
+            .sum();
     }
     assert_eq!(memory, canaries, "installing writes nothing else");
 
@@ -106,7 +117,10 @@ fn world(
         let written = 2 * answer.pairs as usize;
         assert_eq!(log[written..], old[written..], "the log past its pairs");
         for (cell, (&is, &was)) in memory.iter().zip(&canaries).enumerate() {
-            if matches!(zone(layout, cell), Zone::Free | Zone::Table) {
+            if matches!(
+                zone(layout, cell),
+                Zone::Free | Zone::Table | Zone::Landings
+            ) {
                 assert_eq!(is, was, "cell {cell} under {layout:?}, list {list:x?}");
             }
         }
@@ -161,6 +175,7 @@ fn world(
 fn two_worlds(rng: &mut Rng, tally: &mut Tally, layout: &Layout, list: &[u64]) {
     let arrows = rng.between(75, 100);
     let start_and_table = policy(rng, layout.states, arrows);
+    let landings = landings(rng);
     let length = (layout.sandbox_high - layout.sandbox_low + 1) as usize;
     let sandbox = rng.cells(length);
     let given: Vec<Given> = (0..rng.between(2, 7))
@@ -178,7 +193,18 @@ fn two_worlds(rng: &mut Rng, tally: &mut Tally, layout: &Layout, list: &[u64]) {
             }
         })
         .collect();
-    let mut enter = || world(rng, tally, layout, list, &start_and_table, &sandbox, &given);
+    let mut enter = || {
+        world(
+            rng,
+            tally,
+            layout,
+            list,
+            &start_and_table,
+            &landings,
+            &sandbox,
+            &given,
+        )
+    };
     let (one, other) = (enter(), enter());
     assert_eq!(one, other, "two worlds under {layout:?}, list {list:x?}");
     tally.lists += 1;
@@ -186,7 +212,7 @@ fn two_worlds(rng: &mut Rng, tally: &mut Tally, layout: &Layout, list: &[u64]) {
 
 impl Tally {
     fn conclude(&self, name: &str, seed: u64) {
-        let endings: Vec<String> = (20..=25)
+        let endings: Vec<String> = (20..=26)
             .map(|n| format!("{n}: {}", self.endings[n]))
             .collect();
         say(&format!(
@@ -204,7 +230,7 @@ impl Tally {
         assert!(self.lists >= 1000 && self.steps >= 100_000);
         assert!(self.pairs >= 5000 && self.stores >= 5000);
         assert!(self.between_keep_and_event >= 100);
-        for ending in [20, 21, 23, 24, 25] {
+        for ending in [20, 21, 23, 24, 25, 26] {
             assert!(self.endings[ending] >= 100, "ending {ending}");
         }
     }

@@ -16,6 +16,7 @@ fn sandbox(low: u32, high: u32) -> Layout {
         table: 16,
         states: 1,
         code_base: 0,
+        landings: 32,
     }
 }
 
@@ -51,17 +52,18 @@ fn a_sandbox_is_one_aligned_power_of_two() {
 #[test]
 fn a_layout_is_right_up_to_each_of_its_bounds() {
     let right = Layout {
-        cells: 18,
-        sandbox_low: 17,
-        sandbox_high: 17,
+        cells: 50,
+        sandbox_low: 49,
+        sandbox_high: 49,
         state_cell: 16,
         table: 0,
         states: 1,
         code_base: 0,
+        landings: 17,
     };
     assert!(is_right(&right));
     let wrong = [
-        Layout { cells: 17, ..right },
+        Layout { cells: 49, ..right },
         Layout {
             cells: 4097,
             ..right
@@ -74,15 +76,39 @@ fn a_layout_is_right_up_to_each_of_its_bounds() {
             ..right
         },
         Layout {
-            state_cell: 17,
-            ..right
-        },
-        Layout {
             state_cell: 15,
             ..right
         },
         Layout {
-            state_cell: 18,
+            state_cell: 17,
+            ..right
+        },
+        Layout {
+            state_cell: 48,
+            ..right
+        },
+        Layout {
+            state_cell: 49,
+            ..right
+        },
+        Layout {
+            state_cell: 50,
+            ..right
+        },
+        Layout {
+            landings: 16,
+            ..right
+        },
+        Layout {
+            landings: 18,
+            ..right
+        },
+        Layout {
+            landings: 0,
+            ..right
+        },
+        Layout {
+            landings: u32::MAX - 31,
             ..right
         },
         Layout { table: 1, ..right },
@@ -91,7 +117,7 @@ fn a_layout_is_right_up_to_each_of_its_bounds() {
             ..right
         },
         Layout {
-            sandbox_low: 18,
+            sandbox_low: 50,
             ..right
         },
         Layout {
@@ -116,12 +142,18 @@ fn a_layout_is_right_up_to_each_of_its_bounds() {
         table: 0,
         states: 16,
         code_base: 0,
+        landings: 257,
     }));
 }
 
 /// Rewrites, checks, installs and runs words under a layout, and gives the
 /// registers and the run's answer.
-fn perform(layout: &Layout, words: &[u64], budget: u32) -> ([u32; 9], u32, hemdroas::RunAnswer) {
+fn perform(
+    layout: &Layout,
+    words: &[u64],
+    landings: &[u32],
+    budget: u32,
+) -> ([u32; 9], u32, hemdroas::RunAnswer) {
     let mut commands = vec![0; 4 * bundle_count(words.len())];
     assert_eq!(
         rewrite(layout, words, &mut commands),
@@ -135,7 +167,7 @@ fn perform(layout: &Layout, words: &[u64], budget: u32) -> ([u32; 9], u32, hemdr
         table: &table,
     };
     let mut memory = vec![0; layout.cells as usize];
-    let (answer, mut machine) = install(layout, &policy, &mut memory);
+    let (answer, mut machine) = install(layout, &policy, landings, &mut memory);
     assert_eq!(answer, Answer::Taken(0));
     let answer = run(
         layout,
@@ -163,9 +195,22 @@ fn a_jump_through_a_register_reaches_the_first_command_of_a_bundle() {
             0,
         ];
         // One command and its filling, then the four of the jump.
-        let (_, pc, answer) = perform(&layout, &words, 8);
+        let (_, pc, answer) = perform(&layout, &words, &[3], 8);
         assert_eq!((pc, answer.ending), (44, Ending::Spent));
+        // Without landing 3 it stops on the jump, which is a step.
+        let (registers, pc, answer) = perform(&layout, &words, &[4], 100);
+        assert_eq!((pc, answer.ending), (39, Ending::NoLanding));
+        assert_eq!((answer.steps, registers[8]), (8, 44));
     }
+    // Landing 3 alone: 4 stops.
+    let words = [
+        pack(guest::SET, 1, 0, 0, 0, 4),
+        pack(guest::GOX, 1, 0, 0, 0, 0),
+        0,
+        0,
+    ];
+    let (_, pc, answer) = perform(&layout, &words, &[3], 100);
+    assert_eq!((pc, answer.ending), (39, Ending::NoLanding));
     let base = Layout {
         code_base: 16,
         ..layout
@@ -185,7 +230,7 @@ fn shifts_and_comparisons_know_the_sign() {
             pack(guest::SET, 1, 0, 0, 0, value as u32),
             pack(guest::SAR, 2, 1, 0, 0, by),
         ];
-        let (registers, _, answer) = perform(&layout, &words, 100);
+        let (registers, _, answer) = perform(&layout, &words, &[], 100);
         assert_eq!(answer.ending, Ending::Ended);
         registers[2] as i32
     };
@@ -198,7 +243,7 @@ fn shifts_and_comparisons_know_the_sign() {
             pack(guest::GOIF, 0, 1, 0, condition, 3),
             pack(guest::SET, 2, 0, 0, 0, 1),
         ];
-        perform(&layout, &words, 100).0[2] == 0
+        perform(&layout, &words, &[], 100).0[2] == 0
     };
     assert!(holds(3), "-1 is less than 0");
     assert!(!holds(2), "-1 is not below 0");
@@ -216,7 +261,7 @@ fn a_silent_probe_is_reported_before_a_full_log() {
         (15, Ending::ProbeSilent),
     ] {
         let words = [pack(guest::EVENT, 0, 0, 0, 0, event)];
-        let (_, _, answer) = perform(&sandbox(256, 511), &words, 100);
+        let (_, _, answer) = perform(&sandbox(256, 511), &words, &[], 100);
         assert_eq!((answer.ending, answer.steps), (ending, 3));
     }
 }
@@ -312,7 +357,8 @@ fn trial(bytes: &[u8]) -> String {
         start: 0,
         table: &table,
     };
-    let (answer, mut machine) = install(&TRIAL, &policy, &mut memory);
+    let landings: Vec<u32> = (0..1024).collect();
+    let (answer, mut machine) = install(&TRIAL, &policy, &landings, &mut memory);
     if !answer.is_taken() {
         return rejected(answer);
     }
@@ -357,7 +403,7 @@ fn a_refused_installation_yields_a_faulted_machine() {
         start: 2,
         table: &table,
     };
-    let (answer, machine) = install(&TRIAL, &policy, &mut memory);
+    let (answer, machine) = install(&TRIAL, &policy, &[], &mut memory);
     assert_eq!(answer, refused(Refusal::BadPolicy, 0));
     assert_eq!(memory, [5; 1024]);
     assert_eq!(

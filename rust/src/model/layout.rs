@@ -1,5 +1,6 @@
 //! Right layouts and the mask.
 
+use super::words::LANDING_CELLS;
 use crate::Layout;
 
 /// Whether two spans of addresses, each a first address and the address after
@@ -18,6 +19,7 @@ pub fn is_right(layout: &Layout) -> bool {
         state_cell,
         table,
         states,
+        landings,
         ..
     } = layout;
     if !(1..=4096).contains(&cells) || !(1..=16).contains(&states) {
@@ -32,13 +34,16 @@ pub fn is_right(layout: &Layout) -> bool {
         return false;
     }
     let table_end = u64::from(table) + 16 * u64::from(states);
-    if table_end > u64::from(cells) {
+    let landings_end = u64::from(landings) + u64::from(LANDING_CELLS);
+    if table_end > u64::from(cells) || landings_end > u64::from(cells) {
         return false;
     }
     let sandbox = (u64::from(sandbox_low), u64::from(sandbox_high) + 1);
     let state = (u64::from(state_cell), u64::from(state_cell) + 1);
     let table = (u64::from(table), table_end);
-    apart(sandbox, state) && apart(sandbox, table) && apart(state, table)
+    let landings = (u64::from(landings), landings_end);
+    let regions = [sandbox, state, table, landings];
+    (1..regions.len()).all(|i| regions[..i].iter().all(|&other| apart(regions[i], other)))
 }
 
 /// The mask of an address: on a right layout, always an address of the sandbox.

@@ -10,6 +10,7 @@ use crate::{Answer, Layout, Machine, Policy, Record};
 pub fn load(
     layout: &Layout,
     policy: &Policy,
+    landings: &[u32],
     bytes: &[u8],
     commands: &mut [u64],
     memory: &mut [u32],
@@ -28,7 +29,7 @@ pub fn load(
     if !checked.is_taken() {
         return (checked, Machine::REFUSED);
     }
-    let (installed, machine) = install(layout, policy, memory);
+    let (installed, machine) = install(layout, policy, landings, memory);
     if !installed.is_taken() {
         return (installed, machine);
     }
@@ -40,12 +41,13 @@ pub fn load(
 pub fn load_record(
     layout: &Layout,
     policy: &Policy,
+    landings: &[u32],
     bytes: &[u8],
     commands: &mut [u64],
     memory: &mut [u32],
     record: &mut Record,
 ) -> Answer {
-    let (answer, machine) = load(layout, policy, bytes, commands, memory);
+    let (answer, machine) = load(layout, policy, landings, bytes, commands, memory);
     *record = machine.to_record();
     answer
 }

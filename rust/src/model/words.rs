@@ -5,6 +5,10 @@ use crate::Refusal;
 
 /// The most instructions of a routine.
 pub const LONGEST: usize = 1023;
+/// The most bundles of a list, and so the instructions that a landing can be.
+pub const MOST_BUNDLES: u32 = 1024;
+/// The cells that hold a bit for each landing.
+pub const LANDING_CELLS: u32 = 32;
 /// Commands in a bundle.
 pub const BUNDLE: usize = 4;
 /// The register that no guest field names.

@@ -5,6 +5,7 @@ use hemdroas::model::words::{command, guest, pack, COMMAND_BITS, GUEST_FIELDS, L
 use hemdroas::model::{bundle_count, is_right};
 use hemdroas::{Layout, Policy};
 use std::io::Write;
+use std::ops::Range;
 
 /// splitmix64: small, and the same on every machine.
 pub struct Rng(u64);
@@ -84,6 +85,7 @@ pub const TRIAL: Layout = Layout {
     table: 16,
     states: 2,
     code_base: 4096,
+    landings: 64,
 };
 pub const TRIAL_READINGS: [u32; 3] = [1800, 1950, 2100];
 
@@ -126,7 +128,7 @@ pub fn right_layout(rng: &mut Rng, bundles: usize) -> Layout {
             rng.between(1, 16)
         };
         let sandbox = 1 << rng.below(12);
-        let least = sandbox + 16 * states + 1;
+        let least = sandbox + 16 * states + 1 + 32;
         if least > 4096 {
             continue;
         }
@@ -135,20 +137,56 @@ pub fn right_layout(rng: &mut Rng, bundles: usize) -> Layout {
         } else {
             rng.between(least, 4096)
         };
-        let sandbox_low = (rng.below(cells / sandbox) * sandbox) as u32;
+        let low = rng.below(cells / sandbox) * sandbox;
+        let mut regions = vec![low..low + sandbox];
+        let (Some(table), Some(landings), Some(state_cell)) = (
+            place(rng, cells, 16 * states, &mut regions),
+            place(rng, cells, 32, &mut regions),
+            place(rng, cells, 1, &mut regions),
+        ) else {
+            continue;
+        };
         let layout = Layout {
             cells: cells as u32,
-            sandbox_low,
-            sandbox_high: sandbox_low + sandbox as u32 - 1,
-            state_cell: rng.below(cells) as u32,
-            table: rng.below(cells - 16 * states + 1) as u32,
+            sandbox_low: low as u32,
+            sandbox_high: (low + sandbox - 1) as u32,
+            state_cell,
+            table,
             states: states as u32,
             code_base,
+            landings,
         };
-        if is_right(&layout) {
-            return layout;
+        assert!(is_right(&layout), "{layout:?}");
+        return layout;
+    }
+}
+
+/// A place for so many cells beside the regions, to which it is added, if a few
+/// tries find one.
+fn place(
+    rng: &mut Rng,
+    cells: usize,
+    length: usize,
+    regions: &mut Vec<Range<usize>>,
+) -> Option<u32> {
+    for _ in 0..8 {
+        let from = rng.below(cells - length + 1);
+        let place = from..from + length;
+        let beside = |other: &Range<usize>| other.end <= place.start || place.end <= other.start;
+        if regions.iter().all(beside) {
+            regions.push(place);
+            return Some(from as u32);
         }
     }
+    None
+}
+
+/// A rising list of landings: all of them, none, or some, the first more often
+/// than those that no short list has.
+pub fn landings(rng: &mut Rng) -> Vec<u32> {
+    let share = rng.pick(&[0, 30, 70, 95, 100, 100]);
+    let most = rng.pick(&[8, 64, 1024]);
+    (0..most).filter(|_| rng.chance(share)).collect()
 }
 
 /// A layout with one to three of its numbers altered; few of them stay right.
@@ -158,7 +196,7 @@ pub fn senseless_layout(rng: &mut Rng, layout: &Layout) -> Layout {
         return Layout::from_array(std::array::from_fn(|_| rng.word()));
     }
     for _ in 0..rng.between(1, 3) {
-        let field = rng.below(7);
+        let field = rng.below(8);
         let other = rng.pick(&array);
         array[field] = match rng.below(12) {
             0 => 0,
