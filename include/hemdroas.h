@@ -87,9 +87,10 @@ uint32_t hemdroas_word_right(uint32_t states, uint32_t word);
 
 /* Writes the start state to cell M, the policy's table from cell P on and the
  * bits of the landings from cell Q on, and yields a machine at the first
- * command. landings are the instructions, rising, that a GOX may go to. states must be the layout's S, len
- * 16 times that; table[16 * s + e] is the state after event e in state s, or
- * 255 where event e is not allowed. */
+ * command. states must be the layout's S, len 16 times that;
+ * table[16 * s + e] is the state after event e in state s, or 255 where event
+ * e is not allowed. landings are the instructions that a GOX may go to,
+ * strictly rising; count may be 0. */
 void hemdroas_install(const uint32_t layout[8], uint32_t states, uint32_t start, const uint8_t *table, size_t len,
                       const uint32_t *landings, size_t count, uint32_t *memory, size_t cells, uint32_t machine[11], uint32_t answer[2]);
 
