@@ -1,14 +1,19 @@
-//! The C library and the model side by side, on the same inputs in one run.
+//! The C library and the quick baseline side by side, on the same inputs in one
+//! run.
 //!
 //! `cargo run --release --features native --example bench`
 //!
 //! Each figure is taken over many rounds; a round times a batch of calls of
 //! one and then of the other, turn about, so that a change of the machine's
-//! pace meets both. The ratio is the library's time over the model's: below 1,
+//! pace meets both. The ratio is the library's time over the baseline's: below 1,
 //! the library is faster.
 
-use hemdroas::model::words::{guest, pack, GUEST_GRADE, LONGEST};
-use hemdroas::{model, native, Answer, Ending, Layout, Machine, Policy, RunAnswer};
+mod quick;
+
+use hemdroas::model::words::Fields;
+use hemdroas::model::{bundle_count, Instr};
+use hemdroas::names::{EVENTS, GUEST_REGISTERS, MOST_BUNDLES, MOST_INSTRUCTIONS};
+use hemdroas::{native, Answer, Ending, Layout, Machine, Policy, RunAnswer};
 use std::hint::black_box;
 use std::time::{Duration, Instant};
 
@@ -16,13 +21,13 @@ const ROUNDS: usize = 500;
 const BATCH: Duration = Duration::from_micros(300);
 
 const LAYOUT: Layout = Layout {
-    cells: 4096,
-    sandbox_low: 2048,
-    sandbox_high: 4095,
-    state_cell: 0,
+    size: 4096,
+    low: 2048,
+    high: 4095,
+    cell: 0,
     table: 16,
     states: 16,
-    code_base: 4096,
+    base: 4096,
     landings: 512,
 };
 const BUDGET: u32 = 20_000;
@@ -46,94 +51,114 @@ fn figure(
     units: usize,
     unit: &str,
     library: &mut dyn FnMut(),
-    model: &mut dyn FnMut(),
+    quick: &mut dyn FnMut(),
 ) {
     let mut calls = 1;
-    while time(calls, library).max(time(calls, model)) * f64::from(calls) < BATCH.as_nanos() as f64
+    while time(calls, library).max(time(calls, quick)) * f64::from(calls) < BATCH.as_nanos() as f64
     {
         calls *= 2;
     }
-    let (mut library_times, mut model_times) = (Vec::new(), Vec::new());
+    let (mut library_times, mut quick_times) = (Vec::new(), Vec::new());
     for round in 0..ROUNDS {
         if round % 2 == 0 {
             library_times.push(time(calls, library));
-            model_times.push(time(calls, model));
+            quick_times.push(time(calls, quick));
         } else {
-            model_times.push(time(calls, model));
+            quick_times.push(time(calls, quick));
             library_times.push(time(calls, library));
         }
     }
     let (library_least, library_middle) = minimum_and_median(&mut library_times);
-    let (model_least, model_middle) = minimum_and_median(&mut model_times);
+    let (quick_least, quick_middle) = minimum_and_median(&mut quick_times);
     let each = |time: f64| time / units as f64;
     println!(
         "| {name} | {units} {unit}s | {:.2} | {:.2} | {:.2} | {:.2} | {:.2} | {:.2} |",
         each(library_least),
-        each(model_least),
-        library_least / model_least,
+        each(quick_least),
+        library_least / quick_least,
         each(library_middle),
-        each(model_middle),
-        library_middle / model_middle,
+        each(quick_middle),
+        library_middle / quick_middle,
     );
 }
 
 /// A routine of the full length, of all kinds in turn with fields that differ.
 fn full_length() -> Vec<u64> {
     let mut state = 7_u64;
-    (0..LONGEST)
+    let mut below = |end: u32| {
+        state = state
+            .wrapping_mul(6_364_136_223_846_793_005)
+            .wrapping_add(1);
+        (state >> 33) as u32 % end
+    };
+    (0..MOST_INSTRUCTIONS)
         .map(|at| {
-            state = state
-                .wrapping_mul(6_364_136_223_846_793_005)
-                .wrapping_add(1);
-            let random = state >> 16;
-            let kind = 1 + at as u64 % 12;
-            let v = match kind {
-                guest::GOIF => random as u32 % LONGEST as u32,
-                _ => random as u32,
+            let kind = 1 + at as u32 % 12;
+            let fields = Fields {
+                kind,
+                d: below(GUEST_REGISTERS),
+                a: below(GUEST_REGISTERS),
+                b: below(GUEST_REGISTERS),
+                c: below(4),
+                zero: 0,
+                // Within the bounds of SAR and EVENT, and a landing of GOIF.
+                v: below(if kind == 1 { u32::MAX } else { EVENTS }),
             };
-            let fields = pack(0, random, random >> 4, random >> 8, random >> 12, 0);
-            (fields & 0xff_ff00 | kind | u64::from(v) << 32) & GUEST_GRADE[kind as usize]
+            let instr = Instr::of_kind(fields).expect("there are kinds 1 to 12");
+            instr.word()
         })
         .collect()
 }
 
 /// Every landing that there can be.
 fn all_landings() -> Vec<u32> {
-    (0..1024).collect()
+    (0..MOST_BUNDLES as u32).collect()
 }
 
 /// Adds 1 to each cell of the sandbox, with some arithmetic beside it.
 fn cell_loop() -> Vec<u64> {
-    vec![
-        pack(guest::SET, 2, 0, 0, 0, 1),
-        pack(guest::LOAD, 3, 1, 0, 0, 0),
-        pack(guest::ADD, 3, 3, 2, 0, 0),
-        pack(guest::STORE, 0, 1, 3, 0, 0),
-        pack(guest::ADD, 1, 1, 2, 0, 0),
-        pack(guest::AND, 4, 3, 1, 0, 0),
-        pack(guest::SUB, 5, 4, 3, 0, 0),
-        pack(guest::OR, 6, 5, 2, 0, 0),
-        pack(guest::SAR, 5, 6, 0, 0, 3),
-        pack(guest::GOIF, 0, 0, 0, 0, 1),
-    ]
+    let routine = [
+        Instr::Set { d: 2, v: 1 },
+        Instr::Load { d: 3, a: 1 },
+        Instr::Add { d: 3, a: 3, b: 2 },
+        Instr::Store { a: 1, b: 3 },
+        Instr::Add { d: 1, a: 1, b: 2 },
+        Instr::And { d: 4, a: 3, b: 1 },
+        Instr::Sub { d: 5, a: 4, b: 3 },
+        Instr::Or { d: 6, a: 5, b: 2 },
+        Instr::Sar { d: 5, a: 6, v: 3 },
+        Instr::GoIf {
+            a: 0,
+            b: 0,
+            c: 0,
+            v: 1,
+        },
+    ];
+    routine.map(Instr::word).to_vec()
 }
 
 /// Orders and readings without end.
 fn event_loop() -> Vec<u64> {
-    vec![
-        pack(guest::EVENT, 0, 0, 0, 0, 0),
-        pack(guest::EVENT, 0, 0, 0, 0, 9),
-        pack(guest::EVENT, 0, 0, 0, 0, 3),
-        pack(guest::EVENT, 0, 0, 0, 0, 12),
-        pack(guest::GOIF, 0, 0, 0, 0, 0),
-    ]
+    let routine = [
+        Instr::Event { v: 0 },
+        Instr::Event { v: 9 },
+        Instr::Event { v: 3 },
+        Instr::Event { v: 12 },
+        Instr::GoIf {
+            a: 0,
+            b: 0,
+            c: 0,
+            v: 0,
+        },
+    ];
+    routine.map(Instr::word).to_vec()
 }
 
 fn rewritten(words: &[u64]) -> Vec<u64> {
-    let mut list = vec![0; 4 * model::bundle_count(words.len())];
+    let mut list = vec![0; 4 * bundle_count(words.len())];
     let size = list.len() as u32;
     assert_eq!(
-        model::rewrite(&LAYOUT, words, &mut list),
+        quick::rewrite(&LAYOUT, words, &mut list),
         Answer::Taken(size)
     );
     assert_eq!(native::check(&LAYOUT, &list), Answer::Taken(0));
@@ -144,19 +169,19 @@ type Run = fn(&Layout, &[u64], &mut Machine, &mut [u32], u32, &[u32], &mut [u32]
 
 /// A routine in a machine of its own, started anew by each call.
 fn runner<'a>(run: Run, list: &'a [u64], table: &'a [u8]) -> impl FnMut() -> RunAnswer + 'a {
-    let mut memory = vec![0; LAYOUT.cells as usize];
+    let mut memory = vec![0; LAYOUT.size as usize];
     let policy = Policy {
         states: 16,
         start: 0,
         table,
     };
-    let (answer, installed) = model::install(&LAYOUT, &policy, &all_landings(), &mut memory);
+    let (answer, installed) = quick::install(&LAYOUT, &policy, &all_landings(), &mut memory);
     assert_eq!(answer, Answer::Taken(0));
     let readings: Vec<u32> = (0..BUDGET).collect();
     let mut log = vec![0; 2 * BUDGET as usize];
     move || {
         let mut machine = installed;
-        memory[LAYOUT.state_cell as usize] = 0;
+        memory[LAYOUT.cell as usize] = 0;
         let answer = run(
             &LAYOUT,
             black_box(list),
@@ -174,8 +199,8 @@ fn runner<'a>(run: Run, list: &'a [u64], table: &'a [u8]) -> impl FnMut() -> Run
 fn running(name: &str, words: &[u64], table: &[u8]) {
     let list = rewritten(words);
     let mut library = runner(native::run, &list, table);
-    let mut model = runner(model::run, &list, table);
-    let (answer, expected) = (library(), model());
+    let mut quick = runner(quick::run, &list, table);
+    let (answer, expected) = (library(), quick());
     assert_eq!(answer, expected);
     assert_eq!((answer.ending, answer.steps), (Ending::Spent, BUDGET));
     let steps = BUDGET as usize;
@@ -184,7 +209,7 @@ fn running(name: &str, words: &[u64], table: &[u8]) {
         steps,
         "step",
         &mut || _ = black_box(library()),
-        &mut || _ = black_box(model()),
+        &mut || _ = black_box(quick()),
     );
 }
 
@@ -245,7 +270,7 @@ fn main() {
         "Nanoseconds per unit, over {ROUNDS} rounds of at least {} microseconds each.\n",
         BATCH.as_micros()
     );
-    println!("| figure | one call | library, min | model, min | ratio, min | library, median | model, median | ratio, median |");
+    println!("| figure | one call | library, min | baseline, min | ratio, min | library, median | baseline, median | ratio, median |");
     println!("|---|---|---|---|---|---|---|---|");
 
     // Each event leads on to the next of sixteen states.
@@ -261,7 +286,7 @@ fn main() {
     assert_eq!(theirs, ours);
     figure(
         "rewrite",
-        LONGEST,
+        MOST_INSTRUCTIONS,
         "instruction",
         &mut || {
             _ = black_box(native::rewrite(
@@ -271,7 +296,7 @@ fn main() {
             ))
         },
         &mut || {
-            _ = black_box(model::rewrite(
+            _ = black_box(quick::rewrite(
                 &LAYOUT,
                 black_box(&words),
                 black_box(&mut ours),
@@ -280,38 +305,38 @@ fn main() {
     );
     figure(
         "check",
-        LONGEST + 1,
+        MOST_INSTRUCTIONS + 1,
         "bundle",
         &mut || _ = black_box(native::check(&LAYOUT, black_box(&list))),
-        &mut || _ = black_box(model::check(&LAYOUT, black_box(&list))),
+        &mut || _ = black_box(quick::check(&LAYOUT, black_box(&list))),
     );
 
-    let mut bytes = vec![0; 2 + 10 * LONGEST];
-    let Answer::Taken(size) = model::write(&words, &mut bytes) else {
+    let mut bytes = vec![0; 2 + 10 * MOST_INSTRUCTIONS];
+    let Answer::Taken(size) = quick::write(&words, &mut bytes) else {
         panic!("a full-length routine is written");
     };
     bytes.truncate(size as usize);
-    let (mut ours, mut theirs) = (vec![0; LONGEST], vec![0; LONGEST]);
-    let count = Answer::Taken(LONGEST as u32);
-    assert_eq!(model::read(&bytes, &mut ours), count);
+    let (mut ours, mut theirs) = (vec![0; MOST_INSTRUCTIONS], vec![0; MOST_INSTRUCTIONS]);
+    let count = Answer::Taken(MOST_INSTRUCTIONS as u32);
+    assert_eq!(quick::read(&bytes, &mut ours), count);
     assert_eq!(native::read(&bytes, &mut theirs), count);
     assert_eq!((&ours, &theirs), (&words, &words));
     figure(
         "read",
-        LONGEST,
+        MOST_INSTRUCTIONS,
         "instruction",
         &mut || _ = black_box(native::read(black_box(&bytes), black_box(&mut theirs))),
-        &mut || _ = black_box(model::read(black_box(&bytes), black_box(&mut ours))),
+        &mut || _ = black_box(quick::read(black_box(&bytes), black_box(&mut ours))),
     );
     let (mut ours, mut theirs) = (vec![0; bytes.len()], vec![0; bytes.len()]);
     assert_eq!(native::write(&words, &mut theirs), Answer::Taken(size));
     assert_eq!(theirs, bytes);
     figure(
         "write",
-        LONGEST,
+        MOST_INSTRUCTIONS,
         "instruction",
         &mut || _ = black_box(native::write(black_box(&words), black_box(&mut theirs))),
-        &mut || _ = black_box(model::write(black_box(&words), black_box(&mut ours))),
+        &mut || _ = black_box(quick::write(black_box(&words), black_box(&mut ours))),
     );
 
     let tables = right_tables();
@@ -325,7 +350,7 @@ fn main() {
     };
     let (mut ours, mut theirs) = (vec![0; 4096], vec![0; 4096]);
     let landings = all_landings();
-    let expected = model::install(&LAYOUT, &policy, &landings, &mut ours);
+    let expected = quick::install(&LAYOUT, &policy, &landings, &mut ours);
     assert_eq!(
         native::install(&LAYOUT, &policy, &landings, &mut theirs),
         expected
@@ -344,7 +369,7 @@ fn main() {
             ))
         },
         &mut || {
-            _ = black_box(model::install(
+            _ = black_box(quick::install(
                 &LAYOUT,
                 black_box(&policy),
                 black_box(&landings),

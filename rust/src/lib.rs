@@ -3,16 +3,18 @@
 //!
 //! [`native`] (feature `native`) wraps the C library that firmware links.
 //! [`model`] is a second implementation of the same rules in plain Rust,
-//! written from the rules alone, so that tests can hold the library against
-//! it. Both speak the types of this module, and their answers compare directly.
+//! written from the rules alone and to be read beside them, so that tests can
+//! hold the library against it. Both speak the types of this module and the
+//! numbers of [`names`], and their answers compare directly.
 
 #![deny(missing_docs)]
 
 pub mod model;
+pub mod names;
 #[cfg(feature = "native")]
 pub mod native;
 mod types;
 
 pub use types::{
-    Answer, Ending, Layout, Machine, Made, Policy, Record, Refusal, RunAnswer, Status,
+    Answer, Ending, Layout, LayoutArray, Machine, Made, Policy, Record, Refusal, RunAnswer, Status,
 };

@@ -1,16 +1,32 @@
-//! The rules in plain Rust, written from the rules alone.
+//! The rules in plain Rust, to be read beside them.
+//!
+//! Each function renders the sentence that stands above it, in its words and
+//! its order: numbers of 64 bits where nothing may wrap, fields one by one,
+//! ranges and sets of addresses. Nothing here is meant to be quick.
 
+mod arithmetic;
 mod befores;
-mod bundles;
 mod bytes;
+mod check;
+mod commands;
+mod guest;
+mod install;
+mod instructions;
 mod layout;
 mod loading;
 mod machine;
+mod outputs;
+mod rewrite;
 pub mod words;
 
 pub use befores::befores;
-pub use bundles::{bundle_count, check, rewrite};
 pub use bytes::{read, write};
-pub use layout::{is_right, mask};
+pub use check::check;
+pub use commands::Command;
+pub use guest::Guest;
+pub use install::{install, install_record, word_right};
+pub use instructions::Instr;
+pub use layout::{bundle_count, is_right, mask};
 pub use loading::{load, load_record};
-pub use machine::{install, install_record, run, run_record, word_right};
+pub use machine::{run, run_record};
+pub use rewrite::rewrite;

@@ -3,7 +3,9 @@
 //! A number that the header does not define makes a wrapper panic: a library
 //! that answers so is not the one this package was written for.
 
-use crate::{Answer, Ending, Layout, Machine, Made, Policy, Record, Refusal, RunAnswer};
+use crate::{
+    Answer, Ending, Layout, LayoutArray, Machine, Made, Policy, Record, Refusal, RunAnswer,
+};
 
 extern "C" {
     fn hemdroas_read(
@@ -21,7 +23,7 @@ extern "C" {
         answer: *mut [u32; 2],
     );
     fn hemdroas_rewrite(
-        layout: *const [u32; 8],
+        layout: *const LayoutArray,
         words: *const u64,
         n: usize,
         commands: *mut u64,
@@ -29,14 +31,14 @@ extern "C" {
         answer: *mut [u32; 2],
     );
     fn hemdroas_check(
-        layout: *const [u32; 8],
+        layout: *const LayoutArray,
         commands: *const u64,
         n: usize,
         answer: *mut [u32; 2],
     );
     fn hemdroas_word_right(states: u32, word: u32) -> u32;
     fn hemdroas_install(
-        layout: *const [u32; 8],
+        layout: *const LayoutArray,
         states: u32,
         start: u32,
         table: *const u8,
@@ -45,11 +47,11 @@ extern "C" {
         count: usize,
         memory: *mut u32,
         cells: usize,
-        machine: *mut [u32; 11],
+        machine: *mut [u32; Record::LENGTH],
         answer: *mut [u32; 2],
     );
     fn hemdroas_load(
-        layout: *const [u32; 8],
+        layout: *const LayoutArray,
         states: u32,
         start: u32,
         table: *const u8,
@@ -62,14 +64,14 @@ extern "C" {
         room: usize,
         memory: *mut u32,
         cells: usize,
-        machine: *mut [u32; 11],
+        machine: *mut [u32; Record::LENGTH],
         answer: *mut [u32; 2],
     );
     fn hemdroas_run(
-        layout: *const [u32; 8],
+        layout: *const LayoutArray,
         commands: *const u64,
         n: usize,
-        machine: *mut [u32; 11],
+        machine: *mut [u32; Record::LENGTH],
         memory: *mut u32,
         cells: usize,
         budget: u32,
@@ -80,10 +82,10 @@ extern "C" {
         answer: *mut [u32; 4],
     );
     fn hemdroas_preview(
-        layout: *const [u32; 8],
+        layout: *const LayoutArray,
         commands: *const u64,
         n: usize,
-        machine: *const [u32; 11],
+        machine: *const [u32; Record::LENGTH],
         memory: *const u32,
         cells: usize,
         budget: u32,
@@ -91,7 +93,7 @@ extern "C" {
         r: usize,
         log: *mut u32,
         g: usize,
-        after: *mut [u32; 11],
+        after: *mut [u32; Record::LENGTH],
         answer: *mut [u32; 4],
     );
     fn hemdroas_befores(
@@ -326,7 +328,7 @@ pub fn run(
 }
 
 /// [`run`] on a record of the C interface, whose status may be any number:
-/// above 4 counts as faulted and comes back as 3, unless the run is refused.
+/// one above all counts as faulted and comes back as 3, unless the run is refused.
 pub fn run_record(
     layout: &Layout,
     commands: &[u64],

@@ -1,5 +1,8 @@
 //! The types that the library's wrappers and the model share.
 
+use crate::names::REGISTERS;
+use std::fmt;
+
 /// Where everything lies in the memory of one drum.
 ///
 /// Any numbers may be written here; whether they make a right layout is for
@@ -8,51 +11,52 @@
 #[derive(Clone, Copy, Debug, PartialEq, Eq)]
 pub struct Layout {
     /// U, the number of memory cells.
-    pub cells: u32,
+    pub size: u32,
     /// SL, the first cell of the sandbox.
-    pub sandbox_low: u32,
+    pub low: u32,
     /// SH, the last cell of the sandbox.
-    pub sandbox_high: u32,
+    pub high: u32,
     /// M, the cell that holds the policy's state.
-    pub state_cell: u32,
+    pub cell: u32,
     /// P, the first cell of the policy's table.
     pub table: u32,
     /// S, the number of policy states.
     pub states: u32,
-    /// B, the address of the first command: any number, but a multiple of the
-    /// list's length.
-    pub code_base: u32,
+    /// B, the address of the first command: any number, but for a list a
+    /// multiple of its length.
+    pub base: u32,
     /// Q, the first of 32 cells with a bit for each landing.
     pub landings: u32,
 }
 
+/// A layout as the C interface takes it: U, SL, SH, M, P, S, B, Q.
+pub type LayoutArray = [u32; 8];
+
 impl Layout {
-    /// The layout as the C interface takes it: U, SL, SH, M, P, S, B, Q.
-    pub fn to_array(&self) -> [u32; 8] {
+    /// The layout as the C interface takes it.
+    pub fn to_array(&self) -> LayoutArray {
         [
-            self.cells,
-            self.sandbox_low,
-            self.sandbox_high,
-            self.state_cell,
+            self.size,
+            self.low,
+            self.high,
+            self.cell,
             self.table,
             self.states,
-            self.code_base,
+            self.base,
             self.landings,
         ]
     }
 
-    /// The layout that an array U, SL, SH, M, P, S, B, Q stands for.
-    pub fn from_array(array: [u32; 8]) -> Self {
-        let [cells, sandbox_low, sandbox_high, state_cell, table, states, code_base, landings] =
-            array;
+    /// The layout that an array of the C interface stands for.
+    pub fn from_array([size, low, high, cell, table, states, base, landings]: LayoutArray) -> Self {
         Layout {
-            cells,
-            sandbox_low,
-            sandbox_high,
-            state_cell,
+            size,
+            low,
+            high,
+            cell,
             table,
             states,
-            code_base,
+            base,
             landings,
         }
     }
@@ -73,38 +77,38 @@ pub struct Policy<'a> {
 /// What a machine is doing.
 #[derive(Clone, Copy, Debug, PartialEq, Eq)]
 pub enum Status {
-    /// It has steps left to do.
+    /// 0: it has steps left to do.
     Running,
-    /// It came to a HALT.
+    /// 1: it came to a HALT.
     Ended,
-    /// The policy had no arrow for its event.
+    /// 2: the policy had no arrow for its event.
     Stopped,
-    /// It left its list, its memory or the command words.
+    /// 3: it left its list, its memory or the command words.
     Faulted,
-    /// It took a jump through a register to no landing.
+    /// 4: it took a jump through a register to no landing.
     Strayed,
 }
 
 impl Status {
+    /// Every status, in the order of their numbers from 0.
+    pub const ALL: [Status; 5] = [
+        Status::Running,
+        Status::Ended,
+        Status::Stopped,
+        Status::Faulted,
+        Status::Strayed,
+    ];
+
     /// The number in a record.
     pub fn number(self) -> u32 {
-        match self {
-            Status::Running => 0,
-            Status::Ended => 1,
-            Status::Stopped => 2,
-            Status::Faulted => 3,
-            Status::Strayed => 4,
-        }
+        self as u32
     }
 
-    /// The status of a record's number: above 4 counts as faulted.
+    /// The status of a record's number: one above all counts as faulted.
     pub fn from_number(number: u32) -> Self {
-        match number {
-            0 => Status::Running,
-            1 => Status::Ended,
-            2 => Status::Stopped,
-            4 => Status::Strayed,
-            _ => Status::Faulted,
+        match Status::ALL.get(number as usize) {
+            Some(&status) => status,
+            None => Status::Faulted,
         }
     }
 }
@@ -112,8 +116,8 @@ impl Status {
 /// A machine between two runs.
 #[derive(Clone, Copy, Debug, PartialEq, Eq)]
 pub struct Machine {
-    /// r0 to r7, which the guest names, and the hidden register 8.
-    pub registers: [u32; 9],
+    /// The guest's registers, and the hidden one, which is the last.
+    pub regs: [u32; REGISTERS],
     /// The address of the next command.
     pub pc: u32,
     /// What the machine is doing.
@@ -121,63 +125,77 @@ pub struct Machine {
 }
 
 impl Machine {
+    /// What installing yields: at the first command, with registers 0.
+    pub fn new(base: u32) -> Self {
+        Machine {
+            regs: [0; REGISTERS],
+            pc: base,
+            status: Status::Running,
+        }
+    }
+
     /// What installing yields after a refusal: no machine to run.
     pub const REFUSED: Machine = Machine {
-        registers: [0; 9],
+        regs: [0; REGISTERS],
         pc: 0,
         status: Status::Faulted,
     };
 
     /// The machine as the C interface holds it.
     pub fn to_record(&self) -> Record {
-        let mut record = [0; 11];
-        record[..9].copy_from_slice(&self.registers);
-        record[9] = self.pc;
-        record[10] = self.status.number();
-        Record(record)
+        let mut record = Record([0; Record::LENGTH]);
+        record.0[..REGISTERS].copy_from_slice(&self.regs);
+        record.0[Record::PC] = self.pc;
+        record.0[Record::STATUS] = self.status.number();
+        record
     }
 }
 
-/// A machine as the C interface holds it: r0 to r8, pc, status. A host may
+/// A machine as the C interface holds it: its registers, pc, status. A host may
 /// have written any number into any of them.
 #[derive(Clone, Copy, Debug, PartialEq, Eq)]
-pub struct Record(pub [u32; 11]);
+pub struct Record(pub [u32; Record::LENGTH]);
 
 impl Record {
+    /// The place of the pc, which follows the registers.
+    pub const PC: usize = REGISTERS;
+    /// The place of the status.
+    pub const STATUS: usize = REGISTERS + 1;
+    /// The numbers of a record.
+    pub const LENGTH: usize = REGISTERS + 2;
+
     /// The machine that this record stands for.
     pub fn to_machine(&self) -> Machine {
-        let mut registers = [0; 9];
-        registers.copy_from_slice(&self.0[..9]);
         Machine {
-            registers,
-            pc: self.0[9],
-            status: Status::from_number(self.0[10]),
+            regs: std::array::from_fn(|register| self.0[register]),
+            pc: self.0[Record::PC],
+            status: Status::from_number(self.0[Record::STATUS]),
         }
     }
 }
 
-/// Why something was rejected.
+/// Why something was refused. It prints as the word of the rules' table.
 #[derive(Clone, Copy, Debug, PartialEq, Eq)]
 pub enum Refusal {
     /// 1: bytes end early.
-    ShortWeight,
+    Short,
     /// 2: a map of 64 or more, a present field that is 0 or not the kind's, or
     /// a stray bit in a word.
-    ForeignMatter,
+    Foreign,
     /// 3: a kind above 12.
-    UnknownVariety,
+    UnknownKind,
     /// 4: a register, condition, shift or event out of its range.
-    OffGrade,
+    OffRange,
     /// 5: more than 1,023 instructions.
     Oversize,
     /// 6: bytes after the last instruction.
-    Overweight,
+    Trailing,
     /// 7: a layout that is not right, or a memory of another length.
     BadLayout,
     /// 8: a jump behind the end of the routine.
     BadLanding,
     /// 9: the output is too short.
-    SmallHopper,
+    SmallOutput,
     /// 10: a policy that cannot be installed.
     BadPolicy,
     /// 11: a bundle of no allowed shape, or a last one that is not HALT.
@@ -194,49 +212,46 @@ pub enum Refusal {
 }
 
 impl Refusal {
-    /// Every refusal, in the order of their numbers.
-    pub const ALL: [Refusal; 15] = [
-        Refusal::ShortWeight,
-        Refusal::ForeignMatter,
-        Refusal::UnknownVariety,
-        Refusal::OffGrade,
-        Refusal::Oversize,
-        Refusal::Overweight,
-        Refusal::BadLayout,
-        Refusal::BadLanding,
-        Refusal::SmallHopper,
-        Refusal::BadPolicy,
-        Refusal::BadBundle,
-        Refusal::BadCount,
-        Refusal::BadBase,
-        Refusal::BadLandings,
-        Refusal::BadPair,
+    /// Every refusal with its number and its word.
+    pub const TABLE: [(Refusal, u32, &'static str); 15] = [
+        (Refusal::Short, 1, "short weight"),
+        (Refusal::Foreign, 2, "foreign matter"),
+        (Refusal::UnknownKind, 3, "unknown variety"),
+        (Refusal::OffRange, 4, "off grade"),
+        (Refusal::Oversize, 5, "oversize"),
+        (Refusal::Trailing, 6, "overweight"),
+        (Refusal::BadLayout, 7, "bad layout"),
+        (Refusal::BadLanding, 8, "bad landing"),
+        (Refusal::SmallOutput, 9, "small hopper"),
+        (Refusal::BadPolicy, 10, "bad policy"),
+        (Refusal::BadBundle, 11, "bad bundle"),
+        (Refusal::BadCount, 12, "bad count"),
+        (Refusal::BadBase, 13, "bad base"),
+        (Refusal::BadLandings, 14, "bad landing list"),
+        (Refusal::BadPair, 17, "bad pair"),
     ];
 
-    /// The number: 1 to 14, or 17.
+    fn row(self) -> (Refusal, u32, &'static str) {
+        let mut rows = Refusal::TABLE.into_iter();
+        rows.find(|row| row.0 == self)
+            .expect("each refusal has its row")
+    }
+
+    /// The number of the table.
     pub fn number(self) -> u32 {
-        match self {
-            Refusal::ShortWeight => 1,
-            Refusal::ForeignMatter => 2,
-            Refusal::UnknownVariety => 3,
-            Refusal::OffGrade => 4,
-            Refusal::Oversize => 5,
-            Refusal::Overweight => 6,
-            Refusal::BadLayout => 7,
-            Refusal::BadLanding => 8,
-            Refusal::SmallHopper => 9,
-            Refusal::BadPolicy => 10,
-            Refusal::BadBundle => 11,
-            Refusal::BadCount => 12,
-            Refusal::BadBase => 13,
-            Refusal::BadLandings => 14,
-            Refusal::BadPair => 17,
-        }
+        self.row().1
     }
 
     /// The refusal of a number, if there is one.
     pub fn from_number(number: u32) -> Option<Self> {
-        Refusal::ALL.into_iter().find(|r| r.number() == number)
+        let mut rows = Refusal::TABLE.into_iter();
+        rows.find(|row| row.1 == number).map(|row| row.0)
+    }
+}
+
+impl fmt::Display for Refusal {
+    fn fmt(&self, f: &mut fmt::Formatter<'_>) -> fmt::Result {
+        f.write_str(self.row().2)
     }
 }
 
@@ -247,7 +262,7 @@ pub enum Answer {
     /// Taken: so many words, bytes or commands were written. Checking and
     /// installing, which write none of these, give 0.
     Taken(u32),
-    /// Rejected; nothing that was lent has changed.
+    /// Refused; nothing that was lent has changed.
     Refused {
         /// Why.
         refusal: Refusal,
@@ -257,7 +272,7 @@ pub enum Answer {
 }
 
 impl Answer {
-    /// A rejection with its place.
+    /// A refusal with its place.
     pub fn refused(refusal: Refusal, place: usize) -> Self {
         Answer::Refused {
             refusal,
@@ -292,13 +307,13 @@ pub struct Made {
     pub never: u16,
 }
 
-/// How a run came back.
+/// How a run came back. It prints as the word of the rules' table.
 #[derive(Clone, Copy, Debug, PartialEq, Eq)]
 pub enum Ending {
     /// 7: the run was refused, for its layout or its memory's length.
-    BadLayout,
+    Refused,
     /// 20: the routine ended.
-    Ended,
+    Done,
     /// 21: the policy had no arrow, and the routine was stopped.
     NoArrow,
     /// 22: the machine faulted.
@@ -306,7 +321,7 @@ pub enum Ending {
     /// 23: the next event has no room in the log. The machine can go on.
     LogFull,
     /// 24: the next event has no reading. The machine can go on.
-    ProbeSilent,
+    Silent,
     /// 25: the budget is used up. The machine can go on.
     Spent,
     /// 26: a jump through a register to no landing, and the routine was
@@ -315,35 +330,39 @@ pub enum Ending {
 }
 
 impl Ending {
-    /// Every ending, in the order of their numbers.
-    pub const ALL: [Ending; 8] = [
-        Ending::BadLayout,
-        Ending::Ended,
-        Ending::NoArrow,
-        Ending::Fault,
-        Ending::LogFull,
-        Ending::ProbeSilent,
-        Ending::Spent,
-        Ending::NoLanding,
+    /// Every ending with its number and its word.
+    pub const TABLE: [(Ending, u32, &'static str); 8] = [
+        (Ending::Refused, 7, "bad layout"),
+        (Ending::Done, 20, "ended"),
+        (Ending::NoArrow, 21, "no arrow"),
+        (Ending::Fault, 22, "fault"),
+        (Ending::LogFull, 23, "log full"),
+        (Ending::Silent, 24, "probe silent"),
+        (Ending::Spent, 25, "spent"),
+        (Ending::NoLanding, 26, "no landing"),
     ];
 
-    /// The number: 7, or 20 to 26.
+    fn row(self) -> (Ending, u32, &'static str) {
+        let mut rows = Ending::TABLE.into_iter();
+        rows.find(|row| row.0 == self)
+            .expect("each ending has its row")
+    }
+
+    /// The number of the table.
     pub fn number(self) -> u32 {
-        match self {
-            Ending::BadLayout => 7,
-            Ending::Ended => 20,
-            Ending::NoArrow => 21,
-            Ending::Fault => 22,
-            Ending::LogFull => 23,
-            Ending::ProbeSilent => 24,
-            Ending::Spent => 25,
-            Ending::NoLanding => 26,
-        }
+        self.row().1
     }
 
     /// The ending of a number, if there is one.
     pub fn from_number(number: u32) -> Option<Self> {
-        Ending::ALL.into_iter().find(|e| e.number() == number)
+        let mut rows = Ending::TABLE.into_iter();
+        rows.find(|row| row.1 == number).map(|row| row.0)
+    }
+}
+
+impl fmt::Display for Ending {
+    fn fmt(&self, f: &mut fmt::Formatter<'_>) -> fmt::Result {
+        f.write_str(self.row().2)
     }
 }
 

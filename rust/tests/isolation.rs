@@ -5,9 +5,13 @@
 
 mod common;
 
-use common::*;
-use hemdroas::model::bundle_count;
-use hemdroas::model::words::{command, kind, v};
+use common::inputs::{
+    altered_layout, any_command, damage_word, landings, layout_and_routine, policy, shaped_bundle,
+    shaped_list, SomePolicy,
+};
+use common::{cases, say, seed, Rng};
+use hemdroas::model::{bundle_count, Command};
+use hemdroas::names::{CELL_BITS, EVENTS, LANDING_CELLS, NO_ARROW};
 use hemdroas::native::{check, install, rewrite, run};
 use hemdroas::{Answer, Ending, Layout, Machine, RunAnswer, Status};
 
@@ -22,14 +26,14 @@ enum Zone {
 
 fn zone(layout: &Layout, cell: usize) -> Zone {
     let cell = cell as u32;
-    let table = layout.table..layout.table + 16 * layout.states;
-    if (layout.sandbox_low..=layout.sandbox_high).contains(&cell) {
+    let table = layout.table..layout.table + EVENTS * layout.states;
+    if (layout.low..=layout.high).contains(&cell) {
         Zone::Sandbox
-    } else if cell == layout.state_cell {
+    } else if cell == layout.cell {
         Zone::State
     } else if table.contains(&cell) {
         Zone::Table
-    } else if (layout.landings..layout.landings + 32).contains(&cell) {
+    } else if (layout.landings..layout.landings + LANDING_CELLS).contains(&cell) {
         Zone::Landings
     } else {
         Zone::Free
@@ -73,29 +77,26 @@ fn world(
     tally: &mut Tally,
     layout: &Layout,
     list: &[u64],
-    start_and_table: &(u32, Vec<u8>),
+    policy: &SomePolicy,
     landings: &[u32],
     sandbox: &[u32],
     given: &[Given],
 ) -> Vec<Seen> {
-    let inside = layout.sandbox_low as usize..=layout.sandbox_high as usize;
-    let mut memory: Vec<u32> = (0..layout.cells).map(|_| rng.word()).collect();
+    let inside = layout.low as usize..=layout.high as usize;
+    let mut memory: Vec<u32> = (0..layout.size).map(|_| rng.word()).collect();
     memory[inside.clone()].copy_from_slice(sandbox);
     let mut canaries = memory.clone();
 
-    let policy = as_policy(layout, start_and_table);
-    let (answer, mut machine) = install(layout, &policy, landings, &mut memory);
+    let (answer, mut machine) = install(layout, &policy.lend(), landings, &mut memory);
     assert_eq!(answer, Answer::Taken(0));
-    let (start, table) = start_and_table;
-    canaries[layout.state_cell as usize] = *start;
-    for (at, &to) in table.iter().enumerate() {
+    canaries[layout.cell as usize] = policy.start;
+    for (at, &to) in policy.table.iter().enumerate() {
         canaries[layout.table as usize + at] = u32::from(to);
     }
-    for cell in 0..32 {
-        canaries[(layout.landings + cell) as usize] = (0..32)
-            .filter(|bit| landings.contains(&(32 * cell + bit)))
-            .map(|bit| 1 << bit)
-            .sum();
+    let bits = layout.landings as usize..(layout.landings + LANDING_CELLS) as usize;
+    canaries[bits.clone()].fill(0);
+    for landing in landings {
+        canaries[bits.clone()][(landing / CELL_BITS) as usize] |= 1 << (landing % CELL_BITS);
     }
     assert_eq!(memory, canaries, "installing writes nothing else");
 
@@ -129,21 +130,21 @@ fn world(
         // The recorded events are allowed, and the state cell is where they
         // lead; between KEEP and EVENT it is one event ahead.
         events.extend(log[..written].chunks_exact(2).map(|pair| pair[0]));
-        let mut state = *start;
+        let mut state = policy.start;
         let mut follow = |event: u32| {
-            let to = table[(16 * state + event) as usize];
-            assert_ne!(to, 255, "event {event} without an arrow in state {state}");
-            state = u32::from(to);
+            let to = u32::from(policy.table[(EVENTS * state + event) as usize]);
+            assert_ne!(to, NO_ARROW, "no arrow for {event} in state {state}");
+            state = to;
         };
         events.iter().for_each(|&event| follow(event));
         if machine.status == Status::Running {
-            let word = list[(machine.pc - layout.code_base) as usize];
-            if kind(word) == command::EVENT {
-                follow(v(word));
+            let word = list[(machine.pc - layout.base) as usize];
+            if let Some(Command::Event { v }) = Command::of_word(word) {
+                follow(v);
                 tally.between_keep_and_event += 1;
             }
         }
-        assert_eq!(memory[layout.state_cell as usize], state, "state cell");
+        assert_eq!(memory[layout.cell as usize], state, "state cell");
 
         tally.runs += 1;
         tally.steps += u64::from(answer.steps);
@@ -161,7 +162,7 @@ fn world(
 
         // The host writes free cells, in each world others.
         for _ in 0..rng.below(8) {
-            let cell = rng.below(layout.cells as usize);
+            let cell = rng.below(layout.size as usize);
             if zone(layout, cell) == Zone::Free {
                 memory[cell] = rng.word();
                 canaries[cell] = memory[cell];
@@ -174,9 +175,9 @@ fn world(
 /// Runs a passed list in two worlds that differ in free cells and old logs.
 fn two_worlds(rng: &mut Rng, tally: &mut Tally, layout: &Layout, list: &[u64]) {
     let arrows = rng.between(75, 100);
-    let start_and_table = policy(rng, layout.states, arrows);
+    let policy = policy(rng, layout.states, arrows);
     let landings = landings(rng);
-    let length = (layout.sandbox_high - layout.sandbox_low + 1) as usize;
+    let length = (layout.high - layout.low + 1) as usize;
     let sandbox = rng.cells(length);
     let given: Vec<Given> = (0..rng.between(2, 7))
         .map(|_| {
@@ -195,14 +196,7 @@ fn two_worlds(rng: &mut Rng, tally: &mut Tally, layout: &Layout, list: &[u64]) {
         .collect();
     let mut enter = || {
         world(
-            rng,
-            tally,
-            layout,
-            list,
-            &start_and_table,
-            &landings,
-            &sandbox,
-            &given,
+            rng, tally, layout, list, &policy, &landings, &sandbox, &given,
         )
     };
     let (one, other) = (enter(), enter());
@@ -245,10 +239,10 @@ fn rewritten(layout: &Layout, words: &[u64]) -> Vec<u64> {
 
 #[test]
 fn rewritten_routines_are_isolated() {
-    let seed = seed(3);
+    let seed = seed(21);
     let mut rng = Rng::new(seed);
     let mut tally = Tally::default();
-    for _ in 0..12_000 {
+    for _ in 0..cases(12_000) {
         let (layout, words) = layout_and_routine(&mut rng);
         let list = rewritten(&layout, &words);
         assert_eq!(check(&layout, &list), Answer::Taken(0));
@@ -259,13 +253,13 @@ fn rewritten_routines_are_isolated() {
 
 #[test]
 fn whatever_layout_is_taken_isolates() {
-    let seed = seed(5);
+    let seed = seed(22);
     let mut rng = Rng::new(seed);
     let mut tally = Tally::default();
     let (mut tried, mut taken) = (0, 0);
-    while tally.lists < 8000 {
+    while tally.lists < cases(8000) {
         let (right, words) = layout_and_routine(&mut rng);
-        let layout = senseless_layout(&mut rng, &right);
+        let layout = altered_layout(&mut rng, &right);
         if layout == right {
             continue;
         }
@@ -299,7 +293,7 @@ fn mutate(rng: &mut Rng, layout: &Layout, list: &mut [u64]) {
             list[x & !3] = list[y & !3];
         }
         10 => {
-            let target = layout.code_base.wrapping_add(rng.below(size + 2) as u32);
+            let target = layout.base.wrapping_add(rng.below(size + 2) as u32);
             list[x] = list[x] & 0xffff_ffff | u64::from(target) << 32;
         }
         _ => {
@@ -312,11 +306,11 @@ fn mutate(rng: &mut Rng, layout: &Layout, list: &mut [u64]) {
 
 #[test]
 fn mutated_lists_that_pass_are_isolated() {
-    let seed = seed(4);
+    let seed = seed(23);
     let mut rng = Rng::new(seed);
     let mut tally = Tally::default();
     let (mut tried, mut kept) = (0, 0);
-    for _ in 0..12_000 {
+    for _ in 0..cases(12_000) {
         let (layout, words) = layout_and_routine(&mut rng);
         let mut list = if rng.chance(70) {
             rewritten(&layout, &words)

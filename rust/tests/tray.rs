@@ -2,20 +2,22 @@
 
 mod common;
 
-use common::{trial_table, SAMPLE, TRIAL, TRIAL_READINGS};
-use hemdroas::model::words::{command, guest, pack};
-use hemdroas::model::{bundle_count, check, install, is_right, mask, read, rewrite, run, write};
-use hemdroas::{Answer, Ending, Layout, Policy, Refusal, Status};
+use common::inputs::{all_landings, trial_policy, SomePolicy, SAMPLE, TRIAL, TRIAL_READINGS};
+use hemdroas::model::{
+    bundle_count, check, install, is_right, mask, read, rewrite, run, write, Command, Instr,
+};
+use hemdroas::names::{HIDDEN, REGISTERS};
+use hemdroas::{Answer, Ending, Layout, Machine, Refusal, RunAnswer};
 
 fn sandbox(low: u32, high: u32) -> Layout {
     Layout {
-        cells: 1024,
-        sandbox_low: low,
-        sandbox_high: high,
-        state_cell: 0,
+        size: 1024,
+        low: low,
+        high: high,
+        cell: 0,
         table: 16,
         states: 1,
-        code_base: 0,
+        base: 0,
         landings: 32,
     }
 }
@@ -39,12 +41,12 @@ fn a_sandbox_is_one_aligned_power_of_two() {
     assert_eq!(mask(&crooked, 9), 15);
     assert_eq!(check(&crooked, &[]), refused(Refusal::BadLayout, 0));
     let fitting = Layout {
-        cells: 64,
+        size: 64,
         ..sandbox(8, 15)
     };
     assert!(is_right(&fitting));
     assert!(!is_right(&Layout {
-        sandbox_high: 13,
+        high: 13,
         ..fitting
     }));
 }
@@ -52,49 +54,34 @@ fn a_sandbox_is_one_aligned_power_of_two() {
 #[test]
 fn a_layout_is_right_up_to_each_of_its_bounds() {
     let right = Layout {
-        cells: 50,
-        sandbox_low: 49,
-        sandbox_high: 49,
-        state_cell: 16,
+        size: 50,
+        low: 49,
+        high: 49,
+        cell: 16,
         table: 0,
         states: 1,
-        code_base: 0,
+        base: 0,
         landings: 17,
     };
     assert!(is_right(&right));
     let wrong = [
-        Layout { cells: 49, ..right },
+        Layout { size: 49, ..right },
         Layout {
-            cells: 4097,
+            size: 4097,
             ..right
         },
         Layout { states: 0, ..right },
         Layout {
-            cells: 4096,
+            size: 4096,
             table: 100,
             states: 17,
             ..right
         },
-        Layout {
-            state_cell: 15,
-            ..right
-        },
-        Layout {
-            state_cell: 17,
-            ..right
-        },
-        Layout {
-            state_cell: 48,
-            ..right
-        },
-        Layout {
-            state_cell: 49,
-            ..right
-        },
-        Layout {
-            state_cell: 50,
-            ..right
-        },
+        Layout { cell: 15, ..right },
+        Layout { cell: 17, ..right },
+        Layout { cell: 48, ..right },
+        Layout { cell: 49, ..right },
+        Layout { cell: 50, ..right },
         Layout {
             landings: 16,
             ..right
@@ -116,13 +103,10 @@ fn a_layout_is_right_up_to_each_of_its_bounds() {
             table: u32::MAX - 15,
             ..right
         },
+        Layout { low: 50, ..right },
         Layout {
-            sandbox_low: 50,
-            ..right
-        },
-        Layout {
-            sandbox_low: 0,
-            sandbox_high: u32::MAX,
+            low: 0,
+            high: u32::MAX,
             ..right
         },
     ];
@@ -130,44 +114,44 @@ fn a_layout_is_right_up_to_each_of_its_bounds() {
         assert!(!is_right(&layout), "{layout:?}");
     }
     // No code base makes a layout wrong, an odd one neither.
-    for code_base in [1, 65_532, 65_535, 65_536, 65_537, u32::MAX - 3, u32::MAX] {
-        assert!(is_right(&Layout { code_base, ..right }));
+    for base in [1, 65_532, 65_535, 65_536, 65_537, u32::MAX - 3, u32::MAX] {
+        assert!(is_right(&Layout { base, ..right }));
     }
     // The largest of all.
     assert!(is_right(&Layout {
-        cells: 4096,
-        sandbox_low: 2048,
-        sandbox_high: 4095,
-        state_cell: 256,
+        size: 4096,
+        low: 2048,
+        high: 4095,
+        cell: 256,
         table: 0,
         states: 16,
-        code_base: 0,
+        base: 0,
         landings: 257,
     }));
 }
 
-/// Rewrites, checks, installs and runs words under a layout, and gives the
-/// registers and the run's answer.
+/// Rewrites, checks, installs and runs a routine under a layout, and gives the
+/// registers, the pc and the run's answer.
 fn perform(
     layout: &Layout,
-    words: &[u64],
+    routine: &[Instr],
     landings: &[u32],
     budget: u32,
-) -> ([u32; 9], u32, hemdroas::RunAnswer) {
+) -> ([u32; REGISTERS], u32, RunAnswer) {
+    let words: Vec<u64> = routine.iter().map(|instr| instr.word()).collect();
     let mut commands = vec![0; 4 * bundle_count(words.len())];
     assert_eq!(
-        rewrite(layout, words, &mut commands),
+        rewrite(layout, &words, &mut commands),
         Answer::Taken(commands.len() as u32)
     );
     assert_eq!(check(layout, &commands), Answer::Taken(0));
-    let table = vec![0; 16 * layout.states as usize];
-    let policy = Policy {
+    let policy = SomePolicy {
         states: layout.states,
         start: 0,
-        table: &table,
+        table: vec![0; 16 * layout.states as usize],
     };
-    let mut memory = vec![0; layout.cells as usize];
-    let (answer, mut machine) = install(layout, &policy, landings, &mut memory);
+    let mut memory = vec![0; layout.size as usize];
+    let (answer, mut machine) = install(layout, &policy.lend(), landings, &mut memory);
     assert_eq!(answer, Answer::Taken(0));
     let answer = run(
         layout,
@@ -178,43 +162,41 @@ fn perform(
         &[],
         &mut [],
     );
-    (machine.registers, machine.pc, answer)
+    (machine.regs, machine.pc, answer)
+}
+
+/// SET r1,target; GOX r1; and HALTs to make eight bundles.
+fn jump_to(target: u32) -> [Instr; 4] {
+    let (a, b, c) = (0, 0, 0);
+    let jump = Instr::GoX { d: 1, a, b, c };
+    [
+        Instr::Set { d: 1, v: target },
+        jump,
+        Instr::Halt,
+        Instr::Halt,
+    ]
 }
 
 #[test]
 fn a_jump_through_a_register_reaches_the_first_command_of_a_bundle() {
     let layout = Layout {
-        code_base: 32,
+        base: 32,
         ..sandbox(256, 511)
     };
     for target in [3, 11, 0x4000_0003] {
-        let words = [
-            pack(guest::SET, 1, 0, 0, 0, target),
-            pack(guest::GOX, 1, 0, 0, 0, 0),
-            0,
-            0,
-        ];
+        let routine = jump_to(target);
         // One command and its filling, then the four of the jump.
-        let (_, pc, answer) = perform(&layout, &words, &[3], 8);
+        let (_, pc, answer) = perform(&layout, &routine, &[3], 8);
         assert_eq!((pc, answer.ending), (44, Ending::Spent));
         // Without landing 3 it stops on the jump, which is a step.
-        let (registers, pc, answer) = perform(&layout, &words, &[4], 100);
+        let (regs, pc, answer) = perform(&layout, &routine, &[4], 100);
         assert_eq!((pc, answer.ending), (39, Ending::NoLanding));
-        assert_eq!((answer.steps, registers[8]), (8, 44));
+        assert_eq!((answer.steps, regs[HIDDEN as usize]), (8, 44));
     }
     // Landing 3 alone: 4 stops.
-    let words = [
-        pack(guest::SET, 1, 0, 0, 0, 4),
-        pack(guest::GOX, 1, 0, 0, 0, 0),
-        0,
-        0,
-    ];
-    let (_, pc, answer) = perform(&layout, &words, &[3], 100);
+    let (_, pc, answer) = perform(&layout, &jump_to(4), &[3], 100);
     assert_eq!((pc, answer.ending), (39, Ending::NoLanding));
-    let base = Layout {
-        code_base: 16,
-        ..layout
-    };
+    let base = Layout { base: 16, ..layout };
     assert_eq!(
         rewrite(&base, &[0; 4], &mut [0; 32]),
         refused(Refusal::BadBase, 0)
@@ -227,21 +209,29 @@ fn shifts_and_comparisons_know_the_sign() {
     let layout = sandbox(256, 511);
     let shift = |value: i32, by: u32| {
         let words = [
-            pack(guest::SET, 1, 0, 0, 0, value as u32),
-            pack(guest::SAR, 2, 1, 0, 0, by),
+            Instr::Set {
+                d: 1,
+                v: value as u32,
+            },
+            Instr::Sar { d: 2, a: 1, v: by },
         ];
-        let (registers, _, answer) = perform(&layout, &words, &[], 100);
-        assert_eq!(answer.ending, Ending::Ended);
-        registers[2] as i32
+        let (regs, _, answer) = perform(&layout, &words, &[], 100);
+        assert_eq!(answer.ending, Ending::Done);
+        regs[2] as i32
     };
     assert_eq!(shift(-7, 1), -4);
     assert_eq!(shift(i32::MIN, 31), -1);
 
-    let holds = |condition: u64| {
+    let holds = |condition: u32| {
         let words = [
-            pack(guest::SET, 1, 0, 0, 0, u32::MAX),
-            pack(guest::GOIF, 0, 1, 0, condition, 3),
-            pack(guest::SET, 2, 0, 0, 0, 1),
+            Instr::Set { d: 1, v: u32::MAX },
+            Instr::GoIf {
+                a: 1,
+                b: 0,
+                c: condition,
+                v: 3,
+            },
+            Instr::Set { d: 2, v: 1 },
         ];
         perform(&layout, &words, &[], 100).0[2] == 0
     };
@@ -257,10 +247,10 @@ fn a_silent_probe_is_reported_before_a_full_log() {
     for (event, ending) in [
         (0, Ending::LogFull),
         (7, Ending::LogFull),
-        (8, Ending::ProbeSilent),
-        (15, Ending::ProbeSilent),
+        (8, Ending::Silent),
+        (15, Ending::Silent),
     ] {
-        let words = [pack(guest::EVENT, 0, 0, 0, 0, event)];
+        let words = [Instr::Event { v: event }];
         let (_, _, answer) = perform(&sandbox(256, 511), &words, &[], 100);
         assert_eq!((answer.ending, answer.steps), (ending, 3));
     }
@@ -271,23 +261,20 @@ fn a_field_that_is_zero_is_absent() {
     let set_200: [u8; 9] = [1, 0, 0x23, 0x01, 0x01, 0xc8, 0, 0, 0];
     let mut words = [0; 1];
     assert_eq!(read(&set_200, &mut words), Answer::Taken(1));
-    assert_eq!(words, [pack(guest::SET, 1, 0, 0, 0, 200)]);
+    assert_eq!(words, [Instr::Set { d: 1, v: 200 }.word()]);
     let mut bytes = [0; 9];
     assert_eq!(write(&words, &mut bytes), Answer::Taken(9));
     assert_eq!(bytes, set_200);
 
     let mut bytes = [0; 9];
-    let set_0 = [pack(guest::SET, 0, 0, 0, 0, 0)];
+    let set_0 = [Instr::Set { d: 0, v: 0 }.word()];
     assert_eq!(write(&set_0, &mut bytes), Answer::Taken(4));
     assert_eq!(bytes[..4], [1, 0, 0x01, 0x01]);
     assert_eq!(read(&bytes[..4], &mut words), Answer::Taken(1));
     assert_eq!(words, set_0);
 
     let padded = [1, 0, 0x23, 0x01, 0x01, 0, 0, 0, 0];
-    assert_eq!(
-        read(&padded, &mut words),
-        refused(Refusal::ForeignMatter, 0)
-    );
+    assert_eq!(read(&padded, &mut words), refused(Refusal::Foreign, 0));
 }
 
 #[test]
@@ -298,7 +285,7 @@ fn bundles_are_the_smallest_power_of_two_above() {
         rewrite(&sandbox(256, 511), &[], &mut commands),
         Answer::Taken(4)
     );
-    assert_eq!(commands, [command::HALT, 0, 0, 0, 7]);
+    assert_eq!(commands, [Command::Halt.word(), 0, 0, 0, 7]);
 }
 
 #[test]
@@ -351,14 +338,8 @@ fn trial(bytes: &[u8]) -> String {
         return rejected(answer);
     }
     let mut memory = [0; 1024];
-    let table = trial_table();
-    let policy = Policy {
-        states: 2,
-        start: 0,
-        table: &table,
-    };
-    let landings: Vec<u32> = (0..1024).collect();
-    let (answer, mut machine) = install(&TRIAL, &policy, &landings, &mut memory);
+    let policy = trial_policy();
+    let (answer, mut machine) = install(&TRIAL, &policy.lend(), &all_landings(), &mut memory);
     if !answer.is_taken() {
         return rejected(answer);
     }
@@ -397,17 +378,12 @@ fn trial_prints_the_sample() {
 #[test]
 fn a_refused_installation_yields_a_faulted_machine() {
     let mut memory = [5; 1024];
-    let table = [0; 32];
-    let policy = Policy {
-        states: 2,
+    let policy = SomePolicy {
         start: 2,
-        table: &table,
+        ..trial_policy()
     };
-    let (answer, machine) = install(&TRIAL, &policy, &[], &mut memory);
+    let (answer, machine) = install(&TRIAL, &policy.lend(), &[], &mut memory);
     assert_eq!(answer, refused(Refusal::BadPolicy, 0));
     assert_eq!(memory, [5; 1024]);
-    assert_eq!(
-        (machine.registers, machine.pc, machine.status),
-        ([0; 9], 0, Status::Faulted)
-    );
+    assert_eq!(machine, Machine::REFUSED);
 }

@@ -1,77 +1,129 @@
-//! A policy from pairs of events: this before that.
+//! Request [11], a policy from pairs of events: this before that.
 
 use std::collections::BTreeSet;
 
-use crate::{Answer, Made, Refusal};
+use super::outputs::{deliver, refuse, room_for, Refused};
+use crate::names::{EVENTS, NO_ARROW};
+use crate::{Made, Refusal};
 
-/// The most events that a list of pairs may name.
+/// 'More than four named events' are too many.
 const MOST_NAMED: usize = 4;
 
-fn refused(refusal: Refusal) -> Made {
-    Made {
-        answer: Answer::refused(refusal, 0),
-        states: 0,
-        never: 0,
-    }
+/// Events recorded, of those that the pairs name.
+type Recorded = BTreeSet<u8>;
+
+/// A list of pairs that is not refused.
+struct Pairs {
+    pairs: Vec<(u8, u8)>,
+    named: BTreeSet<u8>,
 }
 
-/// The state after an event, if it has an arrow. `named` are the events that
-/// the pairs name, the smallest first; bit k of a state is set if the k-th of
-/// them has been recorded.
-fn after(pairs: &[u8], named: &[u8], state: u8, event: u8) -> Option<u8> {
-    let bit_of = |event: u8| named.iter().position(|&name| name == event);
-    let Some(bit) = bit_of(event) else {
-        return Some(state);
-    };
-    let recorded = |first: u8| bit_of(first).is_some_and(|k| state >> k & 1 == 1);
-    let mut pairs_of_it = pairs.chunks_exact(2).filter(|pair| pair[1] == event);
-    pairs_of_it
-        .all(|pair| recorded(pair[0]))
-        .then_some(state | 1 << bit)
-}
-
-/// The events that no allowed word holds: all but those with an arrow in a
-/// state to which allowed words lead, which are searched from state 0.
-fn never(pairs: &[u8], named: &[u8]) -> u16 {
-    let mut reached = BTreeSet::new();
-    let mut open = vec![0];
-    let mut held = 0;
-    while let Some(state) = open.pop() {
-        if !reached.insert(state) {
-            continue;
+impl Pairs {
+    /// '17 (bad pair: an event above 15 or without its partner, or more than
+    /// four named events)'
+    fn of(events: &[u8]) -> Result<Pairs, Refused> {
+        let named: BTreeSet<u8> = events.iter().copied().collect();
+        let above = named.iter().any(|&event| u32::from(event) >= EVENTS);
+        let partnerless = events.len() % 2 != 0;
+        if above || partnerless || named.len() > MOST_NAMED {
+            return refuse(Refusal::BadPair);
         }
-        for event in 0..16 {
-            if let Some(next) = after(pairs, named, state, event) {
-                held |= 1 << event;
-                open.push(next);
+        let pairs = events.chunks(2).map(|pair| (pair[0], pair[1])).collect();
+        Ok(Pairs { pairs, named })
+    }
+
+    /// 'A state is the map of named events already recorded: bit k stands for
+    /// the k-th smallest named event, counted from 0; all such maps are
+    /// states.'
+    fn states(&self) -> u8 {
+        1 << self.named.len()
+    }
+
+    fn recorded_in(&self, state: u8) -> Recorded {
+        let named = self.named.iter().enumerate();
+        let stands = |&(k, _): &(usize, &u8)| state / (1 << k) % 2 == 1;
+        named.filter(stands).map(|(_, &event)| event).collect()
+    }
+
+    fn state_of(&self, recorded: &Recorded) -> u8 {
+        let named = self.named.iter().enumerate();
+        let stands = |&(_, event): &(usize, &u8)| recorded.contains(event);
+        named.filter(stands).map(|(k, _)| 1 << k).sum()
+    }
+
+    /// 'Unnamed events stay in their state.' 'A named event sets its bit, and
+    /// has an arrow exactly in the states where all its firsts are recorded;
+    /// one never named second always has.'
+    fn arrow(&self, recorded: &Recorded, event: u8) -> Option<Recorded> {
+        let mut after = recorded.clone();
+        if self.named.contains(&event) {
+            let mut its_pairs = self.pairs.iter().filter(|pair| pair.1 == event);
+            if !its_pairs.all(|pair| recorded.contains(&pair.0)) {
+                return None;
+            }
+            after.insert(event);
+        }
+        Some(after)
+    }
+
+    /// The policy's bytes, 16 for each state.
+    fn table(&self) -> Vec<u8> {
+        let mut table = Vec::new();
+        for state in 0..self.states() {
+            let recorded = self.recorded_in(state);
+            for event in 0..EVENTS as u8 {
+                table.push(match self.arrow(&recorded, event) {
+                    Some(after) => self.state_of(&after),
+                    None => NO_ARROW as u8,
+                });
             }
         }
+        table
     }
-    !held
+
+    /// 'A 16-bit map of the events that no allowed word holds': all but those
+    /// with an arrow in a state to which allowed words lead from the start,
+    /// where nothing is recorded.
+    fn never(&self) -> u16 {
+        let mut never: BTreeSet<u8> = (0..EVENTS as u8).collect();
+        let mut met = BTreeSet::from([Recorded::new()]);
+        let mut open = vec![Recorded::new()];
+        while let Some(recorded) = open.pop() {
+            for event in 0..EVENTS as u8 {
+                if let Some(after) = self.arrow(&recorded, event) {
+                    never.remove(&event);
+                    if met.insert(after.clone()) {
+                        open.push(after);
+                    }
+                }
+            }
+        }
+        never.into_iter().map(|event| 1 << event).sum()
+    }
+}
+
+/// '17 comes first. 9 follows it.'
+fn made(events: &[u8], room: usize) -> Result<(Pairs, Vec<u8>), Refused> {
+    let pairs = Pairs::of(events)?;
+    let table = pairs.table();
+    room_for(table.len(), room)?;
+    Ok((pairs, table))
 }
 
 /// Makes the policy in which the second of each pair has an arrow only once
-/// the first has been recorded. Its table stands at the start of the one lent,
-/// which a refusal leaves as it was; its start state is 0.
+/// the first has been recorded; 'the start state is 0'. 'After a reject all
+/// else handed back is 0.'
 pub fn befores(pairs: &[u8], table: &mut [u8]) -> Made {
-    let named: BTreeSet<u8> = pairs.iter().copied().collect();
-    let known = named.iter().all(|&event| event < 16);
-    if pairs.len() % 2 == 1 || !known || named.len() > MOST_NAMED {
-        return refused(Refusal::BadPair);
-    }
-    let named: Vec<u8> = named.into_iter().collect();
-    let states: u8 = 1 << named.len();
-    let made: Vec<u8> = (0..states)
-        .flat_map(|state| (0..16).map(move |event| (state, event)))
-        .map(|(state, event)| after(pairs, &named, state, event).unwrap_or(255))
-        .collect();
-    let Some(output) = table.get_mut(..made.len()) else {
-        return refused(Refusal::SmallHopper);
-    };
-    output.copy_from_slice(&made);
-    Made {
-        answer: Answer::Taken(made.len() as u32),
-        states: u32::from(states),
-        never: never(pairs, &named),
+    match made(pairs, table.len()) {
+        Ok((pairs, bytes)) => Made {
+            answer: deliver(Ok(bytes), table),
+            states: u32::from(pairs.states()),
+            never: pairs.never(),
+        },
+        Err(refused) => Made {
+            answer: deliver(Err(refused), table),
+            states: 0,
+            never: 0,
+        },
     }
 }

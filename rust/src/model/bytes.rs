@@ -1,178 +1,139 @@
 //! Reading and writing the byte form.
 
-use super::words::{
-    self, a, b, c, d, instruction_refusal, kind, pack, v, GUEST_FIELDS, GUEST_GRADE, LONGEST,
-};
+use super::instructions::{judge, judge_fields};
+use super::outputs::{deliver, refuse, room_for, Refused};
+use super::words::{fields, word, Fields};
+use crate::names::MOST_INSTRUCTIONS;
 use crate::{Answer, Refusal};
 
-const HAS_KIND: u8 = 1;
-const HAS_D: u8 = 2;
-const HAS_A: u8 = 4;
-const HAS_B: u8 = 8;
-const HAS_C: u8 = 16;
-const HAS_V: u8 = 32;
+/// The bytes of a routine not read yet.
+struct Rest<'a>(&'a [u8]);
 
-/// The map bits of the fields that each kind has.
-const KIND_MAPS: [u8; 13] = {
-    let mut maps = [HAS_KIND; 13];
-    let mut kind = 0;
-    while kind < maps.len() {
-        let fields = GUEST_FIELDS[kind];
-        if fields & words::D != 0 {
-            maps[kind] |= HAS_D;
+impl Rest<'_> {
+    /// So many bytes as a number, 'low first'. '1: bytes end early.'
+    fn number(&mut self, bytes: usize) -> Result<u32, Refusal> {
+        if self.0.len() < bytes {
+            return Err(Refusal::Short);
         }
-        if fields & words::A != 0 {
-            maps[kind] |= HAS_A;
+        let (front, rest) = self.0.split_at(bytes);
+        self.0 = rest;
+        let mut number = 0;
+        for &byte in front.iter().rev() {
+            number = 256 * number + u32::from(byte);
         }
-        if fields & words::B != 0 {
-            maps[kind] |= HAS_B;
-        }
-        if fields & words::C != 0 {
-            maps[kind] |= HAS_C;
-        }
-        if fields & words::V != 0 {
-            maps[kind] |= HAS_V;
-        }
-        kind += 1;
+        Ok(number)
     }
-    maps
-};
 
-/// The bytes of the fields that a map below 64 announces.
-fn fields_size(map: u8) -> usize {
-    let ones = map.count_ones() as usize;
-    if map & HAS_V == 0 {
-        ones
-    } else {
-        ones + 3
+    /// 'Each starts with a map byte: bit 0 kind, 1 d, 2 a, 3 b, 4 c, 5 v. Then
+    /// only the fields whose bit stands, in that order, one byte each, v in
+    /// four, low first. An absent field is 0.' 'Per instruction map 2, 1, 3, 2,
+    /// 4'.
+    fn instruction(&mut self) -> Result<u64, Refusal> {
+        let map = self.number(1)?;
+        if map >= 64 {
+            return Err(Refusal::Foreign);
+        }
+        let mut read = Fields::default();
+        let mut present_zero = false;
+        let places = [
+            (0, 1, &mut read.kind),
+            (1, 1, &mut read.d),
+            (2, 1, &mut read.a),
+            (3, 1, &mut read.b),
+            (4, 1, &mut read.c),
+            (5, 4, &mut read.v),
+        ];
+        for (bit, bytes, field) in places {
+            let stands = map / (1 << bit) % 2 == 1;
+            if stands {
+                *field = self.number(bytes)?;
+                present_zero = present_zero || *field == 0;
+            }
+        }
+        // 2 for a present field that is 0 stands between 3 and 4.
+        let judged = judge_fields(read);
+        if present_zero && judged != Err(Refusal::UnknownKind) {
+            return Err(Refusal::Foreign);
+        }
+        judged.map(|_| word(read))
     }
 }
 
-/// One instruction, taken off the front of `rest`.
-fn read_instruction(rest: &mut &[u8]) -> Result<u64, Refusal> {
-    let (&map, after) = rest.split_first().ok_or(Refusal::ShortWeight)?;
-    if map >= 64 {
-        return Err(Refusal::ForeignMatter);
-    }
-    let size = fields_size(map);
-    if after.len() < size {
-        return Err(Refusal::ShortWeight);
-    }
-    let (fields, after) = after.split_at(size);
-
-    let mut at = 0;
-    let mut present_zero = false;
-    let mut byte = |has: u8| {
-        if map & has == 0 {
-            return 0;
-        }
-        let value = fields[at];
-        at += 1;
-        present_zero |= value == 0;
-        u64::from(value)
+/// 'Reading: 1 for the count, 5, 9; per instruction map 2, 1, 3, 2, 4; then 6.'
+/// 'A routine's bytes: n in two bytes, low first, then n instructions.'
+fn words_of(bytes: &[u8], room: usize) -> Result<Vec<u64>, Refused> {
+    let mut rest = Rest(bytes);
+    let n = match rest.number(2) {
+        Ok(n) => n as usize,
+        Err(refusal) => return refuse(refusal),
     };
-    let kind = byte(HAS_KIND);
-    let d = byte(HAS_D);
-    let a = byte(HAS_A);
-    let b = byte(HAS_B);
-    let c = byte(HAS_C);
-    let v = match fields.last_chunk::<4>() {
-        Some(&four) if map & HAS_V != 0 => {
-            let v = u32::from_le_bytes(four);
-            present_zero |= v == 0;
-            v
+    if n > MOST_INSTRUCTIONS {
+        return refuse(Refusal::Oversize);
+    }
+    room_for(n, room)?;
+    let mut words = Vec::new();
+    for place in 0..n {
+        match rest.instruction() {
+            Ok(word) => words.push(word),
+            Err(refusal) => return Err((refusal, place)),
         }
-        _ => 0,
-    };
+    }
+    if !rest.0.is_empty() {
+        return refuse(Refusal::Trailing);
+    }
+    Ok(words)
+}
 
-    if kind >= KIND_MAPS.len() as u64 {
-        return Err(Refusal::UnknownVariety);
+/// The bytes of one instruction. 'A field that is 0 is absent, HALT's kind and
+/// r0 included.'
+fn instruction_bytes(word: u64) -> Vec<u8> {
+    let Fields {
+        kind,
+        d,
+        a,
+        b,
+        c,
+        v,
+        ..
+    } = fields(word);
+    let mut map = 0;
+    let mut bytes = Vec::new();
+    for (bit, field) in [kind, d, a, b, c].into_iter().enumerate() {
+        if field != 0 {
+            map += 1 << bit;
+            bytes.push(field as u8);
+        }
     }
-    if present_zero || map & !KIND_MAPS[kind as usize] != 0 {
-        return Err(Refusal::ForeignMatter);
+    if v != 0 {
+        map += 1 << 5;
+        bytes.extend(v.to_le_bytes());
     }
-    // Before packing, for a byte may not fit its field.
-    if (d | a | b) > 7 || c > 3 {
-        return Err(Refusal::OffGrade);
+    bytes.insert(0, map);
+    bytes
+}
+
+/// 'Writing: 5; per word 3, 2, 4; then 9.'
+fn bytes_of(words: &[u64], room: usize) -> Result<Vec<u8>, Refused> {
+    if words.len() > MOST_INSTRUCTIONS {
+        return refuse(Refusal::Oversize);
     }
-    let word = pack(kind, d, a, b, c, v);
-    if word & !GUEST_GRADE[kind as usize] != 0 {
-        return Err(Refusal::OffGrade);
+    let mut bytes = (words.len() as u16).to_le_bytes().to_vec();
+    for (place, &word) in words.iter().enumerate() {
+        match judge(word) {
+            Ok(_) => bytes.extend(instruction_bytes(word)),
+            Err(refusal) => return Err((refusal, place)),
+        }
     }
-    *rest = after;
-    Ok(word)
+    room_for(bytes.len(), room)?;
+    Ok(bytes)
 }
 
 /// Reads a routine's bytes into words.
 pub fn read(bytes: &[u8], words: &mut [u64]) -> Answer {
-    let Some((&count, mut rest)) = bytes.split_first_chunk::<2>() else {
-        return Answer::refused(Refusal::ShortWeight, 0);
-    };
-    let count = usize::from(u16::from_le_bytes(count));
-    if count > LONGEST {
-        return Answer::refused(Refusal::Oversize, 0);
-    }
-    if words.len() < count {
-        return Answer::refused(Refusal::SmallHopper, 0);
-    }
-    // Read aside first: a refusal must leave the output as it was.
-    let mut routine = [0; LONGEST];
-    for (place, word) in routine[..count].iter_mut().enumerate() {
-        match read_instruction(&mut rest) {
-            Ok(read) => *word = read,
-            Err(refusal) => return Answer::refused(refusal, place),
-        }
-    }
-    if !rest.is_empty() {
-        return Answer::refused(Refusal::Overweight, 0);
-    }
-    words[..count].copy_from_slice(&routine[..count]);
-    Answer::Taken(count as u32)
-}
-
-/// The map of an instruction word.
-fn map_of(word: u64) -> u8 {
-    let bit = |field: u64, has: u8| if word & field != 0 { has } else { 0 };
-    bit(words::KIND, HAS_KIND)
-        | bit(words::D, HAS_D)
-        | bit(words::A, HAS_A)
-        | bit(words::B, HAS_B)
-        | bit(words::C, HAS_C)
-        | bit(words::V, HAS_V)
+    deliver(words_of(bytes, words.len()), words)
 }
 
 /// Writes words as a routine's bytes.
 pub fn write(words: &[u64], bytes: &mut [u8]) -> Answer {
-    if words.len() > LONGEST {
-        return Answer::refused(Refusal::Oversize, 0);
-    }
-    let mut size = 2;
-    for (place, &word) in words.iter().enumerate() {
-        if let Some(refusal) = instruction_refusal(word) {
-            return Answer::refused(refusal, place);
-        }
-        size += 1 + fields_size(map_of(word));
-    }
-    if bytes.len() < size {
-        return Answer::refused(Refusal::SmallHopper, 0);
-    }
-    let out = &mut bytes[..size];
-    out[..2].copy_from_slice(&(words.len() as u16).to_le_bytes());
-    let mut at = 2;
-    for &word in words {
-        out[at] = map_of(word);
-        at += 1;
-        for field in [kind(word), d(word), a(word), b(word), c(word)] {
-            if field != 0 {
-                out[at] = field as u8;
-                at += 1;
-            }
-        }
-        let v = v(word);
-        if v != 0 {
-            out[at..at + 4].copy_from_slice(&v.to_le_bytes());
-            at += 4;
-        }
-    }
-    Answer::Taken(size as u32)
+    deliver(bytes_of(words, bytes.len()), bytes)
 }

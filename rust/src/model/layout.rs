@@ -1,52 +1,86 @@
-//! Right layouts and the mask.
+//! Right layouts, masks and counts of bundles.
 
-use super::words::LANDING_CELLS;
+use std::ops::Range;
+
+use crate::names::{EVENTS, LANDING_CELLS, MOST_CELLS, MOST_STATES};
 use crate::Layout;
 
-/// Whether two spans of addresses, each a first address and the address after
-/// the last, share none.
-fn apart(x: (u64, u64), y: (u64, u64)) -> bool {
-    x.1 <= y.0 || y.1 <= x.0
+fn is_power_of_two(number: u64) -> bool {
+    (0..64).any(|power| number == 1 << power)
 }
 
-/// Whether a layout is right. Sums are taken in 64 bits, where they cannot
-/// wrap.
+/// The cells of each region: state cell, landing cells, table cells and
+/// sandbox. 'Sums over a layout don't wrap.'
+fn regions(layout: &Layout) -> [Range<u64>; 4] {
+    let from = |first: u32, length: u64| u64::from(first)..u64::from(first) + length;
+    [
+        from(layout.cell, 1),
+        from(layout.landings, u64::from(LANDING_CELLS)),
+        from(layout.table, u64::from(EVENTS) * u64::from(layout.states)),
+        u64::from(layout.low)..u64::from(layout.high) + 1,
+    ]
+}
+
+fn share_an_address(x: &Range<u64>, y: &Range<u64>) -> bool {
+    x.clone().any(|address| y.contains(&address))
+}
+
+/// 'A layout is right when all hold: U and S are in range; SL ≤ SH < U;
+/// SH − SL + 1 is a power of two, and SL is a multiple of it; M < U;
+/// P + 16 × S ≤ U; sandbox, state cell and table cells share no address.'
+/// Request [1]: 'only if' the landing cells 'lie below U and meet no other
+/// region'.
 pub fn is_right(layout: &Layout) -> bool {
-    let &Layout {
-        cells,
-        sandbox_low,
-        sandbox_high,
-        state_cell,
-        table,
+    let Layout {
+        size,
+        low,
+        high,
         states,
-        landings,
         ..
-    } = layout;
-    if !(1..=4096).contains(&cells) || !(1..=16).contains(&states) {
+    } = *layout;
+    if !(1..=MOST_CELLS).contains(&size) || !(1..=MOST_STATES).contains(&states) {
         return false;
     }
-    if sandbox_low > sandbox_high || sandbox_high >= cells || state_cell >= cells {
+    if !(low <= high && high < size) {
         return false;
     }
-    // The mask is exact only on a sandbox that is one aligned power of two.
-    let size = sandbox_high - sandbox_low + 1;
-    if !size.is_power_of_two() || sandbox_low % size != 0 {
+    let sandbox = u64::from(high - low) + 1;
+    if !is_power_of_two(sandbox) || u64::from(low) % sandbox != 0 {
         return false;
     }
-    let table_end = u64::from(table) + 16 * u64::from(states);
-    let landings_end = u64::from(landings) + u64::from(LANDING_CELLS);
-    if table_end > u64::from(cells) || landings_end > u64::from(cells) {
+    let regions = regions(layout);
+    if regions.iter().any(|region| region.end > u64::from(size)) {
         return false;
     }
-    let sandbox = (u64::from(sandbox_low), u64::from(sandbox_high) + 1);
-    let state = (u64::from(state_cell), u64::from(state_cell) + 1);
-    let table = (u64::from(table), table_end);
-    let landings = (u64::from(landings), landings_end);
-    let regions = [sandbox, state, table, landings];
-    (1..regions.len()).all(|i| regions[..i].iter().all(|&other| apart(regions[i], other)))
+    let mut pairs = (0..4).flat_map(|y| (0..y).map(move |x| (x, y)));
+    !pairs.any(|(x, y)| share_an_address(&regions[x], &regions[y]))
 }
 
-/// The mask of an address: on a right layout, always an address of the sandbox.
+/// '7: not right, or a lent memory's length not U.'
+pub fn is_lent_right(layout: &Layout, memory: &[u32]) -> bool {
+    is_right(layout) && memory.len() == layout.size as usize
+}
+
+/// 'The mask of an address e is (e AND SH) OR SL.'
 pub fn mask(layout: &Layout, address: u32) -> u32 {
-    address & layout.sandbox_high | layout.sandbox_low
+    (address & layout.high) | layout.low
+}
+
+/// 'N is the smallest power of two greater than n.'
+pub fn bundle_count(instructions: usize) -> usize {
+    let mut powers = (0..).map(|power| 1 << power);
+    powers
+        .find(|&power: &usize| power > instructions)
+        .expect("powers of two have no end")
+}
+
+/// Whether a list of so many bundles can be: 'N a power of two from 1 to
+/// 1,024'.
+pub fn is_bundle_count(bundles: usize) -> bool {
+    (0..=10).any(|power| bundles == 1 << power)
+}
+
+/// 'B must be a multiple of 4N.'
+pub fn is_base_of(layout: &Layout, commands: usize) -> bool {
+    layout.base as usize % commands == 0
 }

@@ -1,12 +1,12 @@
 //! A routine's bytes made into an installed machine and its commands.
 
-use super::words::LONGEST;
 use super::{check, install, read, rewrite};
+use crate::names::{MOST_COMMANDS, MOST_INSTRUCTIONS};
 use crate::{Answer, Layout, Machine, Policy, Record};
 
-/// Reads, rewrites, checks and installs. The answer is the first refusal, or
-/// the count of commands, which then stand at the start of the list; after a
-/// refusal, the list and the memory are as they were.
+/// 'The first reject of reading, rewriting, checking, installing, or 0', with
+/// the commands at the start of the list; a refusal leaves list and memory as
+/// they were.
 pub fn load(
     layout: &Layout,
     policy: &Policy,
@@ -15,26 +15,28 @@ pub fn load(
     commands: &mut [u64],
     memory: &mut [u32],
 ) -> (Answer, Machine) {
-    let mut words = [0; LONGEST];
+    let mut words = [0; MOST_INSTRUCTIONS];
     let answer = read(bytes, &mut words);
-    let Answer::Taken(instructions) = answer else {
+    let Answer::Taken(n) = answer else {
         return (answer, Machine::REFUSED);
     };
-    let mut list = commands.to_vec();
-    let answer = rewrite(layout, &words[..instructions as usize], &mut list);
-    let Answer::Taken(size) = answer else {
-        return (answer, Machine::REFUSED);
+    let mut list = [0; MOST_COMMANDS];
+    let room = commands.len().min(MOST_COMMANDS);
+    let rewritten = rewrite(layout, &words[..n as usize], &mut list[..room]);
+    let Answer::Taken(size) = rewritten else {
+        return (rewritten, Machine::REFUSED);
     };
-    let checked = check(layout, &list[..size as usize]);
-    if !checked.is_taken() {
-        return (checked, Machine::REFUSED);
+    let list = &list[..size as usize];
+    let answer = check(layout, list);
+    if !answer.is_taken() {
+        return (answer, Machine::REFUSED);
     }
-    let (installed, machine) = install(layout, policy, landings, memory);
-    if !installed.is_taken() {
-        return (installed, machine);
+    let (answer, machine) = install(layout, policy, landings, memory);
+    if !answer.is_taken() {
+        return (answer, machine);
     }
-    commands.copy_from_slice(&list);
-    (answer, machine)
+    commands[..list.len()].copy_from_slice(list);
+    (rewritten, machine)
 }
 
 /// [`load`] into a record of the C interface.

@@ -1,207 +1,47 @@
-//! Instruction and command words: kind in bits 0–7, d 8–11, a 12–15, b 16–19,
-//! c 20–23, zero 24–31, v 32–63.
+//! Words and their fields.
 
-use crate::Refusal;
-
-/// The most instructions of a routine.
-pub const LONGEST: usize = 1023;
-/// The most bundles of a list, and so the instructions that a landing can be.
-pub const MOST_BUNDLES: u32 = 1024;
-/// The cells that hold a bit for each landing.
-pub const LANDING_CELLS: u32 = 32;
-/// Commands in a bundle.
-pub const BUNDLE: usize = 4;
-/// The register that no guest field names.
-pub const HIDDEN: u64 = 8;
-/// The table's mark for an event without an arrow.
-pub const NO_ARROW: u8 = 255;
-
-/// Kinds of instruction.
+/// The fields of an instruction or command word, each as a number of its own.
+#[derive(Clone, Copy, Debug, PartialEq, Eq, Default)]
 #[allow(missing_docs)]
-pub mod guest {
-    pub const HALT: u64 = 0;
-    pub const SET: u64 = 1;
-    pub const MOVE: u64 = 2;
-    pub const ADD: u64 = 3;
-    pub const SUB: u64 = 4;
-    pub const AND: u64 = 5;
-    pub const OR: u64 = 6;
-    pub const SAR: u64 = 7;
-    pub const LOAD: u64 = 8;
-    pub const STORE: u64 = 9;
-    pub const GOIF: u64 = 10;
-    pub const GOX: u64 = 11;
-    pub const EVENT: u64 = 12;
+pub struct Fields {
+    pub kind: u32,
+    pub d: u32,
+    pub a: u32,
+    pub b: u32,
+    pub c: u32,
+    /// Bits 24–31, which are zero in every instruction and command.
+    pub zero: u32,
+    pub v: u32,
 }
 
-/// Kinds of command.
-#[allow(missing_docs)]
-pub mod command {
-    pub const NOP: u64 = 0;
-    pub const HALT: u64 = 1;
-    pub const SET: u64 = 2;
-    pub const MOVE: u64 = 3;
-    pub const ADD: u64 = 4;
-    pub const SUB: u64 = 5;
-    pub const AND: u64 = 6;
-    pub const OR: u64 = 7;
-    pub const SAR: u64 = 8;
-    pub const ANDI: u64 = 9;
-    pub const ORI: u64 = 10;
-    pub const SHL: u64 = 11;
-    pub const LOAD: u64 = 12;
-    pub const STORE: u64 = 13;
-    pub const GOIF: u64 = 14;
-    pub const GOXR: u64 = 15;
-    pub const LOOK: u64 = 16;
-    pub const STOPIF: u64 = 17;
-    pub const KEEP: u64 = 18;
-    pub const EVENT: u64 = 19;
+/// The number that stands in bits `first` to `last` of a word.
+fn bits(word: u64, first: u32, last: u32) -> u32 {
+    let above = u128::from(word) / (1 << first);
+    (above % (1 << (last - first + 1))) as u32
 }
 
-/// The bits of field d.
-pub const D: u64 = 0xf << 8;
-/// The bits of field a.
-pub const A: u64 = 0xf << 12;
-/// The bits of field b.
-pub const B: u64 = 0xf << 16;
-/// The bits of field c.
-pub const C: u64 = 0xf << 20;
-/// The bits of field v.
-pub const V: u64 = 0xffff_ffff << 32;
-/// The bits of the kind.
-pub const KIND: u64 = 0xff;
-
-/// The bits of the registers r0 to r7, of conditions 0 to 3, of shifts 0 to 31
-/// and of events 0 to 15: in each field, the numbers in range are just those
-/// made of these bits.
-const IN_RANGE_REGISTERS: u64 = 0x7_7700;
-const IN_RANGE_CONDITION: u64 = 3 << 20;
-const IN_RANGE_SHIFT: u64 = 31 << 32;
-const IN_RANGE_EVENT: u64 = 15 << 32;
-
-/// The fields of each kind of instruction.
-pub const GUEST_FIELDS: [u64; 13] = [
-    KIND,
-    KIND | D | V,
-    KIND | D | A,
-    KIND | D | A | B,
-    KIND | D | A | B,
-    KIND | D | A | B,
-    KIND | D | A | B,
-    KIND | D | A | V,
-    KIND | D | A,
-    KIND | A | B,
-    KIND | A | B | C | V,
-    KIND | D | A | B | C,
-    KIND | V,
-];
-
-/// The bits that an instruction on grade may have.
-pub const GUEST_GRADE: [u64; 13] = {
-    let mut grade = GUEST_FIELDS;
-    let mut kind = 0;
-    while kind < grade.len() {
-        grade[kind] &= KIND | IN_RANGE_REGISTERS | IN_RANGE_CONDITION | V;
-        kind += 1;
-    }
-    grade[guest::SAR as usize] &= !V | IN_RANGE_SHIFT;
-    grade[guest::EVENT as usize] &= !V | IN_RANGE_EVENT;
-    grade
-};
-
-/// The bits that a command may have, its registers aside.
-pub const COMMAND_BITS: [u64; 20] = [
-    KIND,
-    KIND,
-    KIND | D | V,
-    KIND | D | A,
-    KIND | D | A | B,
-    KIND | D | A | B,
-    KIND | D | A | B,
-    KIND | D | A | B,
-    KIND | D | A | IN_RANGE_SHIFT,
-    KIND | D | A | V,
-    KIND | D | A | V,
-    KIND | D | A | IN_RANGE_SHIFT,
-    KIND | D | A,
-    KIND | A | B,
-    KIND | A | B | IN_RANGE_CONDITION | V,
-    KIND | D | A | B | IN_RANGE_CONDITION,
-    KIND | D | IN_RANGE_EVENT,
-    KIND | D,
-    KIND | D,
-    KIND | IN_RANGE_EVENT,
-];
-
-/// Those of [`COMMAND_BITS`] that a command over guest registers may have.
-pub const GUEST_COMMAND_BITS: [u64; 20] = {
-    let mut bits = COMMAND_BITS;
-    let mut kind = 0;
-    while kind < bits.len() {
-        bits[kind] &= !(D | A | B) | IN_RANGE_REGISTERS;
-        kind += 1;
-    }
-    bits
-};
-
-/// The kind of a word.
-pub fn kind(word: u64) -> u64 {
-    word & KIND
-}
-
-/// Field d of a word.
-pub fn d(word: u64) -> u64 {
-    word >> 8 & 0xf
-}
-
-/// Field a of a word.
-pub fn a(word: u64) -> u64 {
-    word >> 12 & 0xf
-}
-
-/// Field b of a word.
-pub fn b(word: u64) -> u64 {
-    word >> 16 & 0xf
-}
-
-/// Field c of a word.
-pub fn c(word: u64) -> u64 {
-    word >> 20 & 0xf
-}
-
-/// Field v of a word.
-pub fn v(word: u64) -> u32 {
-    (word >> 32) as u32
-}
-
-/// The word of a kind and its fields d, a, b, c, v; a field that the kind
-/// lacks is to be 0.
-pub const fn pack(kind: u64, d: u64, a: u64, b: u64, c: u64, v: u32) -> u64 {
-    kind | d << 8 | a << 12 | b << 16 | c << 20 | (v as u64) << 32
-}
-
-/// Why a word is no instruction; the place of a landing is not looked at.
-pub fn instruction_refusal(word: u64) -> Option<Refusal> {
-    let kind = kind(word) as usize;
-    if kind >= GUEST_FIELDS.len() {
-        Some(Refusal::UnknownVariety)
-    } else if word & !GUEST_FIELDS[kind] != 0 {
-        Some(Refusal::ForeignMatter)
-    } else if word & !GUEST_GRADE[kind] != 0 {
-        Some(Refusal::OffGrade)
-    } else {
-        None
+/// 'An instruction or command is a 64-bit word: kind in bits 0–7, d 8–11,
+/// a 12–15, b 16–19, c 20–23, zero 24–31, v 32–63.'
+pub fn fields(word: u64) -> Fields {
+    Fields {
+        kind: bits(word, 0, 7),
+        d: bits(word, 8, 11),
+        a: bits(word, 12, 15),
+        b: bits(word, 16, 19),
+        c: bits(word, 20, 23),
+        zero: bits(word, 24, 31),
+        v: bits(word, 32, 63),
     }
 }
 
-/// Whether a word is a command.
-pub fn is_command(word: u64) -> bool {
-    let Some(bits) = COMMAND_BITS.get(kind(word) as usize) else {
-        return false;
-    };
-    // A register field is above 8 when its top bit stands with any other. The
-    // sum carries each field's lower bits up into its top bit, and no further.
-    let above = word & ((word & 0x7_7700) + 0x7_7700) & 0x8_8800;
-    word & !bits == 0 && above == 0
+/// The word of fields that fit in their bits.
+pub fn word(fields: Fields) -> u64 {
+    let at = |field: u32, first: u32| u64::from(field) * (1 << first);
+    at(fields.kind, 0)
+        + at(fields.d, 8)
+        + at(fields.a, 12)
+        + at(fields.b, 16)
+        + at(fields.c, 20)
+        + at(fields.zero, 24)
+        + at(fields.v, 32)
 }

@@ -2,10 +2,11 @@
 
 use super::layout::is_right;
 use super::words::{
-    a, b, c, command, d, guest, instruction_refusal, kind, pack, v, BUNDLE, GUEST_COMMAND_BITS,
-    HIDDEN, LONGEST,
+    a, b, c, command, d, guest, instruction_refusal, kind, names_guest_registers, pack, v, A, B, C,
+    COMMAND_BITS, D, HIDDEN,
 };
-use crate::{Answer, Layout, Refusal};
+use hemdroas::names::{BUNDLE_LENGTH as BUNDLE, MOST_COMMANDS, MOST_INSTRUCTIONS};
+use hemdroas::{Answer, Layout, Refusal};
 
 const NOP: u64 = command::NOP;
 const HALT_BUNDLE: [u64; BUNDLE] = [command::HALT, NOP, NOP, NOP];
@@ -39,12 +40,12 @@ const GO: u64 = pack(command::GOXR, HIDDEN, 0, 0, 0, 0);
 
 impl Fences {
     fn new(layout: &Layout, size: u32) -> Self {
-        let base = layout.code_base;
+        let base = layout.base;
         let immediate = |kind, from, v| pack(kind, HIDDEN, from, 0, 0, v);
         Fences {
             to_sandbox: [
-                immediate(command::ANDI, 0, layout.sandbox_high),
-                immediate(command::ORI, HIDDEN, layout.sandbox_low),
+                immediate(command::ANDI, 0, layout.high),
+                immediate(command::ORI, HIDDEN, layout.low),
             ],
             to_bundle: [
                 immediate(command::SHL, 0, 2),
@@ -88,31 +89,33 @@ impl Fences {
 
     /// Whether four commands have the shape of a bundle.
     fn admits(&self, bundle: &[u64; BUNDLE]) -> bool {
-        const GUEST_A: u64 = 7 << 12;
         let &[first, second, third, fourth] = bundle;
         let kind = kind(first);
         let alone = second == NOP && third == NOP && fourth == NOP;
+        let plain = || first & !COMMAND_BITS[kind as usize] == 0 && names_guest_registers(first);
+        // The same word but for fields of guest registers and conditions.
+        let like = |word: u64, fields: u64, same: u64| {
+            word & !fields == same && names_guest_registers(word & fields) && c(word & fields) <= 3
+        };
         match kind {
             command::HALT => *bundle == HALT_BUNDLE,
-            command::SET..=command::SAR => first & !GUEST_COMMAND_BITS[kind as usize] == 0 && alone,
+            command::SET..=command::SAR => plain() && alone,
             command::ANDI => {
                 let [and, or] = self.to_sandbox;
-                let load = third & !(7 << 8) == LOAD;
-                let store = third & !(7 << 16) == STORE;
-                first & !GUEST_A == and && second == or && (load || store) && fourth == NOP
+                let access = like(third, D, LOAD) || like(third, B, STORE);
+                like(first, A, and) && second == or && access && fourth == NOP
             }
             command::GOIF => {
-                let bits = GUEST_COMMAND_BITS[command::GOIF as usize];
                 let lands = match v(first).checked_sub(self.base) {
                     Some(at) => at < self.size && at % BUNDLE as u32 == 0,
                     None => false,
                 };
-                first & !bits == 0 && lands && alone
+                plain() && lands && alone
             }
             command::SHL => {
                 let [shift, and, or] = self.to_bundle;
-                let guest = GUEST_A | 7 << 16 | 3 << 20;
-                first & !GUEST_A == shift && second == and && third == or && fourth & !guest == GO
+                let go = like(fourth, A | B | C, GO);
+                like(first, A, shift) && second == and && third == or && go
             }
             command::LOOK => {
                 let event = v(first);
@@ -132,7 +135,7 @@ pub fn rewrite(layout: &Layout, words: &[u64], commands: &mut [u64]) -> Answer {
     if !is_right(layout) {
         return Answer::refused(Refusal::BadLayout, 0);
     }
-    if words.len() > LONGEST {
+    if words.len() > MOST_INSTRUCTIONS {
         return Answer::refused(Refusal::Oversize, 0);
     }
     for (place, &word) in words.iter().enumerate() {
@@ -144,11 +147,11 @@ pub fn rewrite(layout: &Layout, words: &[u64], commands: &mut [u64]) -> Answer {
         }
     }
     let size = BUNDLE * bundle_count(words.len());
-    if !(layout.code_base as usize).is_multiple_of(size) {
+    if !(layout.base as usize).is_multiple_of(size) {
         return Answer::refused(Refusal::BadBase, 0);
     }
     if commands.len() < size {
-        return Answer::refused(Refusal::SmallHopper, 0);
+        return Answer::refused(Refusal::SmallOutput, 0);
     }
     let fences = Fences::new(layout, size as u32);
     let (routine, filling) = commands[..size].split_at_mut(BUNDLE * words.len());
@@ -168,10 +171,10 @@ pub fn check(layout: &Layout, commands: &[u64]) -> Answer {
     }
     let size = commands.len();
     // Four times a power of two is a power of two.
-    if !(BUNDLE..=BUNDLE * (LONGEST + 1)).contains(&size) || !size.is_power_of_two() {
+    if !(BUNDLE..=MOST_COMMANDS).contains(&size) || !size.is_power_of_two() {
         return Answer::refused(Refusal::BadCount, 0);
     }
-    if !(layout.code_base as usize).is_multiple_of(size) {
+    if !(layout.base as usize).is_multiple_of(size) {
         return Answer::refused(Refusal::BadBase, 0);
     }
     let fences = Fences::new(layout, size as u32);

@@ -1,0 +1,80 @@
+//! Checking command lists, from whatever producer.
+
+use super::commands::Command::{self, *};
+use super::layout::{is_base_of, is_bundle_count, is_right};
+use super::outputs::{answer, refuse, Refused};
+use super::rewrite::{address, pch, pcl, Bundle, HALT};
+use crate::names::{BUNDLE_LENGTH, GUEST_REGISTERS, HIDDEN};
+use crate::{Answer, Layout, Refusal};
+
+/// The commands of four words, if they are commands.
+fn commands_of(words: &[u64]) -> Option<Bundle> {
+    let commands: Option<Vec<Command>> = words.iter().map(|&word| Command::of_word(word)).collect();
+    commands?.try_into().ok()
+}
+
+/// 'Shapes, of words that are commands by the step rule below, with t = NOP and
+/// guest registers 0 to 7.' Each arm is one of them.
+#[rustfmt::skip]
+fn has_shape(layout: &Layout, bundles: usize, bundle: Bundle) -> bool {
+    let guests = |registers: &[u32]| registers.iter().all(|&r| r < GUEST_REGISTERS);
+    match bundle {
+        // HALT t t t; or one of kinds 2 to 8, then t t t.
+        [Halt, Nop, Nop, Nop] => true,
+        [Set { d, v: _ }, Nop, Nop, Nop] => guests(&[d]),
+        [Move { d, a }, Nop, Nop, Nop] => guests(&[d, a]),
+        [Add { d, a, b }, Nop, Nop, Nop] => guests(&[d, a, b]),
+        [Sub { d, a, b }, Nop, Nop, Nop] => guests(&[d, a, b]),
+        [And { d, a, b }, Nop, Nop, Nop] => guests(&[d, a, b]),
+        [Or { d, a, b }, Nop, Nop, Nop] => guests(&[d, a, b]),
+        [Sar { d, a, v: _ }, Nop, Nop, Nop] => guests(&[d, a]),
+        // ANDI 8,a,SH; ORI 8,8,SL; LOAD d,8; t.
+        [AndI { d: HIDDEN, a, v: and }, OrI { d: HIDDEN, a: HIDDEN, v: or }, Load { d, a: HIDDEN }, Nop] =>
+            guests(&[a, d]) && and == layout.high && or == layout.low,
+        // For STORE: the same two, STORE 8,b; t.
+        [AndI { d: HIDDEN, a, v: and }, OrI { d: HIDDEN, a: HIDDEN, v: or }, Store { a: HIDDEN, b }, Nop] =>
+            guests(&[a, b]) && and == layout.high && or == layout.low,
+        // GOIF, t t t, its address B + 4g' with g' < N.
+        [GoIf { a, b, c: _, v }, Nop, Nop, Nop] =>
+            guests(&[a, b]) && (0..bundles).any(|g| u64::from(v) == address(layout, g)),
+        // SHL 8,d,2; ANDI 8,8,PCH; ORI 8,8,PCL; GOXR through 8 with the guest's a, b, c.
+        [Shl { d: HIDDEN, a: d, v: 2 }, AndI { d: HIDDEN, a: HIDDEN, v: and }, OrI { d: HIDDEN, a: HIDDEN, v: or }, GoXR { d: HIDDEN, a, b, c: _ }] =>
+            guests(&[d, a, b]) && and == pch(layout, bundles) && or == pcl(layout),
+        // LOOK 8,n; STOPIF 8; KEEP 8; EVENT n, one n throughout.
+        [Look { d: HIDDEN, v: look }, StopIf { d: HIDDEN }, Keep { d: HIDDEN }, Event { v: event }] =>
+            look == event,
+        _ => false,
+    }
+}
+
+/// 'The checker passes a list of 4N commands, N a power of two from 1 to 1,024,
+/// whose bundles all have these shapes and whose last is HALT.' 'Checking: 7,
+/// 12, 13, 11.' 'The lowest place comes first.'
+fn checked(layout: &Layout, commands: &[u64]) -> Result<(), Refused> {
+    if !is_right(layout) {
+        return refuse(Refusal::BadLayout);
+    }
+    let bundles = commands.len() / BUNDLE_LENGTH;
+    if commands.len() % BUNDLE_LENGTH != 0 || !is_bundle_count(bundles) {
+        return refuse(Refusal::BadCount);
+    }
+    if !is_base_of(layout, commands.len()) {
+        return refuse(Refusal::BadBase);
+    }
+    for (place, words) in commands.chunks(BUNDLE_LENGTH).enumerate() {
+        let good = match commands_of(words) {
+            None => false,
+            Some(bundle) if place == bundles - 1 => bundle == HALT,
+            Some(bundle) => has_shape(layout, bundles, bundle),
+        };
+        if !good {
+            return Err((Refusal::BadBundle, place));
+        }
+    }
+    Ok(())
+}
+
+/// Checks a command list, from whatever producer.
+pub fn check(layout: &Layout, commands: &[u64]) -> Answer {
+    answer(checked(layout, commands).map(|()| 0))
+}

@@ -1,0 +1,127 @@
+//! Rewriting instructions into bundles.
+
+use super::commands::Command;
+use super::instructions::{judge_in_routine, Instr};
+use super::layout::{bundle_count, is_base_of, is_right};
+use super::outputs::{deliver, refuse, room_for, Refused};
+use crate::names::{BUNDLE_LENGTH, HIDDEN, MOST_INSTRUCTIONS};
+use crate::{Answer, Layout, Refusal};
+
+/// The commands of a bundle.
+pub type Bundle = [Command; BUNDLE_LENGTH];
+
+/// 'HALT t t t', with t = NOP.
+pub const HALT: Bundle = alone(Command::Halt);
+
+/// A command, then t t t.
+const fn alone(command: Command) -> Bundle {
+    [command, Command::Nop, Command::Nop, Command::Nop]
+}
+
+/// 'PCL = B.'
+pub fn pcl(layout: &Layout) -> u32 {
+    layout.base
+}
+
+/// 'PCH = B + 4N − 1', summed without wrap; B is a multiple of 4N.
+pub fn pch(layout: &Layout, bundles: usize) -> u32 {
+    (layout.base as usize + BUNDLE_LENGTH * bundles - 1) as u32
+}
+
+/// 'Instruction g becomes four commands at addresses B + 4g to B + 4g + 3.'
+/// This is the first, summed without wrap.
+pub fn address(layout: &Layout, g: usize) -> u64 {
+    u64::from(layout.base) + (BUNDLE_LENGTH * g) as u64
+}
+
+/// 'ANDI 8,a,SH; ORI 8,8,SL; LOAD d,8; t. For STORE: the same two, STORE 8,b;
+/// t.'
+fn masked(layout: &Layout, a: u32, access: Command) -> Bundle {
+    [
+        Command::AndI {
+            d: HIDDEN,
+            a,
+            v: layout.high,
+        },
+        Command::OrI {
+            d: HIDDEN,
+            a: HIDDEN,
+            v: layout.low,
+        },
+        access,
+        Command::Nop,
+    ]
+}
+
+/// 'The rewriter gives each instruction the shape of its name, with its
+/// fields.'
+#[rustfmt::skip]
+fn bundle(layout: &Layout, bundles: usize, instr: Instr) -> Bundle {
+    match instr {
+        Instr::Halt => HALT,
+        Instr::Set { d, v } => alone(Command::Set { d, v }),
+        Instr::Move { d, a } => alone(Command::Move { d, a }),
+        Instr::Add { d, a, b } => alone(Command::Add { d, a, b }),
+        Instr::Sub { d, a, b } => alone(Command::Sub { d, a, b }),
+        Instr::And { d, a, b } => alone(Command::And { d, a, b }),
+        Instr::Or { d, a, b } => alone(Command::Or { d, a, b }),
+        Instr::Sar { d, a, v } => alone(Command::Sar { d, a, v }),
+        Instr::Load { d, a } => masked(layout, a, Command::Load { d, a: HIDDEN }),
+        Instr::Store { a, b } => masked(layout, a, Command::Store { a: HIDDEN, b }),
+        // 'Its address B + 4g' (rewritten: g = v)'
+        Instr::GoIf { a, b, c, v } => {
+            let v = address(layout, v as usize) as u32;
+            alone(Command::GoIf { a, b, c, v })
+        }
+        // 'SHL 8,d,2; ANDI 8,8,PCH; ORI 8,8,PCL; GOXR through 8 with the guest's a, b, c'
+        Instr::GoX { d, a, b, c } => [
+            Command::Shl { d: HIDDEN, a: d, v: 2 },
+            Command::AndI { d: HIDDEN, a: HIDDEN, v: pch(layout, bundles) },
+            Command::OrI { d: HIDDEN, a: HIDDEN, v: pcl(layout) },
+            Command::GoXR { d: HIDDEN, a, b, c },
+        ],
+        // 'LOOK 8,n; STOPIF 8; KEEP 8; EVENT n, one n throughout'
+        Instr::Event { v } => [
+            Command::Look { d: HIDDEN, v },
+            Command::StopIf { d: HIDDEN },
+            Command::Keep { d: HIDDEN },
+            Command::Event { v },
+        ],
+    }
+}
+
+/// 'Rewriting: 7; 5; per word 3, 2, 4, 8; 13; 9.' 'Instructions n to N − 1 are
+/// HALT.'
+fn rewritten(layout: &Layout, words: &[u64], room: usize) -> Result<Vec<u64>, Refused> {
+    if !is_right(layout) {
+        return refuse(Refusal::BadLayout);
+    }
+    let n = words.len();
+    if n > MOST_INSTRUCTIONS {
+        return refuse(Refusal::Oversize);
+    }
+    let mut instrs = Vec::new();
+    for (place, &word) in words.iter().enumerate() {
+        match judge_in_routine(word, n) {
+            Ok(instr) => instrs.push(instr),
+            Err(refusal) => return Err((refusal, place)),
+        }
+    }
+    let bundles = bundle_count(n);
+    let size = BUNDLE_LENGTH * bundles;
+    if !is_base_of(layout, size) {
+        return refuse(Refusal::BadBase);
+    }
+    room_for(size, room)?;
+    instrs.resize(bundles, Instr::Halt);
+    Ok(instrs
+        .into_iter()
+        .flat_map(|instr| bundle(layout, bundles, instr))
+        .map(Command::word)
+        .collect())
+}
+
+/// Rewrites a routine's words into commands that keep to the layout.
+pub fn rewrite(layout: &Layout, words: &[u64], commands: &mut [u64]) -> Answer {
+    deliver(rewritten(layout, words, commands.len()), commands)
+}

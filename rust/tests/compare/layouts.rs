@@ -1,0 +1,103 @@
+//! Right layouts and wrong ones, by checking a list that is right under any.
+
+use crate::check::check;
+use crate::common::inputs::{altered_layout, right_layout};
+use crate::common::{cases, Rng, Tally};
+use hemdroas::Layout;
+
+const LIST: [u64; 4] = [1, 0, 0, 0];
+
+/// Small layouts with one state, table and landings at either end or next to
+/// each other, the rest everywhere.
+fn small_layouts(tally: &mut Tally) {
+    let places = [
+        (0, 16),
+        (32, 0),
+        (0, 20),
+        (36, 0),
+        (1, 17),
+        (33, 1),
+        (16, 20),
+    ];
+    for size in 49..=52 {
+        for (table, landings) in places {
+            for length in 0..=4 {
+                for low in 0..=52 {
+                    for cell in 0..=52 {
+                        let high = u32::wrapping_add(low, length).wrapping_sub(1);
+                        let (states, base) = (1, 0);
+                        let layout = Layout {
+                            size,
+                            low,
+                            high,
+                            cell,
+                            table,
+                            states,
+                            base,
+                            landings,
+                        };
+                        let _ = check(tally, &layout, &LIST);
+                    }
+                }
+            }
+        }
+    }
+}
+
+/// One right layout with table, landings, state cell and sandbox in turn
+/// everywhere, and about the end of 32 bits.
+fn moved_regions(tally: &mut Tally) {
+    let right = Layout {
+        size: 60,
+        low: 56,
+        high: 57,
+        cell: 52,
+        table: 2,
+        states: 1,
+        base: 0,
+        landings: 20,
+    };
+    for place in (0..64).chain(u32::MAX - 64..=u32::MAX) {
+        for size in 50..=60 {
+            let right = Layout { size, ..right };
+            for layout in [
+                Layout {
+                    landings: place,
+                    ..right
+                },
+                Layout {
+                    table: place,
+                    ..right
+                },
+                Layout {
+                    cell: place,
+                    ..right
+                },
+                Layout {
+                    low: place,
+                    high: place,
+                    ..right
+                },
+            ] {
+                let _ = check(tally, &layout, &LIST);
+            }
+        }
+    }
+}
+
+fn altered_layouts(tally: &mut Tally, rng: &mut Rng) {
+    for _ in 0..cases(15_000) {
+        let right = right_layout(rng, 1);
+        let layout = altered_layout(rng, &right);
+        let _ = check(tally, &layout, &LIST);
+    }
+}
+
+#[test]
+fn layouts() {
+    let (mut tally, mut rng) = Tally::new("layouts", 5);
+    small_layouts(&mut tally);
+    moved_regions(&mut tally);
+    altered_layouts(&mut tally, &mut rng);
+    tally.conclude(&[("check", &[0, 7, 13])]);
+}

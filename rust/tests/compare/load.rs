@@ -1,0 +1,87 @@
+//! Loading.
+
+use crate::common::inputs::{
+    announced, any_record, base_for, output, right_layout, room, some_bytes,
+};
+use crate::common::{cases, Tally};
+use crate::install::{some_installation, Installation};
+use hemdroas::model::{self, bundle_count};
+use hemdroas::names::MOST_INSTRUCTIONS;
+use hemdroas::{native, Answer, Layout, Policy, Record};
+
+/// 1 to 6 by reading, 7 to 9 and 13 by rewriting, 7, 10 and 14 by installing;
+/// the checker refuses nothing that was rewritten.
+const NUMBERS: [u32; 13] = [0, 1, 2, 3, 4, 5, 6, 7, 8, 9, 10, 13, 14];
+
+/// What a load is lent.
+#[derive(Clone, Debug, PartialEq)]
+pub struct Lent {
+    pub commands: Vec<u64>,
+    pub memory: Vec<u32>,
+    pub record: Record,
+}
+
+pub fn load(
+    tally: &mut Tally,
+    layout: &Layout,
+    policy: &Policy,
+    landings: &[u32],
+    bytes: &[u8],
+    lent: &Lent,
+) -> Answer {
+    let load = |load: Load, mut lent: Lent| {
+        let Lent {
+            commands,
+            memory,
+            record,
+        } = &mut lent;
+        let answer = load(layout, policy, landings, bytes, commands, memory, record);
+        (answer, lent)
+    };
+    let (answer, left) = load(model::load_record, lent.clone());
+    let (given, theirs) = load(native::load_record, lent.clone());
+    let input = || format!("{bytes:02x?}, {policy:?} and {landings:?} under {layout:?}");
+    assert_eq!(given, answer, "loading {}", input());
+    assert_eq!(theirs, left, "what was lent to the load of {}", input());
+    if answer.number() == 7 && model::is_right(layout) {
+        tally.note("loads refused for the memory alone", 1);
+    }
+    tally.count("load", answer.number());
+    answer
+}
+
+type Load = fn(&Layout, &Policy, &[u32], &[u8], &mut [u64], &mut [u32], &mut Record) -> Answer;
+
+#[test]
+fn loading() {
+    let (mut tally, mut rng) = Tally::new("loading", 8);
+    for _ in 0..cases(30_000) {
+        let bytes = some_bytes(&mut rng);
+        let bundles = bundle_count(announced(&bytes).min(MOST_INSTRUCTIONS));
+        let mut layout = right_layout(&mut rng, bundles);
+        if rng.chance(10) {
+            layout.base = base_for(&mut rng, 1);
+        }
+        let Installation {
+            layout,
+            policy,
+            landings,
+            cells,
+        } = some_installation(&mut rng, layout);
+        let room = room(&mut rng, 4 * bundles);
+        let lent = Lent {
+            commands: output(&mut rng, room),
+            memory: rng.cells(cells),
+            record: any_record(&mut rng),
+        };
+        let _ = load(
+            &mut tally,
+            &layout,
+            &policy.lend(),
+            &landings,
+            &bytes,
+            &lent,
+        );
+    }
+    tally.conclude(&[("load", &NUMBERS)]);
+}
