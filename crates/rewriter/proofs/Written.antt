@@ -17,7 +17,7 @@ use Rattle.rules.specs.Layouts.{rightLayout}
 use Rattle.rules.specs.Words.{judgeAt, routine, bundlesFor}
 use Rattle.rules.specs.Bundles.{baseRight, commandCount, commandsOf, placeAnswer, rewritten, rewriteAnswer, rewriteOutput, valid}
 use Rattle.rules.proofs.Facts.{Valid}
-use Rattle.rules.proofs.Bools.{cond-ind}
+use Rattle.rules.proofs.Bools.{cond-ind, unless-ind}
 use Rattle.rules.proofs.Refusals.{taken-then, output-kept, output-written}
 use Rattle.rules.proofs.Layouts.{layout-facts}
 use Rattle.rules.proofs.Masks.{base-room}
@@ -43,13 +43,11 @@ module _ (l : Layout) (ws : List ℕ) (room : ℕ) where
   roomy : Roomy (rewriteAnswer l ws room)
   unfolding rewriteAnswer placeAnswer
   roomy =
-      cond-ind Roomy (rightLayout l)
+      unless-ind Roomy (rightLayout l) (λ _ z. absurd (omega arith))
       (λ _. cond-ind Roomy (ltb mostInstructions (length ws)) (λ _ z. absurd (omega arith))
       (λ _. taken-then (judgeAt (length ws)) (λ _. commandCount (length ws) ≤ room) ws 0 (placeAnswer l (length ws) room)
-      (cond-ind Roomy (baseRight l (bundlesFor (length ws)))
-      (λ _. cond-ind Roomy (ltb room (commandCount (length ws))) (λ _ z. absurd (omega arith)) (λ e _. ltb-false _ _ e))
-      (λ _ z. absurd (omega arith)))))
-      (λ _ z. absurd (omega arith))
+      (unless-ind Roomy (baseRight l (bundlesFor (length ws))) (λ _ z. absurd (omega arith))
+      (λ _. cond-ind Roomy (ltb room (commandCount (length ws))) (λ _ z. absurd (omega arith)) (λ e _. ltb-false _ _ e)))))
 
   module _ (a : Answer) (ea : a ≡ rewriteAnswer l ws room) (z : a .number ≡ 0) where
     zero-is : rewriteAnswer l ws room .number ≡ 0

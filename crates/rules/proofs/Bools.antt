@@ -1,6 +1,6 @@
 -- Tests of `&&`, `||` and `cond`, taken apart and put together.
 use mathlib.Core.Path.{_≡_, refl}
-use mathlib.Core.Bool.{Bool, true, false, _&&_, _||_, cond, false≢true}
+use mathlib.Core.Bool.{Bool, true, false, _&&_, _||_, not, cond, false≢true}
 use mathlib.Core.Logic.{_⊎_, inl, inr}
 
 -- true and false are apart, so that anything follows
@@ -26,6 +26,10 @@ either false b e = inr e
 pub cond-ind {ℓ κ} : {X : Type ℓ} (P : X → Type κ) (b : Bool) {x y : X} → (b ≡ true → P x) → (b ≡ false → P y) → P (cond b x y)
 cond-ind P true f g = f refl
 cond-ind P false f g = g refl
+
+pub unless-ind {ℓ κ} : {X : Type ℓ} (P : X → Type κ) (b : Bool) {x y : X} → (b ≡ false → P x) → (b ≡ true → P y) → P (cond (not b) x y)
+unless-ind P true f g = g refl
+unless-ind P false f g = f refl
 
 -- a function of either branch under its test
 pub cond-map {ℓ κ} : {X : Type ℓ} {Y : Type κ} (f : X → Y) (b : Bool) {x y : X} {x′ y′ : Y} → (b ≡ true → f x ≡ x′) → (b ≡ false → f y ≡ y′) → f (cond b x y) ≡ cond b x′ y′

@@ -1,6 +1,6 @@
 -- From what checking, installing and rewriting answer to the facts of Facts.antt.
 use mathlib.Core.Path.{_≡_, refl, _∙_, ap}
-use mathlib.Core.Bool.{Bool, true, _||_, cond}
+use mathlib.Core.Bool.{Bool, true, _||_, not, cond}
 use mathlib.Core.Logic.{_⊎_, inl, inr, ⊎-elim}
 use mathlib.Core.List.{List, [], _∷_}
 use Prim.Native.Nat.{ℕ, zero, suc, _+_, _-_, _*_, _/_, _%_, _<_, _≤_}
@@ -24,7 +24,7 @@ use Rattle.rules.specs.Bundles.{bundleWord, bundlesFrom, rewritten, comm
 use Rattle.rules.specs.Claims.{SizeLaws}
 use Rattle.rules.specs.Machines.{machineAt, fits, installAnswer, installMemory, installMachine}
 use Rattle.rules.proofs.Facts.{Right, Valid, Bundled, Laid}
-use Rattle.rules.proofs.Bools.{no, cases, both, either, cond-ind}
+use Rattle.rules.proofs.Bools.{no, cases, both, either, cond-ind, unless-ind}
 use Rattle.rules.proofs.Refusals.{TakesEach, takes-each, taken-then}
 use Rattle.rules.proofs.Layouts.{LayoutFacts, layout-facts, outside}
 use Rattle.rules.proofs.Landings.{length-landings, marks-of}
@@ -35,6 +35,9 @@ use Rattle.rules.proofs.GuestWords.{taken-valid}
 -- an answer whose number is 0, under a test that refuses otherwise
 taken-if : (P : Type 0) (b : Bool) (x y : Answer) → (y .number ≡ 0 → ⊥) → (b ≡ true → x .number ≡ 0 → P) → cond b x y .number ≡ 0 → P
 taken-if P b x y f go = cond-ind (λ (a : Answer). a .number ≡ 0 → P) b go (λ t e. absurd (f e))
+
+taken-unless : (P : Type 0) (b : Bool) (x y : Answer) → (x .number ≡ 0 → ⊥) → (b ≡ true → y .number ≡ 0 → P) → cond (not b) x y .number ≡ 0 → P
+taken-unless P b x y f go = unless-ind (λ (a : Answer). a .number ≡ 0 → P) b (λ t e. absurd (f e)) go
 
 -- ---- checking
 
@@ -59,9 +62,9 @@ unfolding checkAnswer
 passed-of lay ws =
     let n = length ws / bundleLength in
     let P = Passed lay ws n in
-    taken-if P (rightLayout lay) _ _ (λ z. omega arith)
-    (λ r. taken-if P (countRight (length ws)) _ _ (λ z. omega arith)
-    (λ c. taken-if P (baseRight lay n) _ _ (λ z. omega arith)
+    taken-unless P (rightLayout lay) _ _ (λ z. omega arith)
+    (λ r. taken-unless P (countRight (length ws)) _ _ (λ z. omega arith)
+    (λ c. taken-unless P (baseRight lay n) _ _ (λ z. omega arith)
     (λ b e.
     let c₁ = both _ _ c in
     let c₀ = both _ _ (c₁ .0) in
@@ -205,9 +208,9 @@ pub fits-of : (lay : Layout) (pol : Policy) (mem : List ℕ) → installAnswer l
 unfolding installAnswer
 fits-of lay pol mem =
     let P = (fits lay mem ≡ true) × (rightPolicy lay pol ≡ true) in
-    taken-if P (fits lay mem) _ _ (λ z. omega arith)
-    (λ f. taken-if P (rightPolicy lay pol) _ _ (λ z. omega arith)
-    (λ p. taken-if P (rightLandings (pol .landings)) _ _ (λ z. omega arith) (λ r e. (f, p))))
+    taken-unless P (fits lay mem) _ _ (λ z. omega arith)
+    (λ f. taken-unless P (rightPolicy lay pol) _ _ (λ z. omega arith)
+    (λ p. taken-unless P (rightLandings (pol .landings)) _ _ (λ z. omega arith) (λ r e. (f, p))))
 
 pub machine-of : (lay : Layout) (pol : Policy) (mem : List ℕ) → installAnswer lay pol mem .number ≡ 0 → installMachine lay pol mem ≡ machineAt (lay .base)
 unfolding installMachine
@@ -323,10 +326,10 @@ unfolding rewriteAnswer placeAnswer
 taken-of lay code room =
     let n = length code in
     let P = Taken lay code in
-    taken-if P (rightLayout lay) _ _ (λ z. omega arith) (λ r.
+    taken-unless P (rightLayout lay) _ _ (λ z. omega arith) (λ r.
     cond-ind (λ (a : Answer). a .number ≡ 0 → P) (ltb mostInstructions n) (λ _ z. absurd (omega arith)) (λ m e.
     taken-then (judgeAt n) (λ _. P) code 0 (placeAnswer lay n room)
-    (taken-if P (baseRight lay (bundlesFor n)) _ _ (λ z. omega arith) (λ b.
+    (taken-unless P (baseRight lay (bundlesFor n)) _ _ (λ z. omega arith) (λ b.
     cond-ind (λ (a : Answer). a .number ≡ 0 → P) (ltb room (commandCount n)) (λ _ z. absurd (omega arith)) (λ _ _.
     record { right = r; most = ltb-false _ _ m; each = takes-each (judgeAt n) code 0 _ e; base = b }))) e))
 

@@ -30,7 +30,7 @@ use Rattle.rules.specs.Commands.{fetchOf, holdsOf}
 use Rattle.rules.specs.Bundles.{baseRight, rewritten, commandsOf, commandCount, placeAnswer, rewriteAnswer, countRight, passesAt, checkFrom, checkAnswer}
 use Rattle.rules.specs.Machines.{ifRoom, View, State, Ran, fits, installAnswer, regAt, entryOf, landsAt, effectOf, withPair, applyOf, seen, nextOf, stepOf, endingOf, endedIn, unlessOver, unlessWait, runFrom, startOf, runOf}
 use Rattle.rules.specs.Loading.{loadAnswer}
-use Rattle.rules.proofs.Bools.{cond-ind, both}
+use Rattle.rules.proofs.Bools.{cond-ind, unless-ind, both}
 use Rattle.rules.proofs.Refusals.{taken-then}
 use Rattle.rules.proofs.Bytes.{bit-le, length-fields, length-routine}
 use Rattle.rules.proofs.Masks.{sizes}
@@ -81,9 +81,8 @@ judge-small : (x : ℕ) (f : Fields) → judgeOf x f < 2 ^ 8
 unfolding judgeOf
 judge-small x f =
     cond-ind (λ (n : ℕ). n < 2 ^ 8) (ltb topKind (f .kind)) (λ _. lit< tt)
-    (λ _. cond-ind (λ (n : ℕ). n < 2 ^ 8) (eqb (x + strayFields (getD fieldSets (f .kind) 0) f) 0)
-    (λ _. cond-ind (λ (n : ℕ). n < 2 ^ 8) (eqb (highFields (getD numberTops (f .kind) 0) f) 0) (λ _. lit< tt) (λ _. lit< tt))
-    (λ _. lit< tt))
+    (λ _. unless-ind (λ (n : ℕ). n < 2 ^ 8) (eqb (x + strayFields (getD fieldSets (f .kind) 0) f) 0) (λ _. lit< tt)
+    (λ _. unless-ind (λ (n : ℕ). n < 2 ^ 8) (eqb (highFields (getD numberTops (f .kind) 0) f) 0) (λ _. lit< tt) (λ _. lit< tt)))
 
 abbrev SmallOne : One → Type 0
 SmallOne (Word w u) = Unit {0}
@@ -158,13 +157,12 @@ length-commands lay ws = length-bundles lay (bundlesFor (length ws)) (routine ws
 pub rewrite-bound : (lay : Layout) (ws : List ℕ) (room : ℕ) → Bounded mostCommands room (rewriteAnswer lay ws room)
 unfolding rewriteAnswer placeAnswer
 rewrite-bound lay ws room =
-    cond-ind (Bounded mostCommands room) (rightLayout lay)
+    unless-ind (Bounded mostCommands room) (rightLayout lay) (λ _. at-start _ _ _ (lit< tt))
     (λ _. cond-ind (Bounded mostCommands room) (ltb mostInstructions (length ws)) (λ _. at-start _ _ _ (lit< tt))
     (λ e. let n : length ws ≤ mostInstructions = ltb-false _ _ e in
     first-bound (judgeAt (length ws)) (judge-at-small (length ws)) ws 0 mostCommands room _ (omega arith)
-    (cond-ind (Bounded mostCommands room) (baseRight lay (bundlesFor (length ws))) (λ _. room-bound _ _ _ (count-bound (length ws) n))
-    (λ _. at-start _ _ _ (lit< tt)))))
-    (λ _. at-start _ _ _ (lit< tt))
+    (unless-ind (Bounded mostCommands room) (baseRight lay (bundlesFor (length ws))) (λ _. at-start _ _ _ (lit< tt))
+    (λ _. room-bound _ _ _ (count-bound (length ws) n)))))
 
 -- words that rewriting takes: 4N commands are written
 pub rewrite-taken : (lay : Layout) (ws : List ℕ) (room : ℕ) → rewriteAnswer lay ws room .number ≡ 0 → rewriteAnswer lay ws room ≡ answer 0 (commandCount (length ws))
@@ -172,13 +170,11 @@ unfolding rewriteAnswer placeAnswer
 rewrite-taken lay ws room =
     let a = answer 0 (commandCount (length ws)) in
     let T : Answer → Type 0 = λ b. b .number ≡ 0 → b ≡ a in
-    cond-ind T (rightLayout lay)
+    unless-ind T (rightLayout lay) (λ _ z. absurd (omega arith))
     (λ _. cond-ind T (ltb mostInstructions (length ws)) (λ _ z. absurd (omega arith))
     (λ _. taken-then (judgeAt (length ws)) (λ b. b ≡ a) ws 0 _
-    (cond-ind T (baseRight lay (bundlesFor (length ws)))
-    (λ _. cond-ind T (ltb room (commandCount (length ws))) (λ _ z. absurd (omega arith)) (λ _ _. refl))
-    (λ _ z. absurd (omega arith)))))
-    (λ _ z. absurd (omega arith))
+    (unless-ind T (baseRight lay (bundlesFor (length ws))) (λ _ z. absurd (omega arith))
+    (λ _. cond-ind T (ltb room (commandCount (length ws))) (λ _ z. absurd (omega arith)) (λ _ _. refl)))))
 
 check-from-bound : (lay : Layout) (n : ℕ) (ws : List ℕ) (h m top : ℕ) → h + m ≤ top + 1 → Bounded top 0 (checkFrom lay n ws h m)
 unfolding checkFrom
@@ -190,25 +186,20 @@ check-from-bound lay n ws h (suc m) top k =
 pub check-bound : (lay : Layout) (ws : List ℕ) → Bounded mostInstructions 0 (checkAnswer lay ws)
 unfolding checkAnswer
 check-bound lay ws =
-    cond-ind (Bounded mostInstructions 0) (rightLayout lay)
-    (λ _. cond-ind (Bounded mostInstructions 0) (countRight (length ws))
+    unless-ind (Bounded mostInstructions 0) (rightLayout lay) (λ _. at-start _ _ _ (lit< tt))
+    (λ _. unless-ind (Bounded mostInstructions 0) (countRight (length ws)) (λ _. at-start _ _ _ (lit< tt))
     (λ e. let l : length ws ≤ mostCommands = leb-true _ _ (both _ _ (both _ _ e .0) .0) in
-    cond-ind (Bounded mostInstructions 0) (baseRight lay (length ws / bundleLength))
-    (λ _. check-from-bound lay (length ws / bundleLength) ws 0 (length ws / bundleLength) mostInstructions (omega arith))
-    (λ _. at-start _ _ _ (lit< tt)))
-    (λ _. at-start _ _ _ (lit< tt)))
-    (λ _. at-start _ _ _ (lit< tt))
+    unless-ind (Bounded mostInstructions 0) (baseRight lay (length ws / bundleLength)) (λ _. at-start _ _ _ (lit< tt))
+    (λ _. check-from-bound lay (length ws / bundleLength) ws 0 (length ws / bundleLength) mostInstructions (omega arith))))
 
 -- ---- installing and loading
 
 pub install-bound : (lay : Layout) (pol : Policy) (mem : List ℕ) → Bounded 0 0 (installAnswer lay pol mem)
 unfolding installAnswer
 install-bound lay pol mem =
-    cond-ind (Bounded 0 0) (fits lay mem)
-    (λ _. cond-ind (Bounded 0 0) (rightPolicy lay pol)
-    (λ _. cond-ind (Bounded 0 0) (rightLandings (pol .landings)) (λ _. at-start _ _ _ (lit< tt)) (λ _. at-start _ _ _ (lit< tt)))
-    (λ _. at-start _ _ _ (lit< tt)))
-    (λ _. at-start _ _ _ (lit< tt))
+    unless-ind (Bounded 0 0) (fits lay mem) (λ _. at-start _ _ _ (lit< tt))
+    (λ _. unless-ind (Bounded 0 0) (rightPolicy lay pol) (λ _. at-start _ _ _ (lit< tt))
+    (λ _. unless-ind (Bounded 0 0) (rightLandings (pol .landings)) (λ _. at-start _ _ _ (lit< tt)) (λ _. at-start _ _ _ (lit< tt))))
 
 pub load-bound : (lay : Layout) (pol : Policy) (s : List ℕ) (room : ℕ) (mem : List ℕ) → Bounded mostCommands room (loadAnswer lay pol s room mem)
 unfolding loadAnswer

@@ -9,7 +9,7 @@ use borrow.Author.Tests.{eqb-true, ltb-false}
 use Rattle.rules.specs.declared.Fields.{Fields}
 use Rattle.rules.specs.Names.{topGuest, topCondition, topWord, topKind}
 use Rattle.rules.specs.Words.{kindOf, dOf, aOf, bOf, cOf, zeroOf, vOf, fieldsOf, packOf, packFields, fieldSets, numberTops, bitOf, strayFields, highFields, judgeOf}
-use Rattle.rules.proofs.Bools.{cond-ind}
+use Rattle.rules.proofs.Bools.{cond-ind, unless-ind}
 use Rattle.rules.proofs.Packing.{InBits, pack-kind, pack-d, pack-a, pack-b, pack-c, pack-zero, pack-v}
 
 -- what an instruction that is not refused has
@@ -23,11 +23,9 @@ unfolding judgeOf
 good x f =
     let P : ℕ → Type 0 = λ y. y ≡ 0 → Good x f in
     cond-ind P (ltb topKind (f .kind)) (λ _ e. absurd (omega arith)) (λ h0.
-    cond-ind P (eqb (x + strayFields (getD fieldSets (f .kind) 0) f) 0) (λ h1.
-    cond-ind P (eqb (highFields (getD numberTops (f .kind) 0) f) 0) (λ h2 _.
-    record { kind = ltb-false topKind (f .kind) h0; none = eqb-true _ _ h1; low = eqb-true _ _ h2 })
-    (λ _ e. absurd (omega arith)))
-    (λ _ e. absurd (omega arith)))
+    unless-ind P (eqb (x + strayFields (getD fieldSets (f .kind) 0) f) 0) (λ _ e. absurd (omega arith)) (λ h1.
+    unless-ind P (eqb (highFields (getD numberTops (f .kind) 0) f) 0) (λ _ e. absurd (omega arith)) (λ h2 _.
+    record { kind = ltb-false topKind (f .kind) h0; none = eqb-true _ _ h1; low = eqb-true _ _ h2 })))
 
 all-zero : (a b c d e : ℕ) → a + b + c + d + e ≡ 0 → (a ≡ 0) × (b ≡ 0) × (c ≡ 0) × (d ≡ 0) × (e ≡ 0)
 all-zero a b c d e h = (omega arith, omega arith, omega arith, omega arith, omega arith)

@@ -9,7 +9,7 @@ use Rattle.rules.specs.declared.Answer.{Answer}
 use Rattle.rules.specs.declared.One.{One}
 use Rattle.rules.specs.declared.One.the-variants.{Word, Bad}
 use Rattle.rules.specs.declared.Refusal.the-variants.{Taken, Short, Foreign, Oversize, Trailing, SmallOutput}
-use Rattle.rules.specs.Names.{mostInstructions, numberOf, answer, refusal, outputOf, roomFor}
+use Rattle.rules.specs.Names.{mostInstructions, numberOf, answer, refusal, outputOf, roomFor, first}
 use Rattle.rules.specs.Words.{bitOf, judgeOf, judgeWord, firstRefused, fieldsOf, packFields}
 
 -- 'a map byte: bit 0 kind, 1 d, 2 a, 3 b, 4 c, 5 v'; 'a field that is 0 is absent'
@@ -96,9 +96,12 @@ wordsIn s = wordsOf (countOf s) (drop 2 s)
 -- 'Reading: 1 for the count, 5, 9; per instruction map 2, 1, 3, 2, 4; then 6'; room is the output's length
 unfoldable pub readAnswer : List ℕ → ℕ → Answer
 readAnswer s room =
-    cond (ltb (length s) 2) (refusal Short 0)
-    (cond (ltb mostInstructions (countOf s)) (refusal Oversize 0)
-    (cond (ltb room (countOf s)) (refusal SmallOutput 0) (scanOf (countOf s) 0 (drop 2 s))))
+    first
+    ((ltb (length s) 2, refusal Short 0)
+    ∷ (ltb mostInstructions (countOf s), refusal Oversize 0)
+    ∷ (ltb room (countOf s), refusal SmallOutput 0)
+    ∷ [])
+    (scanOf (countOf s) 0 (drop 2 s))
 
 -- what the output holds after reading
 unfoldable pub readOutput : List ℕ → List ℕ → List ℕ

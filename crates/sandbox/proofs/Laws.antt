@@ -1,7 +1,7 @@
 -- Laws of loading, one for each way out of the code.
 use Prim.Native.Nat.{ℕ, _≤_, _<_}
 use mathlib.Core.Path.{_≡_, refl, sym, ap, _∙_}
-use mathlib.Core.Bool.{Bool, true, false, cond}
+use mathlib.Core.Bool.{Bool, true, false, not, cond}
 use mathlib.Core.Logic.{⊎-elim}
 use mathlib.Core.List.{List, _++_}
 use native.Mathlib.Omega.{arith}
@@ -105,12 +105,11 @@ room-none room a =
 pub rewrite-room : (lay : Layout) (ws : List ℕ) (room most : ℕ) → mostCommands ≤ most → inRoom room (rewriteAnswer lay ws most) ≡ rewriteAnswer lay ws room
 unfolding rewriteAnswer placeAnswer inRoom
 rewrite-room lay ws room most h =
-    cond-map (inRoom room) (rightLayout lay)
+    cond-map (inRoom room) (not (rightLayout lay)) (λ _. refl)
     (λ _. cond-map (inRoom room) (ltb mostInstructions (length ws)) (λ _. refl)
     (λ t. let n : commandCount (length ws) ≤ most = omega (arith, count-bound (length ws) (ltb-false _ _ t)) in
     refused-map (judgeAt (length ws)) (inRoom room) (λ x p h. sym (roomed room (answer x p) h)) ws 0 _
-    ∙ ap (firstRefused (judgeAt (length ws)) ws 0) (cond-map (inRoom room) (baseRight lay (bundlesFor (length ws))) (λ _. rw (le-ltb _ _ n)) (λ _. refl))))
-    (λ _. refl)
+    ∙ ap (firstRefused (judgeAt (length ws)) ws 0) (cond-map (inRoom room) (not (baseRight lay (bundlesFor (length ws)))) (λ _. refl) (λ _. rw (le-ltb _ _ n)))))
 
 -- ---- checking
 module _ (lay : Layout) (list : List ℕ) (a : Answer) where
