@@ -1,6 +1,6 @@
 -- Laws of one instruction read, in the form in which the proofs of the functions cite them.
 use mathlib.Core.Path.{_≡_, sym, ap, _∙_}
-use mathlib.Core.Bool.{true, _&&_}
+use mathlib.Core.Bool.{true, _&&_, not}
 use mathlib.Core.List.{List}
 use Prim.Native.Nat.{ℕ, zero, suc, _+_, _*_, _/_, _%_, _^_, _≤_, _<_}
 use native.Mathlib.Omega.{arith}
@@ -11,7 +11,7 @@ use borrow.Author.Tests.{eq-eqb, ne-eqb, eqb-true, ltb-true}
 use Rattle.rules.specs.declared.Fields.{Fields}
 use Rattle.rules.specs.declared.One.the-variants.{Word}
 use Rattle.rules.specs.Words.{judgeOf, judgeWord, fieldsOf, packFields, cutOf}
-use Rattle.rules.specs.Bytes.{byteAt, quadAt, fieldsAt, mapOf, sizeOf, gap, oneFields}
+use Rattle.rules.specs.Bytes.{byteAt, quadAt, fieldsAt, mapOf, sizeOf, oneFields}
 use Rattle.rules.proofs.Bytes.{fields-are, fields-word}
 use Rattle.rules.proofs.Bools.{both}
 use Rattle.rules.proofs.WordLaws.{bits-pack}
@@ -65,13 +65,9 @@ unfolding fieldsAt
 all-are m s at k d a e ek ed ea f ef = ef ∙ fields-are m s k d a _ _ _ ek ed ea (rw e) (rw e) (rw e)
 
 -- a judgement of 0 lets packing cut nothing off
-pub fields-good : (m : ℕ) (f : Fields) (n : ℕ) → n ≡ mapOf f → (g : ℕ) → g ≡ gap m n → (x : ℕ) → x ≡ judgeOf g f → x ≡ 0
+pub fields-good : (m : ℕ) (f : Fields) (n : ℕ) → n ≡ mapOf f → (x : ℕ) → x ≡ judgeOf (not (eqb m n)) f → x ≡ 0
     → (p u : ℕ) → p ≡ packFields (cutOf f) → u ≡ sizeOf m → Word p u ≡ oneFields m f
-fields-good m f n en g eg x ex z p u ep eu =
-    fields-word m f n en g eg x ex z p u (ep ∙ ap packFields (uncut g f (sym ex ∙ z))) eu
-
-no-gap : (m n : ℕ) → m ≡ n → 0 ≡ gap m n
-no-gap m n e = omega arith
+fields-good m f n en x ex z p u ep eu = fields-word m f n en x ex z p u (ep ∙ ap packFields (uncut _ f (sym ex ∙ z))) eu
 
 -- fields that fit a word, judged in their word
 pub whole-good : (m : ℕ) (f : Fields) (n : ℕ) → n ≡ mapOf f → (w : ℕ) → w ≡ packFields (cutOf f) → (x : ℕ) → x ≡ judgeWord w
@@ -96,5 +92,5 @@ whole-good m f n en w ew x ex t u eu =
     let ep : w ≡ packFields f =
     ew ∙ rw (mod-eq-of-lt hk, mod-eq-of-lt hd, mod-eq-of-lt ha, mod-eq-of-lt hb, mod-eq-of-lt hc, mod-eq-of-lt hv) in
     let back = bits-pack f (hk, hd, ha, hb, hc) in
-    let ej : x ≡ judgeOf 0 f = ex ∙ ap judgeWord ep ∙ ap (λ (q : ℕ). judgeOf q (fieldsOf (packFields f))) (back .1) ∙ ap (judgeOf 0) (back .0) in
-    fields-word m f n en 0 (no-gap m n em) x ej z w u ep eu
+    let ej : x ≡ judgeOf (not (eqb m n)) f = ex ∙ ap judgeWord ep ∙ rw (back .1, back .0, t1 .0) in
+    fields-word m f n en x ej z w u ep eu

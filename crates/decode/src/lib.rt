@@ -10,7 +10,7 @@ use words::guest::pack;
 ghost use mathlib.Core.Path.{_≡_};
 ghost use Prim.Native.Nat.{_+_, _*_, _/_, _%_, _≤_, _<_};
 ghost use lib.ListN.{length};
-ghost use Rattle.rules.specs.Bytes.{sizeOf, byteAt, quadAt, fieldsAt, gap, oneFields, oneOf};
+ghost use Rattle.rules.specs.Bytes.{sizeOf, byteAt, quadAt, fieldsAt, oneFields, oneOf};
 ghost use Rattle.decode.specs.Parts.{pairAt, fieldsFrom};
 
 // The greatest map of fields.
@@ -20,17 +20,6 @@ fn wide(x: u8) -> u64
     ensures { λ r. ⌜ (r ≡ x) × (r < 256) ⌝ }
 {
     x as u64
-}
-
-// 0 of two equal numbers.
-fn gap_of(x: usize, y: usize) -> u64
-    ensures { λ r. ⌜ r ≡ gap x y ⌝ }
-{
-    if x < y {
-        (y - x) as u64
-    } else {
-        (x - y) as u64
-    }
 }
 
 // A field of one byte, 0 where its bit is 0. No branch: an absent field reads the map byte, times 0.
@@ -99,7 +88,7 @@ fn judge_fields(m: usize, size: usize, f: Fields) -> One
     requires { ⌜ size ≡ sizeOf m ⌝ }
     ensures { λ r. ⌜ r ≡ oneFields m f ⌝ }
 {
-    let foreign = gap_of(m, map_of(f));
+    let foreign = m != map_of(f);
     let judged = judge(foreign, f);
     if judged == Refusal::TAKEN {
         One::Word(pack(f), size)

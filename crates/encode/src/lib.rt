@@ -7,8 +7,7 @@ ghost use mathlib.Core.List.{_++_};
 ghost use Prim.Native.Nat.{_+_, _*_, _/_, _%_, _≤_, _<_};
 ghost use lib.ListN.{length, set};
 ghost use lib.Seq.{sets as stores};
-ghost use Rattle.rules.specs.Words.{bitOf};
-ghost use Rattle.rules.specs.Bytes.{byteOut, quadOut, regsOut, fieldsOut, oneOut};
+ghost use Rattle.rules.specs.Bytes.{bitOf, byteOut, quadOut, regsOut, fieldsOut, oneOut};
 ghost use Rattle.encode.specs.Widths.{weightOf, Small};
 
 // A field of one byte, left out where it is 0.

@@ -2,8 +2,7 @@
 use rules::Fields;
 ghost use mathlib.Core.Path.{_≡_};
 ghost use Prim.Native.Nat.{_+_, _*_, _<_};
-ghost use Rattle.rules.specs.Words.{bitOf};
-ghost use Rattle.rules.specs.Bytes.{mapOf, sizeOf};
+ghost use Rattle.rules.specs.Bytes.{bitOf, mapOf, sizeOf};
 
 // A map of the fields before x, and x's bit below them.
 fn below(m: usize, x: u64) -> usize

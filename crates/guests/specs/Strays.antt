@@ -1,18 +1,7 @@
 -- The bits that no instruction of a kind has, from the limits of its fields.
-use Prim.Native.Nat.{ℕ, _+_, _-_, _*_, _/_, _%_, _^_}
-use mathlib.Core.Bool.{cond}
-use lib.Dec.{eqb}
-use lib.ListN.{getD}
+use Prim.Native.Nat.{ℕ, _+_, _-_, _*_, _^_}
 use Rattle.rules.specs.declared.Limits.{Limits}
-use Rattle.rules.specs.Names.{topGuest, topCondition, topWord}
-use Rattle.rules.specs.Words.{fieldSets, numberTops}
-use Rattle.rules.specs.Commands.{limitOf}
-
--- the largest values of a guest kind's fields; 0 for a field that it lacks
-abbrev pub guestLimits : ℕ → Limits
-guestLimits k =
-    limitOf (topGuest * (getD fieldSets k 0 / 2 % 2)) (topGuest * (getD fieldSets k 0 / 4 % 2)) (topGuest * (getD fieldSets k 0 / 8 % 2))
-    (topCondition * (getD fieldSets k 0 / 16 % 2)) (cond (eqb (getD fieldSets k 0 / 32 % 2) 0) 0 (getD numberTops k 0))
+use Rattle.rules.specs.Names.{topWord}
 
 -- the bits above limits
 abbrev pub strayBits : Limits → ℕ

@@ -7,8 +7,8 @@ ghost use mathlib.Core.Path.{_≡_};
 ghost use mathlib.Core.Bool.{true};
 ghost use Prim.Native.Nat.{_≤_};
 ghost use Rattle.rules.specs.Names.{topKind};
-ghost use Rattle.rules.specs.Words.{judgeWord, judgeAt};
-ghost use Rattle.guests.specs.Strays.{guestLimits, strayBits};
+ghost use Rattle.rules.specs.Words.{guestLimits, judgeWord, judgeAt};
+ghost use Rattle.guests.specs.Strays.{strayBits};
 
 // The kind with a landing.
 const GOIF: u64 = 10;
@@ -53,7 +53,7 @@ pub fn judge_word(w: u64) -> u8
     if clean(w) {
         return Refusal::TAKEN;
     }
-    judge((w >> 24) % 256, fields(w))
+    judge((w >> 24) % 256 > 0, fields(w))
 }
 
 // The first refusal of a word among n instructions, 3, 2, 4 or 8, or 0.

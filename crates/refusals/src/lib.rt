@@ -1,13 +1,13 @@
 // The first refusal of an instruction, by its fields.
 use rules::Fields;
+use rules::Limits;
 use rules::Machine;
 use rules::Policy;
 use rules::Refusal;
 ghost use mathlib.Core.Path.{_≡_};
-ghost use Prim.Native.Nat.{_-_, _≤_};
-ghost use lib.ListN.{getD};
+ghost use Prim.Native.Nat.{_≤_};
 ghost use Rattle.rules.specs.Names.{topKind};
-ghost use Rattle.rules.specs.Words.{fieldSets, numberTops, bitOf, strayFields, highFields, judgeOf};
+ghost use Rattle.rules.specs.Words.{guestLimits, hasStray, hasHigh, judgeOf};
 
 // The greatest kind, the greatest guest register and the greatest condition.
 pub const TOP_KIND: u64 = 12;
@@ -23,93 +23,146 @@ const TOP_EVENT: u64 = Policy::EVENTS as u64 - 1;
 
 pub const TOP_WORD: u64 = 0xFFFF_FFFF;
 
-// The fields of each kind, as a map: bit 0 kind, 1 d, 2 a, 3 b, 4 c, 5 v. A match becomes a table in read-only data.
-fn set_of(k: u64) -> u64
+// The largest value of each field of a kind; 0 for a field that it lacks.
+fn limits_of(k: u64) -> Limits
     requires { ⌜ k ≤ topKind ⌝ }
-    ensures { λ r. ⌜ r ≡ getD fieldSets k 0 ⌝ }
+    ensures { λ r. ⌜ r ≡ guestLimits k ⌝ }
 {
     match k {
-        0 => 1,
-        1 => 35,
-        2 => 7,
-        3 => 15,
-        4 => 15,
-        5 => 15,
-        6 => 15,
-        7 => 39,
-        8 => 7,
-        9 => 13,
-        10 => 61,
-        11 => 31,
-        12 => 33,
-        _ => 0,
+        0 => Limits {
+            d: 0,
+            a: 0,
+            b: 0,
+            c: 0,
+            v: 0,
+        },
+        1 => Limits {
+            d: TOP_GUEST,
+            a: 0,
+            b: 0,
+            c: 0,
+            v: TOP_WORD,
+        },
+        2 => Limits {
+            d: TOP_GUEST,
+            a: TOP_GUEST,
+            b: 0,
+            c: 0,
+            v: 0,
+        },
+        3 => Limits {
+            d: TOP_GUEST,
+            a: TOP_GUEST,
+            b: TOP_GUEST,
+            c: 0,
+            v: 0,
+        },
+        4 => Limits {
+            d: TOP_GUEST,
+            a: TOP_GUEST,
+            b: TOP_GUEST,
+            c: 0,
+            v: 0,
+        },
+        5 => Limits {
+            d: TOP_GUEST,
+            a: TOP_GUEST,
+            b: TOP_GUEST,
+            c: 0,
+            v: 0,
+        },
+        6 => Limits {
+            d: TOP_GUEST,
+            a: TOP_GUEST,
+            b: TOP_GUEST,
+            c: 0,
+            v: 0,
+        },
+        7 => Limits {
+            d: TOP_GUEST,
+            a: TOP_GUEST,
+            b: 0,
+            c: 0,
+            v: TOP_SHIFT,
+        },
+        8 => Limits {
+            d: TOP_GUEST,
+            a: TOP_GUEST,
+            b: 0,
+            c: 0,
+            v: 0,
+        },
+        9 => Limits {
+            d: 0,
+            a: TOP_GUEST,
+            b: TOP_GUEST,
+            c: 0,
+            v: 0,
+        },
+        10 => Limits {
+            d: 0,
+            a: TOP_GUEST,
+            b: TOP_GUEST,
+            c: TOP_CONDITION,
+            v: TOP_WORD,
+        },
+        11 => Limits {
+            d: TOP_GUEST,
+            a: TOP_GUEST,
+            b: TOP_GUEST,
+            c: TOP_CONDITION,
+            v: 0,
+        },
+        12 => Limits {
+            d: 0,
+            a: 0,
+            b: 0,
+            c: 0,
+            v: TOP_EVENT,
+        },
+        _ => Limits {
+            d: 0,
+            a: 0,
+            b: 0,
+            c: 0,
+            v: 0,
+        },
     }
 }
 
-// The greatest v of each kind.
-fn top_of(k: u64) -> u64
-    requires { ⌜ k ≤ topKind ⌝ }
-    ensures { λ r. ⌜ r ≡ getD numberTops k 0 ⌝ }
+// A field that stands and is not the kind's.
+fn stray(l: Limits, f: Fields) -> bool
+    ensures { λ r. ⌜ r ≡ hasStray l f ⌝ }
 {
-    match k {
-        7 => TOP_SHIFT,
-        12 => TOP_EVENT,
-        _ => TOP_WORD,
-    }
+    (l.d == 0) & (0 < f.d)
+        | (l.a == 0) & (0 < f.a)
+        | (l.b == 0) & (0 < f.b)
+        | (l.c == 0) & (0 < f.c)
+        | (l.v == 0) & (0 < f.v)
 }
 
-// 1 of a field that stands where its kind's set has a 0.
-fn over(x: u64, has: u64) -> u64
-    requires { ⌜ has ≤ 1 ⌝ }
-    ensures { λ r. ⌜ (r ≡ bitOf x - has) × (r ≤ 1) ⌝ }
+// A field above its limit.
+fn high(l: Limits, f: Fields) -> bool
+    ensures { λ r. ⌜ r ≡ hasHigh l f ⌝ }
 {
-    if x == 0 { 0 } else { 1 - has }
+    (l.d < f.d) | (l.a < f.a) | (l.b < f.b) | (l.c < f.c) | (l.v < f.v)
 }
 
-// 1 of a number above a bound.
-fn above(x: u64, most: u64) -> u64
-    ensures { λ r. ⌜ (r ≡ bitOf (x - most)) × (r ≤ 1) ⌝ }
-{
-    if x > most { 1 } else { 0 }
-}
-
-fn stray(set: u64, f: Fields) -> u64
-    ensures { λ r. ⌜ r ≡ strayFields set f ⌝ }
-{
-    over(f.d, set / 2 % 2)
-        + over(f.a, set / 4 % 2)
-        + over(f.b, set / 8 % 2)
-        + over(f.c, set / 16 % 2)
-        + over(f.v, set / 32 % 2)
-}
-
-fn high(top: u64, f: Fields) -> u64
-    ensures { λ r. ⌜ r ≡ highFields top f ⌝ }
-{
-    above(f.d, TOP_GUEST)
-        + above(f.a, TOP_GUEST)
-        + above(f.b, TOP_GUEST)
-        + above(f.c, TOP_CONDITION)
-        + above(f.v, top)
-}
-
-// An instruction's first refusal, 3, 2 or 4, or 0; x is not 0 where its form has foreign matter of its own.
-pub fn judge(x: u64, f: Fields) -> u8
-    ensures { λ r. ⌜ r ≡ judgeOf x f ⌝ }
+// An instruction's first refusal, 3, 2 or 4, or 0; `foreign` where its form has foreign matter of its own.
+pub fn judge(foreign: bool, f: Fields) -> u8
+    ensures { λ r. ⌜ r ≡ judgeOf foreign f ⌝ }
 {
     let kind = f.kind;
     if kind > TOP_KIND {
         return Refusal::UNKNOWN_KIND;
     }
-    if x != 0 {
+    let most = limits_of(kind);
+    let strays = foreign | stray(most, f);
+    if strays {
         return Refusal::FOREIGN;
     }
-    if stray(set_of(kind), f) != 0 {
-        return Refusal::FOREIGN;
+    if high(most, f) {
+        return Refusal::OFF_RANGE;
     }
-    if high(top_of(kind), f) == 0 {
-        Refusal::TAKEN
-    } else {
-        Refusal::OFF_RANGE
-    }
+    Refusal::TAKEN
 }

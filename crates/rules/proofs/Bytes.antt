@@ -1,5 +1,6 @@
 -- Laws of reading and writing a routine's bytes.
 use mathlib.Core.Path.{_≡_, refl, sym, ap, _∙_}
+use mathlib.Core.Bool.{not}
 use mathlib.Core.List.{List, [], _∷_, _++_}
 use Prim.Native.Nat.{ℕ, zero, suc, _+_, _*_, _/_, _%_, _≤_, _<_}
 use native.Mathlib.Omega.{arith}
@@ -12,8 +13,8 @@ use Rattle.rules.specs.declared.One.{One}
 use Rattle.rules.specs.declared.One.the-variants.{Word, Bad}
 use Rattle.rules.specs.declared.Refusal.the-variants.{Taken, Short, Foreign, Oversize, SmallOutput}
 use Rattle.rules.specs.Names.{mostInstructions, numberOf, answer, refusal, orElse, roomFor}
-use Rattle.rules.specs.Words.{bitOf, judgeOf, judgeWord, firstRefused, packFields}
-use Rattle.rules.specs.Bytes.{mapOf, sizeOf, fieldsAt, gap, oneFields, oneMap, oneOf, thenAnswer, scanOf, thenWords, wordsOf, countOf, wordsIn, readAnswer}
+use Rattle.rules.specs.Words.{judgeOf, judgeWord, firstRefused, packFields}
+use Rattle.rules.specs.Bytes.{bitOf, mapOf, sizeOf, fieldsAt, oneFields, oneMap, oneOf, thenAnswer, scanOf, thenWords, wordsOf, countOf, wordsIn, readAnswer}
 use Rattle.rules.specs.Bytes.{byteOut, quadOut, regsOut, fieldsOut, bytesOf, routineOf, writeAnswer}
 use Rattle.rules.proofs.Bools.{cond-ind}
 use Rattle.rules.proofs.Refusals.{TakesEach, takes-each, none-refused, taken-then, refused-map}
@@ -47,9 +48,9 @@ pub fields-are : (m : ℕ) (s : List ℕ) (k d a b c v : ℕ) → k ≡ fieldsAt
 fields-are m s k d a b c v ek ed ea eb ec ev = λ i. record { kind = ek i; d = ed i; a = ea i; b = eb i; c = ec i; v = ev i }
 
 -- the judgement decides
-module _ (m : ℕ) (f : Fields) (n : ℕ) (en : n ≡ mapOf f) (g : ℕ) (eg : g ≡ gap m n) (x : ℕ) (ex : x ≡ judgeOf g f) where
-  same : x ≡ judgeOf (gap m (mapOf f)) f
-  same = ex ∙ rw (eg, en)
+module _ (m : ℕ) (f : Fields) (n : ℕ) (en : n ≡ mapOf f) (x : ℕ) (ex : x ≡ judgeOf (not (eqb m n)) f) where
+  same : x ≡ judgeOf (not (eqb m (mapOf f))) f
+  same = ex ∙ rw en
 
   pub fields-word : x ≡ 0 → (p u : ℕ) → p ≡ packFields f → u ≡ sizeOf m → Word p u ≡ oneFields m f
   unfolding oneFields
@@ -65,7 +66,7 @@ pub record Read (s : List ℕ) (w u : ℕ) (f : Fields) : Type 0 where
   pub small : getD s 0 0 ≤ 63
   pub fits : u ≤ length s
   pub size : u ≡ sizeOf (getD s 0 0)
-  pub clean : judgeOf (gap (getD s 0 0) (mapOf f)) f ≡ 0
+  pub clean : judgeOf (not (eqb (getD s 0 0) (mapOf f))) f ≡ 0
   pub word : w ≡ packFields f
 
 no-word : {w u x : ℕ} {A : Type 0} → Word w u ≡ Bad x → A
@@ -80,7 +81,7 @@ one-read s w u =
     cond-ind P (eqb (length s) 0) (λ _ e. no-word e) (λ h0.
     cond-ind P (ltb 63 m) (λ _ e. no-word e) (λ h1.
     cond-ind P (ltb (length s) (sizeOf m)) (λ _ e. no-word e) (λ h2.
-    cond-ind P (eqb (judgeOf (gap m (mapOf f)) f) 0) (λ h3 e.
+    cond-ind P (eqb (judgeOf (not (eqb m (mapOf f))) f) 0) (λ h3 e.
     let eu : u ≡ sizeOf m = cc in
     record {
       full = omega (arith, eqb-false (length s) 0 h0);
@@ -108,7 +109,7 @@ named s =
     cond-ind Named (eqb (length s) 0) (λ _. omega arith) (λ _.
     cond-ind Named (ltb 63 m) (λ _. omega arith) (λ _.
     cond-ind Named (ltb (length s) (sizeOf m)) (λ _. omega arith) (λ _.
-    cond-ind Named (eqb (judgeOf (gap m (mapOf f)) f) 0) (λ _. tt)
+    cond-ind Named (eqb (judgeOf (not (eqb m (mapOf f))) f) 0) (λ _. tt)
     (λ h. pos-of-ne (eqb-false _ _ h)))))
 
 -- ---- a routine read

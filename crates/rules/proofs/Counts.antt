@@ -1,7 +1,7 @@
 -- Bounds of what the parts answer: numbers fit a byte, places and counts their outputs.
 use Prim.Native.Nat.{ℕ, zero, suc, _+_, _-_, _*_, _/_, _^_, _≤_, _<_}
 use mathlib.Core.Path.{_≡_, refl, sym, _∙_, ap, subst}
-use mathlib.Core.Bool.{_&&_}
+use mathlib.Core.Bool.{Bool, _&&_, _||_, not}
 use mathlib.Core.List.{List, [], _∷_}
 use native.Mathlib.Omega.{arith}
 use lib.ListN.{length, getD, set, drop, length-set, length-append}
@@ -21,8 +21,8 @@ use Rattle.rules.specs.declared.Effect.the-variants.{Go, Put, Cell, Orde
 use Rattle.rules.specs.declared.Command.{Command}
 use Rattle.rules.specs.declared.Command.the-variants.{Nop, Halt, Plain, Load, Store, GoIf, GoReg, Look, StopIf, Keep, Event, Stray}
 use Rattle.rules.specs.Names.{mostInstructions, mostCommands, bundleLength, topKind, orders, noArrow, answer, orElse, roomFor}
-use Rattle.rules.specs.Words.{strayFields, highFields, fieldSets, numberTops, judgeOf, judgeWord, judgeAt, firstRefused, kindOf, vOf, fieldsOf, routine, bundlesFor}
-use Rattle.rules.specs.Bytes.{sizeOf, gap, mapOf, fieldsAt, oneFields, oneMap, oneOf, thenAnswer, scanOf, countOf, wordsIn, readAnswer, oneOut, bytesOf, writeAnswer}
+use Rattle.rules.specs.Words.{guestLimits, hasStray, hasHigh, judgeOf, judgeWord, judgeAt, firstRefused, kindOf, vOf, fieldsOf, routine, bundlesFor}
+use Rattle.rules.specs.Bytes.{sizeOf, mapOf, fieldsAt, oneFields, oneMap, oneOf, thenAnswer, scanOf, countOf, wordsIn, readAnswer, oneOut, bytesOf, writeAnswer}
 use Rattle.rules.specs.Layouts.{rightLayout}
 use Rattle.rules.specs.Policies.{Policy, rightPolicy}
 use Rattle.rules.specs.Landings.{rightLandings}
@@ -77,12 +77,12 @@ first-bound judge s (w ∷ ws) i m r z h b =
 
 -- ---- reading and writing
 
-judge-small : (x : ℕ) (f : Fields) → judgeOf x f < 2 ^ 8
+judge-small : (x : Bool) (f : Fields) → judgeOf x f < 2 ^ 8
 unfolding judgeOf
 judge-small x f =
     cond-ind (λ (n : ℕ). n < 2 ^ 8) (ltb topKind (f .kind)) (λ _. lit< tt)
-    (λ _. unless-ind (λ (n : ℕ). n < 2 ^ 8) (eqb (x + strayFields (getD fieldSets (f .kind) 0) f) 0) (λ _. lit< tt)
-    (λ _. unless-ind (λ (n : ℕ). n < 2 ^ 8) (eqb (highFields (getD numberTops (f .kind) 0) f) 0) (λ _. lit< tt) (λ _. lit< tt)))
+    (λ _. cond-ind (λ (n : ℕ). n < 2 ^ 8) (x || hasStray (guestLimits (f .kind)) f) (λ _. lit< tt)
+    (λ _. cond-ind (λ (n : ℕ). n < 2 ^ 8) (hasHigh (guestLimits (f .kind)) f) (λ _. lit< tt) (λ _. lit< tt)))
 
 abbrev SmallOne : One → Type 0
 SmallOne (Word w u) = Unit {0}
@@ -94,7 +94,7 @@ one-small s =
     cond-ind SmallOne (eqb (length s) 0) (λ _. lit< tt)
     (λ _. cond-ind SmallOne (ltb 63 (getD s 0 0)) (λ _. lit< tt)
     (λ _. cond-ind SmallOne (ltb (length s) (sizeOf (getD s 0 0))) (λ _. lit< tt)
-    (λ _. cond-ind SmallOne (eqb (judgeOf (gap (getD s 0 0) (mapOf (fieldsAt (getD s 0 0) s))) (fieldsAt (getD s 0 0) s)) 0) (λ _. tt)
+    (λ _. cond-ind SmallOne (eqb (judgeOf (not (eqb (getD s 0 0) (mapOf (fieldsAt (getD s 0 0) s)))) (fieldsAt (getD s 0 0) s)) 0) (λ _. tt)
     (λ _. judge-small _ _))))
 
 -- place i of a refusal, and i + n of n instructions taken

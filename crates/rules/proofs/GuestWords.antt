@@ -1,22 +1,20 @@
 -- The guest words that rewriting takes: their instructions are valid, and every valid instruction has one.
 use mathlib.Core.Path.{_≡_, refl, _∙_}
-use mathlib.Core.Bool.{_&&_, cond}
+use mathlib.Core.Bool.{false, _&&_, cond}
 use Prim.Native.Nat.{ℕ, zero, suc, _+_, _-_, _/_, _%_, _<_, _≤_}
-use native.Mathlib.Nat.{zero-add}
 use native.Mathlib.Omega.{arith}
 use borrow.Author.Tests.{ltb-true, ltb-false, eqb-true, eqb-false, lt-ltb, le-ltb, eq-eqb, ne-eqb}
 use lib.Dec.{eqb, ltb, lit<, lit≤}
-use lib.ListN.{getD}
 use Rattle.rules.specs.declared.Fields.{Fields}
 use Rattle.rules.specs.declared.Instr.{Instr}
 use Rattle.rules.specs.declared.Instr.the-variants.{HALT, PLAIN, LOAD, STORE, GOIF, GOX, EVENT}
 use Rattle.rules.specs.declared.Refusal.the-variants.{Taken, BadLanding}
 use Rattle.rules.specs.Names.{topGuest, topRegister, topCondition, topKind, guestRegisters, mostInstructions, numberOf}
-use Rattle.rules.specs.Words.{kindOf, vOf, zeroOf, fieldsOf, packOf, fieldSets, numberTops, bitOf, strayFields, highFields, judgeOf, judgeWord, judgeAt, instrOf}
+use Rattle.rules.specs.Words.{kindOf, vOf, zeroOf, fieldsOf, packOf, guestLimits, judgeOf, judgeWord, judgeAt, instrOf}
 use Rattle.rules.specs.Commands.{limitsOf}
 use Rattle.rules.proofs.Facts.{Valid}
 use Rattle.rules.proofs.Bools.{both, cond-ind}
-use Rattle.rules.proofs.WordLaws.{bounds, lacks-a, lacks-b, lacks-v}
+use Rattle.rules.proofs.WordLaws.{Kept, good, judged, bounds}
 use Rattle.rules.proofs.Packing.{InBits, guest-bits, condition-bits, pack-kind, pack-d, pack-a, pack-b, pack-c, pack-zero, pack-v}
 
 -- ---- the instruction of a taken word is valid
@@ -38,24 +36,21 @@ fields k d a b c v = record { kind = k; d = d; a = a; b = b; c = c; v = v }
 is-register : (r : ℕ) → r ≤ topGuest → r ≤ topRegister
 is-register r l = omega arith
 
-none : (x : ℕ) → x ≡ 0 → x ≤ 0
-none x e = omega arith
-
 -- the tables of a guest's plain kinds and of the commands that they become agree
-plain-limits : (x k d a b c v : ℕ) → judgeOf x (fields k d a b c v) ≡ 0 → 1 ≤ k → k < 8 → (d ≤ limitsOf (k + 1) .d) × (a ≤ limitsOf (k + 1) .a) × (b ≤ limitsOf (k + 1) .b) × (v ≤ limitsOf (k + 1) .v)
-plain-limits x zero d a b c v e l h = absurd (omega arith)
-plain-limits x (suc zero) d a b c v e l h = (is-register d (bounds x _ e .d), none a (lacks-a x _ e refl), none b (lacks-b x _ e refl), bounds x _ e .v)
-plain-limits x (suc (suc zero)) d a b c v e l h = (is-register d (bounds x _ e .d), is-register a (bounds x _ e .a), none b (lacks-b x _ e refl), none v (lacks-v x _ e refl))
-plain-limits x (suc (suc (suc zero))) d a b c v e l h = (is-register d (bounds x _ e .d), is-register a (bounds x _ e .a), is-register b (bounds x _ e .b), none v (lacks-v x _ e refl))
-plain-limits x (suc (suc (suc (suc zero)))) d a b c v e l h = (is-register d (bounds x _ e .d), is-register a (bounds x _ e .a), is-register b (bounds x _ e .b), none v (lacks-v x _ e refl))
-plain-limits x (suc (suc (suc (suc (suc zero))))) d a b c v e l h = (is-register d (bounds x _ e .d), is-register a (bounds x _ e .a), is-register b (bounds x _ e .b), none v (lacks-v x _ e refl))
-plain-limits x (suc (suc (suc (suc (suc (suc zero)))))) d a b c v e l h = (is-register d (bounds x _ e .d), is-register a (bounds x _ e .a), is-register b (bounds x _ e .b), none v (lacks-v x _ e refl))
-plain-limits x (suc (suc (suc (suc (suc (suc (suc zero))))))) d a b c v e l h = (is-register d (bounds x _ e .d), is-register a (bounds x _ e .a), none b (lacks-b x _ e refl), bounds x _ e .v)
-plain-limits x (suc (suc (suc (suc (suc (suc (suc (suc k)))))))) d a b c v e l h = absurd (omega arith)
+plain-limits : (k d a b c v : ℕ) → Kept (guestLimits k) (fields k d a b c v) → 1 ≤ k → k < 8 → (d ≤ limitsOf (k + 1) .d) × (a ≤ limitsOf (k + 1) .a) × (b ≤ limitsOf (k + 1) .b) × (v ≤ limitsOf (k + 1) .v)
+plain-limits zero d a b c v g l h = absurd (omega arith)
+plain-limits (suc zero) d a b c v g l h = (is-register d (g .d), g .a, g .b, g .v)
+plain-limits (suc (suc zero)) d a b c v g l h = (is-register d (g .d), is-register a (g .a), g .b, g .v)
+plain-limits (suc (suc (suc zero))) d a b c v g l h = (is-register d (g .d), is-register a (g .a), is-register b (g .b), g .v)
+plain-limits (suc (suc (suc (suc zero)))) d a b c v g l h = (is-register d (g .d), is-register a (g .a), is-register b (g .b), g .v)
+plain-limits (suc (suc (suc (suc (suc zero))))) d a b c v g l h = (is-register d (g .d), is-register a (g .a), is-register b (g .b), g .v)
+plain-limits (suc (suc (suc (suc (suc (suc zero)))))) d a b c v g l h = (is-register d (g .d), is-register a (g .a), is-register b (g .b), g .v)
+plain-limits (suc (suc (suc (suc (suc (suc (suc zero))))))) d a b c v g l h = (is-register d (g .d), is-register a (g .a), g .b, g .v)
+plain-limits (suc (suc (suc (suc (suc (suc (suc (suc k)))))))) d a b c v g l h = absurd (omega arith)
 
 -- EVENT's number
-event-top : (k v : ℕ) → k ≡ 12 → v ≤ getD numberTops k 0 → v < 16
-event-top k v e h = let t : v ≤ getD numberTops 12 0 = rw e at h in omega arith
+event-top : (k v : ℕ) → k ≡ 12 → v ≤ guestLimits k .v → v < 16
+event-top k v e h = let t : v ≤ guestLimits 12 .v = rw e at h in omega arith
 
 -- guest registers, and landings
 is-guest : (r : ℕ) → r ≤ topGuest → r < guestRegisters
@@ -71,7 +66,9 @@ pub taken-valid : (n w : ℕ) → judgeAt n w ≡ 0 → Valid (n + 1) (instrOf w
 unfolding instrOf
 taken-valid n w e =
     let t = taken-word n w e in
-    let g = bounds (zeroOf w) (fieldsOf w) (t .0) in
+    let x = ltb 0 (zeroOf w) in
+    let g = bounds x (fieldsOf w) (t .0) in
+    let kept = good x (fieldsOf w) (t .0) .kept in
     let hd = is-guest _ (g .d) in
     let ha = is-guest _ (g .a) in
     let hb = is-guest _ (g .b) in
@@ -81,7 +78,7 @@ taken-valid n w e =
     cond-ind (Valid (n + 1)) (ltb k 8) (λ h1.
     let l : 1 ≤ k = omega (arith, eqb-false k 0 h0) in
     let u : k < 8 = ltb-true k 8 h1 in
-    let p = plain-limits (zeroOf w) k _ _ _ _ _ (t .0) l u in
+    let p = plain-limits k _ _ _ _ _ kept l u in
     (l, at-most k u, hd, ha, hb, p .0, p .1, p .2, p .3)) (λ h1.
     cond-ind (Valid (n + 1)) (eqb k 8) (λ _. (hd, ha)) (λ h2.
     cond-ind (Valid (n + 1)) (eqb k 9) (λ _. (ha, hb)) (λ h3.
@@ -89,7 +86,7 @@ taken-valid n w e =
     cond-ind (Valid (n + 1)) (eqb k 11) (λ _. (hd, ha, hb, hc)) (λ h5.
     event-top k (vOf w)
     (omega (arith, g .kind, ltb-false k 8 h1, eqb-false k 8 h2, eqb-false k 9 h3, eqb-false k 10 h4, eqb-false k 11 h5))
-    (g .v)))))))
+    (kept .v)))))))
 
 -- ---- the guest word of an instruction
 
@@ -102,27 +99,11 @@ guestWord (GOIF a b c v) = packOf 10 0 a b c v
 guestWord (GOX d a b c) = packOf 11 d a b c 0
 guestWord (EVENT e) = packOf 12 0 0 0 0 e
 
--- a field where its kind has one, and one that it lacks
-has : (x : ℕ) → bitOf x - 1 ≡ 0
-has x = omega arith
-
-lacks : (x : ℕ) → x ≤ 0 → bitOf x - 0 ≡ 0
-lacks x h = omega arith
-
-low : (x top : ℕ) → x ≤ top → bitOf (x - top) ≡ 0
-low x top h = omega arith
-
-sum-zero : (a b c d e : ℕ) → (a ≡ 0) × (b ≡ 0) × (c ≡ 0) × (d ≡ 0) × (e ≡ 0) → a + b + c + d + e ≡ 0
-sum-zero a b c d e h = omega arith
-
--- no stray field, none above its bound, and a landing up to n
+-- each field within its limit, and a landing up to n
 abbrev Fine : ℕ → ℕ → ℕ → ℕ → ℕ → ℕ → ℕ → Type 0
 Fine n k d a b c v =
-    let set = getD fieldSets k 0 in
-    (k ≤ topKind)
-    × ((bitOf d - set / 2 % 2 ≡ 0) × (bitOf a - set / 4 % 2 ≡ 0) × (bitOf b - set / 8 % 2 ≡ 0) × (bitOf c - set / 16 % 2 ≡ 0) × (bitOf v - set / 32 % 2 ≡ 0))
-    × ((d ≤ topGuest) × (a ≤ topGuest) × (b ≤ topGuest) × (c ≤ topCondition) × (v ≤ getD numberTops k 0))
-    × (k ≡ 10 → v ≤ n)
+    let l = guestLimits k in
+    (k ≤ topKind) × ((d ≤ l .d) × (a ≤ l .a) × (b ≤ l .b) × (c ≤ l .c) × (v ≤ l .v)) × (k ≡ 10 → v ≤ n)
 
 lands : (n k v : ℕ) → (k ≡ 10 → v ≤ n) → cond (eqb k 10 && ltb n v) (numberOf BadLanding) (numberOf Taken) ≡ 0
 lands n k v f =
@@ -131,28 +112,24 @@ lands n k v f =
     (λ e. refl)
 
 pack-judged : (n k d a b c v : ℕ) → InBits k d a b c → Fine n k d a b c v → judgeAt n (packOf k d a b c v) ≡ 0
-unfolding judgeAt judgeOf
+unfolding judgeAt
 pack-judged n k d a b c v h g =
     let f = fields k d a b c v in
-    let t = g .2 in
-    let stray : 0 + strayFields (getD fieldSets k 0) f ≡ 0 = zero-add _ ∙ sum-zero _ _ _ _ _ (g .1) in
-    let high : highFields (getD numberTops k 0) f ≡ 0 = sum-zero _ _ _ _ _ (low _ _ (t .0), low _ _ (t .1), low _ _ (t .2), low _ _ (t .3), low _ _ (t .4)) in
+    let t = g .1 in
+    let j : judgeOf false f ≡ 0 = judged false f (record { kind = g .0; clean = refl; kept = record { d = t .0; a = t .1; b = t .2; c = t .3; v = t .4 } }) in
     rw (pack-kind k d a b c v h, pack-d k d a b c v h, pack-a k d a b c v h, pack-b k d a b c v h, pack-c k d a b c v h, pack-zero k d a b c v h, pack-v k d a b c v h)
-    (rw (le-ltb topKind k (g .0), eq-eqb _ 0 stray, eq-eqb _ 0 high) (lands n k v (g .3)))
-
-lower : (v top : ℕ) → v ≤ 0 → v ≤ top
-lower v top l = omega arith
+    (rw j (lands n k v (g .2)))
 
 -- the plain kinds
 plain-fine : (n k d a b v : ℕ) → 1 ≤ k → k ≤ 7 → d < guestRegisters → a < guestRegisters → b < guestRegisters → a ≤ limitsOf (k + 1) .a → b ≤ limitsOf (k + 1) .b → v ≤ limitsOf (k + 1) .v → Fine n k d a b 0 v
 plain-fine n zero d a b v l h hd ha hb la lb lv = absurd (omega arith)
-plain-fine n (suc zero) d a b v l h hd ha hb la lb lv = (lit≤ tt, (has d, lacks a la, lacks b lb, refl, has v), (at-most d hd, at-most a ha, at-most b hb, lit≤ tt, lv), λ e. omega arith)
-plain-fine n (suc (suc zero)) d a b v l h hd ha hb la lb lv = (lit≤ tt, (has d, has a, lacks b lb, refl, lacks v lv), (at-most d hd, at-most a ha, at-most b hb, lit≤ tt, lower v _ lv), λ e. omega arith)
-plain-fine n (suc (suc (suc zero))) d a b v l h hd ha hb la lb lv = (lit≤ tt, (has d, has a, has b, refl, lacks v lv), (at-most d hd, at-most a ha, at-most b hb, lit≤ tt, lower v _ lv), λ e. omega arith)
-plain-fine n (suc (suc (suc (suc zero)))) d a b v l h hd ha hb la lb lv = (lit≤ tt, (has d, has a, has b, refl, lacks v lv), (at-most d hd, at-most a ha, at-most b hb, lit≤ tt, lower v _ lv), λ e. omega arith)
-plain-fine n (suc (suc (suc (suc (suc zero))))) d a b v l h hd ha hb la lb lv = (lit≤ tt, (has d, has a, has b, refl, lacks v lv), (at-most d hd, at-most a ha, at-most b hb, lit≤ tt, lower v _ lv), λ e. omega arith)
-plain-fine n (suc (suc (suc (suc (suc (suc zero)))))) d a b v l h hd ha hb la lb lv = (lit≤ tt, (has d, has a, has b, refl, lacks v lv), (at-most d hd, at-most a ha, at-most b hb, lit≤ tt, lower v _ lv), λ e. omega arith)
-plain-fine n (suc (suc (suc (suc (suc (suc (suc zero))))))) d a b v l h hd ha hb la lb lv = (lit≤ tt, (has d, has a, lacks b lb, refl, has v), (at-most d hd, at-most a ha, at-most b hb, lit≤ tt, lv), λ e. omega arith)
+plain-fine n (suc zero) d a b v l h hd ha hb la lb lv = (lit≤ tt, (at-most d hd, la, lb, lit≤ tt, lv), λ e. omega arith)
+plain-fine n (suc (suc zero)) d a b v l h hd ha hb la lb lv = (lit≤ tt, (at-most d hd, at-most a ha, lb, lit≤ tt, lv), λ e. omega arith)
+plain-fine n (suc (suc (suc zero))) d a b v l h hd ha hb la lb lv = (lit≤ tt, (at-most d hd, at-most a ha, at-most b hb, lit≤ tt, lv), λ e. omega arith)
+plain-fine n (suc (suc (suc (suc zero)))) d a b v l h hd ha hb la lb lv = (lit≤ tt, (at-most d hd, at-most a ha, at-most b hb, lit≤ tt, lv), λ e. omega arith)
+plain-fine n (suc (suc (suc (suc (suc zero))))) d a b v l h hd ha hb la lb lv = (lit≤ tt, (at-most d hd, at-most a ha, at-most b hb, lit≤ tt, lv), λ e. omega arith)
+plain-fine n (suc (suc (suc (suc (suc (suc zero)))))) d a b v l h hd ha hb la lb lv = (lit≤ tt, (at-most d hd, at-most a ha, at-most b hb, lit≤ tt, lv), λ e. omega arith)
+plain-fine n (suc (suc (suc (suc (suc (suc (suc zero))))))) d a b v l h hd ha hb la lb lv = (lit≤ tt, (at-most d hd, at-most a ha, lb, lit≤ tt, lv), λ e. omega arith)
 plain-fine n (suc (suc (suc (suc (suc (suc (suc (suc k)))))))) d a b v l h hd ha hb la lb lv = absurd (omega arith)
 
 -- the fields of each guest word lie within their bits
@@ -179,19 +156,19 @@ event-bits = (lit< tt, lit< tt, lit< tt, lit< tt, lit< tt)
 
 -- of n + 1 bundles at most, a valid instruction's word is taken among n
 pub guest-taken : (n : ℕ) → n ≤ mostInstructions → (i : Instr) → Valid (n + 1) i → judgeAt n (guestWord i) ≡ 0
-guest-taken n m HALT g = pack-judged n 0 0 0 0 0 0 halt-bits (lit≤ tt, (refl, refl, refl, refl, refl), (lit≤ tt, lit≤ tt, lit≤ tt, lit≤ tt, lit≤ tt), λ e. omega arith)
+guest-taken n m HALT g = pack-judged n 0 0 0 0 0 0 halt-bits (lit≤ tt, (lit≤ tt, lit≤ tt, lit≤ tt, lit≤ tt, lit≤ tt), λ e. omega arith)
 guest-taken n m (PLAIN k d a b v) g =
     pack-judged n k d a b 0 v (plain-bits k d a b (g .1) (g .2) (g .3) (g .4)) (plain-fine n k d a b v (g .0) (g .1) (g .2) (g .3) (g .4) (g .6) (g .7) (g .8))
 guest-taken n m (LOAD d a) g =
-    pack-judged n 8 d a 0 0 0 (load-bits d a g) (lit≤ tt, (has d, has a, refl, refl, refl), (at-most d (g .0), at-most a (g .1), lit≤ tt, lit≤ tt, lit≤ tt), λ e. omega arith)
+    pack-judged n 8 d a 0 0 0 (load-bits d a g) (lit≤ tt, (at-most d (g .0), at-most a (g .1), lit≤ tt, lit≤ tt, lit≤ tt), λ e. omega arith)
 guest-taken n m (STORE a b) g =
-    pack-judged n 9 0 a b 0 0 (store-bits a b g) (lit≤ tt, (refl, has a, has b, refl, refl), (lit≤ tt, at-most a (g .0), at-most b (g .1), lit≤ tt, lit≤ tt), λ e. omega arith)
+    pack-judged n 9 0 a b 0 0 (store-bits a b g) (lit≤ tt, (lit≤ tt, at-most a (g .0), at-most b (g .1), lit≤ tt, lit≤ tt), λ e. omega arith)
 guest-taken n m (GOIF a b c v) g =
-    pack-judged n 10 0 a b c v (goif-bits a b c (g .0) (g .1) (g .2)) (lit≤ tt, (refl, has a, has b, has c, has v), (lit≤ tt, at-most a (g .0), at-most b (g .1), g .2, omega arith), λ e. omega arith)
+    pack-judged n 10 0 a b c v (goif-bits a b c (g .0) (g .1) (g .2)) (lit≤ tt, (lit≤ tt, at-most a (g .0), at-most b (g .1), g .2, omega arith), λ e. omega arith)
 guest-taken n m (GOX d a b c) g =
-    pack-judged n 11 d a b c 0 (gox-bits d a b c g) (lit≤ tt, (has d, has a, has b, has c, refl), (at-most d (g .0), at-most a (g .1), at-most b (g .2), g .3, lit≤ tt), λ e. omega arith)
+    pack-judged n 11 d a b c 0 (gox-bits d a b c g) (lit≤ tt, (at-most d (g .0), at-most a (g .1), at-most b (g .2), g .3, lit≤ tt), λ e. omega arith)
 guest-taken n m (EVENT v) g =
-    pack-judged n 12 0 0 0 0 v event-bits (lit≤ tt, (refl, refl, refl, refl, has v), (lit≤ tt, lit≤ tt, lit≤ tt, lit≤ tt, omega arith), λ e. omega arith)
+    pack-judged n 12 0 0 0 0 v event-bits (lit≤ tt, (lit≤ tt, lit≤ tt, lit≤ tt, lit≤ tt, omega arith), λ e. omega arith)
 
 -- and stands for it
 abbrev instrAt : ℕ → ℕ → ℕ → ℕ → ℕ → ℕ → Instr

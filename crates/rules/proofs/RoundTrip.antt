@@ -1,5 +1,6 @@
 -- The inverse laws: words written are read again, bytes read are written again.
 use mathlib.Core.Path.{_≡_, refl, sym, ap, _∙_}
+use mathlib.Core.Bool.{Bool, true, false, not}
 use mathlib.Core.List.{List, [], _∷_, _++_, append-assoc}
 use Prim.Native.Nat.{ℕ, zero, suc, _+_, _*_, _/_, _%_, _≤_, _<_}
 use native.Mathlib.Omega.{arith}
@@ -7,18 +8,18 @@ use native.Mathlib.Nat.{le-add-right, zero-add, add-zero}
 use native.Mathlib.Numerals.{towards-suc}
 use lib.ListN.{length, getD, take, drop, length-append}
 use lib.Seq.{drop-cons, drop-at, getD-at, getD-drop, getD-append-add}
-use lib.Dec.{eqb}
-use borrow.Author.Tests.{ne-eqb, eqb-true, le-ltb}
+use lib.Dec.{eqb, ltb}
+use borrow.Author.Tests.{ne-eqb, eq-eqb, eqb-true, le-ltb, ltb-false}
 use Rattle.rules.specs.declared.One.{One}
 use Rattle.rules.specs.declared.One.the-variants.{Word, Bad}
 use Rattle.rules.specs.declared.Answer.{Answer}
 use Rattle.rules.specs.declared.Fields.{Fields}
 use Rattle.rules.specs.Names.{mostInstructions, topWord, answer}
-use Rattle.rules.specs.Words.{bitOf, judgeOf, packFields, fieldsOf, zeroOf, judgeWord}
-use Rattle.rules.specs.Bytes.{mapOf, sizeOf, byteAt, quadAt, fieldsAt, gap, oneOf, thenAnswer, scanOf, thenWords, wordsOf, countOf, wordsIn, readAnswer, readOutput}
+use Rattle.rules.specs.Words.{judgeOf, packFields, fieldsOf, zeroOf, judgeWord}
+use Rattle.rules.specs.Bytes.{bitOf, mapOf, sizeOf, byteAt, quadAt, fieldsAt, oneOf, thenAnswer, scanOf, thenWords, wordsOf, countOf, wordsIn, readAnswer, readOutput}
 use Rattle.rules.specs.Bytes.{byteOut, quadOut, regsOut, fieldsOut, oneOut, bytesOf, routineOf, writeAnswer, writeOutput}
 use Rattle.rules.specs.Claims.{WordsBack, BytesBack}
-use Rattle.rules.proofs.Bools.{cond-ind}
+use Rattle.rules.proofs.Bools.{no, cond-ind}
 use Rattle.rules.proofs.Refusals.{TakesEach, output-start}
 use Rattle.rules.proofs.WordLaws.{bounds, clean, fields-pack, pack-fields}
 use Rattle.rules.proofs.Bytes.{one-read, one-fields, fields-are, fields-word, read-ok, named, Named, read-scan}
@@ -112,11 +113,12 @@ bits m f e =
     let h4 = half (m / 2 / 2 / 2 / 2) (bitOf (f .c)) _ (h3 .1) (bit-le _) in
     record { b0 = h0 .0; b1 = h1 .0; b2 = h2 .0; b3 = h3 .0; b4 = h4 .0; b5 = h4 .1 }
 
-gap-zero : (x y : ℕ) → gap x y ≡ 0 → x ≡ y
-gap-zero x y e = omega arith
-
-gap-same : (x : ℕ) → gap x x ≡ 0
-gap-same x = omega arith
+same-map : (x y : ℕ) → not (eqb x y) ≡ false → x ≡ y
+same-map x y e = eqb-true x y (not-not (eqb x y) e)
+  where
+    not-not : (b : Bool) → not b ≡ false → b ≡ true
+    not-not true h = refl
+    not-not false h = no (sym h)
 
 -- ---- a word written is read
 
@@ -181,7 +183,7 @@ row-first : (f : Fields) (t : List ℕ) → (mapOf f ≡ getD (row f t) 0 0) × 
 unfolding row
 row-first f t = (refl, λ z. omega arith)
 
-fields-back : (f : Fields) → judgeOf 0 f ≡ 0 → (t : List ℕ) → oneOf (fieldsOut f ++ t) ≡ Word (packFields f) (length (fieldsOut f))
+fields-back : (f : Fields) → judgeOf false f ≡ 0 → (t : List ℕ) → oneOf (fieldsOut f ++ t) ≡ Word (packFields f) (length (fieldsOut f))
 fields-back f j t =
     let m : ℕ = mapOf f in
     let s : List ℕ = row f t in
@@ -189,15 +191,16 @@ fields-back f j t =
     let u : ℕ = length (fieldsOut f) in
     let eu : u ≡ sizeOf m = length-size m f (bits m f refl) in
     let ls : u ≤ length s = rw (← (in-row f t), length-append) (le-add-right _ _) in
-    let z : judgeOf (gap m m) f ≡ 0 = rw gap-same j in
+    let z : judgeOf (not (eqb m m)) f ≡ 0 = rw (eq-eqb m m refl) j in
     ap oneOf (in-row f t)
-    ∙ sym (one-fields s m (b .0) (b .1) f (row-back f (bounds 0 f j .word) t) u eu (map-small f) ls _
-    (fields-word m f m refl (gap m m) refl (judgeOf (gap m m) f) refl z (packFields f) u refl eu))
+    ∙ sym (one-fields s m (b .0) (b .1) f (row-back f (bounds false f j .word) t) u eu (map-small f) ls _
+    (fields-word m f m refl (judgeOf (not (eqb m m)) f) refl z (packFields f) u refl eu))
 
 one-back : (w : ℕ) → judgeWord w ≡ 0 → (t : List ℕ) → oneOf (oneOut w ++ t) ≡ Word w (length (oneOut w))
 one-back w g t =
-    let z : zeroOf w ≡ 0 = clean (zeroOf w) (fieldsOf w) g in
-    fields-back (fieldsOf w) (rw z at g) t ∙ ap (λ (x : ℕ). Word x (length (oneOut w))) (pack-fields w z)
+    let c = clean (ltb 0 (zeroOf w)) (fieldsOf w) g in
+    let z : zeroOf w ≡ 0 = omega (arith, ltb-false 0 (zeroOf w) c) in
+    fields-back (fieldsOf w) (rw c at g) t ∙ ap (λ (x : ℕ). Word x (length (oneOut w))) (pack-fields w z)
 
 scan-back : (ws : List ℕ) (i : ℕ) → TakesEach judgeWord ws
     → (scanOf (length ws) i (bytesOf ws) ≡ answer 0 (i + length ws)) × (wordsOf (length ws) (bytesOf ws) ≡ ws)
@@ -269,9 +272,9 @@ one-front s w u B e =
     let f : Fields = fieldsAt m s in
     let t = one-read s w u e in
     let none = clean _ f (t .clean) in
-    let em : m ≡ mapOf f = gap-zero m (mapOf f) none in
-    let j : judgeOf 0 f ≡ 0 = rw none at (t .clean) in
-    let un = fields-pack f (bounds 0 f j) in
+    let em : m ≡ mapOf f = same-map m (mapOf f) none in
+    let j : judgeOf false f ≡ 0 = rw none at (t .clean) in
+    let un = fields-pack f (bounds false f j) in
     let size = t .size in
     let r = row-front s B f refl em (t .full) (rw size at (t .fits)) in
     (rw (t .word, un .0, in-row, size) r, rw (t .word, un .0, un .1) j)

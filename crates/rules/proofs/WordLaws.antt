@@ -1,59 +1,91 @@
 -- Laws of guest words: what a judgement of 0 gives, and fields packed and taken apart.
-use mathlib.Core.Path.{_≡_}
-use mathlib.Core.List.{List, [], _∷_}
-use Prim.Native.Nat.{ℕ, zero, suc, _+_, _-_, _*_, _/_, _%_, _≤_, _^_, max}
+use mathlib.Core.Path.{_≡_, refl, sym}
+use mathlib.Core.Bool.{Bool, true, false, _||_}
+use Prim.Native.Nat.{ℕ, zero, suc, _+_, _*_, _/_, _%_, _≤_, _^_}
 use native.Mathlib.Omega.{arith}
-use lib.ListN.{getD}
-use lib.Dec.{ltb, eqb}
-use borrow.Author.Tests.{eqb-true, ltb-false}
+use lib.Dec.{ltb, eqb, lit≤}
+use borrow.Author.Tests.{ltb-false, le-ltb, ne-eqb}
 use Rattle.rules.specs.declared.Fields.{Fields}
+use Rattle.rules.specs.declared.Limits.{Limits}
 use Rattle.rules.specs.Names.{topGuest, topCondition, topWord, topKind}
-use Rattle.rules.specs.Words.{kindOf, dOf, aOf, bOf, cOf, zeroOf, vOf, fieldsOf, packOf, packFields, fieldSets, numberTops, bitOf, strayFields, highFields, judgeOf}
-use Rattle.rules.proofs.Bools.{cond-ind, unless-ind}
+use Rattle.rules.specs.Words.{kindOf, dOf, aOf, bOf, cOf, zeroOf, vOf, fieldsOf, packOf, packFields, guestLimits, lacks, hasStray, hasHigh, judgeOf}
+use Rattle.rules.proofs.Bools.{no, cond-ind}
 use Rattle.rules.proofs.Packing.{InBits, pack-kind, pack-d, pack-a, pack-b, pack-c, pack-zero, pack-v}
 
--- what an instruction that is not refused has
-pub record Good (x : ℕ) (f : Fields) : Type 0 where
-  pub kind : f .kind ≤ topKind
-  pub none : x + strayFields (getD fieldSets (f .kind) 0) f ≡ 0
-  pub low : highFields (getD numberTops (f .kind) 0) f ≡ 0
+-- ---- the judgement of 0
 
-pub good : (x : ℕ) (f : Fields) → judgeOf x f ≡ 0 → Good x f
+-- fields within limits
+pub record Kept (l : Limits) (f : Fields) : Type 0 where
+  pub d : f .d ≤ l .d
+  pub a : f .a ≤ l .a
+  pub b : f .b ≤ l .b
+  pub c : f .c ≤ l .c
+  pub v : f .v ≤ l .v
+
+neither : (a b : Bool) → (a || b) ≡ false → (a ≡ false) × (b ≡ false)
+neither true b e = no (sym e)
+neither false b e = (refl, e)
+
+kept-of : (l : Limits) (f : Fields) → hasHigh l f ≡ false → Kept l f
+kept-of l f e =
+    let t4 = neither _ _ e in
+    let t3 = neither _ _ (t4 .0) in
+    let t2 = neither _ _ (t3 .0) in
+    let t1 = neither _ _ (t2 .0) in
+    record { d = ltb-false _ _ (t1 .0); a = ltb-false _ _ (t1 .1); b = ltb-false _ _ (t2 .1); c = ltb-false _ _ (t3 .1); v = ltb-false _ _ (t4 .1) }
+
+none-high : (l : Limits) (f : Fields) → Kept l f → hasHigh l f ≡ false
+none-high l f g = rw (le-ltb _ _ (g .d), le-ltb _ _ (g .a), le-ltb _ _ (g .b), le-ltb _ _ (g .c), le-ltb _ _ (g .v))
+
+has : (most x : ℕ) → x ≤ most → lacks most x ≡ false
+has zero x h = rw (le-ltb 0 x h)
+has (suc most) x h = rw (ne-eqb (suc most) 0 (λ (e : suc most ≡ 0). omega arith))
+
+none-stray : (l : Limits) (f : Fields) → Kept l f → hasStray l f ≡ false
+none-stray l f g = rw (has _ _ (g .d), has _ _ (g .a), has _ _ (g .b), has _ _ (g .c), has _ _ (g .v))
+
+-- what an instruction that is not refused has
+pub record Good (x : Bool) (f : Fields) : Type 0 where
+  pub kind : f .kind ≤ topKind
+  pub clean : x ≡ false
+  pub kept : Kept (guestLimits (f .kind)) f
+
+pub good : (x : Bool) (f : Fields) → judgeOf x f ≡ 0 → Good x f
 unfolding judgeOf
 good x f =
     let P : ℕ → Type 0 = λ y. y ≡ 0 → Good x f in
+    let l = guestLimits (f .kind) in
     cond-ind P (ltb topKind (f .kind)) (λ _ e. absurd (omega arith)) (λ h0.
-    unless-ind P (eqb (x + strayFields (getD fieldSets (f .kind) 0) f) 0) (λ _ e. absurd (omega arith)) (λ h1.
-    unless-ind P (eqb (highFields (getD numberTops (f .kind) 0) f) 0) (λ _ e. absurd (omega arith)) (λ h2 _.
-    record { kind = ltb-false topKind (f .kind) h0; none = eqb-true _ _ h1; low = eqb-true _ _ h2 })))
+    cond-ind P (x || hasStray l f) (λ _ e. absurd (omega arith)) (λ h1.
+    cond-ind P (hasHigh l f) (λ _ e. absurd (omega arith)) (λ h2 _.
+    record { kind = ltb-false topKind (f .kind) h0; clean = neither _ _ h1 .0; kept = kept-of l f h2 })))
 
-all-zero : (a b c d e : ℕ) → a + b + c + d + e ≡ 0 → (a ≡ 0) × (b ≡ 0) × (c ≡ 0) × (d ≡ 0) × (e ≡ 0)
-all-zero a b c d e h = (omega arith, omega arith, omega arith, omega arith, omega arith)
+pub judged : (x : Bool) (f : Fields) → Good x f → judgeOf x f ≡ 0
+unfolding judgeOf
+judged x f g =
+    rw (le-ltb topKind (f .kind) (g .kind), g .clean, none-stray (guestLimits (f .kind)) f (g .kept), none-high (guestLimits (f .kind)) f (g .kept))
 
-not-above : (x m : ℕ) → bitOf (x - m) ≡ 0 → x ≤ m
-not-above x m h = omega arith
+-- no limit of a guest kind is above these
+record Limited (l : Limits) : Type 0 where
+  d : l .d ≤ topGuest
+  a : l .a ≤ topGuest
+  b : l .b ≤ topGuest
+  c : l .c ≤ topCondition
+  v : l .v ≤ topWord
 
-absent : (y h : ℕ) → bitOf y - h ≡ 0 → h ≡ 0 → y ≡ 0
-absent y h e z = omega arith
-
-left-zero : (x y : ℕ) → x + y ≡ 0 → x ≡ 0
-left-zero x y e = omega arith
-
-right-zero : (x y : ℕ) → x + y ≡ 0 → y ≡ 0
-right-zero x y e = omega arith
-
--- no kind's top is above 32 bits
-abbrev most : List ℕ → ℕ
-most [] = 0
-most (x ∷ xs) = max x (most xs)
-
-under-most : (xs : List ℕ) (k : ℕ) → getD xs k 0 ≤ most xs
-under-most [] k = omega arith
-under-most (x ∷ xs) zero = omega arith
-under-most (x ∷ xs) (suc k) = omega (arith, under-most xs k)
-
-tops : (k : ℕ) → getD numberTops k 0 ≤ topWord
-tops k = under-most numberTops k
+limited : (k : ℕ) → Limited (guestLimits k)
+limited k =
+    cond-ind Limited (eqb k 0) (λ _. record { d = lit≤ tt; a = lit≤ tt; b = lit≤ tt; c = lit≤ tt; v = lit≤ tt })
+    (λ _. cond-ind Limited (eqb k 1) (λ _. record { d = lit≤ tt; a = lit≤ tt; b = lit≤ tt; c = lit≤ tt; v = lit≤ tt })
+    (λ _. cond-ind Limited (eqb k 2) (λ _. record { d = lit≤ tt; a = lit≤ tt; b = lit≤ tt; c = lit≤ tt; v = lit≤ tt })
+    (λ _. cond-ind Limited (ltb k 7) (λ _. record { d = lit≤ tt; a = lit≤ tt; b = lit≤ tt; c = lit≤ tt; v = lit≤ tt })
+    (λ _. cond-ind Limited (eqb k 7) (λ _. record { d = lit≤ tt; a = lit≤ tt; b = lit≤ tt; c = lit≤ tt; v = lit≤ tt })
+    (λ _. cond-ind Limited (eqb k 8) (λ _. record { d = lit≤ tt; a = lit≤ tt; b = lit≤ tt; c = lit≤ tt; v = lit≤ tt })
+    (λ _. cond-ind Limited (eqb k 9) (λ _. record { d = lit≤ tt; a = lit≤ tt; b = lit≤ tt; c = lit≤ tt; v = lit≤ tt })
+    (λ _. cond-ind Limited (eqb k 10) (λ _. record { d = lit≤ tt; a = lit≤ tt; b = lit≤ tt; c = lit≤ tt; v = lit≤ tt })
+    (λ _. cond-ind Limited (eqb k 11) (λ _. record { d = lit≤ tt; a = lit≤ tt; b = lit≤ tt; c = lit≤ tt; v = lit≤ tt })
+    (λ _. cond-ind Limited (eqb k 12) (λ _. record { d = lit≤ tt; a = lit≤ tt; b = lit≤ tt; c = lit≤ tt; v = lit≤ tt })
+    (λ _. record { d = lit≤ tt; a = lit≤ tt; b = lit≤ tt; c = lit≤ tt; v = lit≤ tt }))))))))))
 
 -- the bounds that a judgement of 0 gives
 pub record Bounds (f : Fields) : Type 0 where
@@ -62,42 +94,27 @@ pub record Bounds (f : Fields) : Type 0 where
   pub a : f .a ≤ topGuest
   pub b : f .b ≤ topGuest
   pub c : f .c ≤ topCondition
-  pub v : f .v ≤ getD numberTops (f .kind) 0
   pub word : f .v ≤ topWord
 
-module _ (x : ℕ) (f : Fields) (e : judgeOf x f ≡ 0) where
-  pub bounds : Bounds f
-  bounds =
-      let g = good x f e in
-      let z = all-zero _ _ _ _ _ (g .low) in
-      let v = not-above _ _ (z .4) in
-      let t = tops (f .kind) in
-      record {
-        kind = g .kind;
-        d = not-above _ _ (z .0);
-        a = not-above _ _ (z .1);
-        b = not-above _ _ (z .2);
-        c = not-above _ _ (z .3);
-        v = v;
-        word = omega arith;
-      }
+within : (x m n : ℕ) → x ≤ m → m ≤ n → x ≤ n
+within x m n h l = omega arith
 
-  -- nothing foreign in the form itself
-  pub clean : x ≡ 0
-  clean = left-zero _ _ (good x f e .none)
+pub bounds : (x : Bool) (f : Fields) → judgeOf x f ≡ 0 → Bounds f
+bounds x f e =
+    let g = good x f e in
+    let l = limited (f .kind) in
+    record {
+      kind = g .kind;
+      d = within _ _ _ (g .kept .d) (l .d);
+      a = within _ _ _ (g .kept .a) (l .a);
+      b = within _ _ _ (g .kept .b) (l .b);
+      c = within _ _ _ (g .kept .c) (l .c);
+      word = within _ _ _ (g .kept .v) (l .v);
+    }
 
-  strays : strayFields (getD fieldSets (f .kind) 0) f ≡ 0
-  strays = right-zero x _ (good x f e .none)
-
-  -- a field that the kind lacks is 0
-  pub lacks-a : getD fieldSets (f .kind) 0 / 4 % 2 ≡ 0 → f .a ≡ 0
-  lacks-a h = absent _ _ (all-zero _ _ _ _ _ strays .1) h
-
-  pub lacks-b : getD fieldSets (f .kind) 0 / 8 % 2 ≡ 0 → f .b ≡ 0
-  lacks-b h = absent _ _ (all-zero _ _ _ _ _ strays .2) h
-
-  pub lacks-v : getD fieldSets (f .kind) 0 / 32 % 2 ≡ 0 → f .v ≡ 0
-  lacks-v h = absent _ _ (all-zero _ _ _ _ _ strays .4) h
+-- nothing foreign in the form itself
+pub clean : (x : Bool) (f : Fields) → judgeOf x f ≡ 0 → x ≡ false
+clean x f e = good x f e .clean
 
 -- ---- fields packed and taken apart
 

@@ -1,6 +1,6 @@
 -- A routine's bytes: what reading and writing answer and leave.
-use Prim.Native.Nat.{ℕ, zero, suc, _+_, _-_, _*_, _/_, _%_}
-use mathlib.Core.Bool.{cond}
+use Prim.Native.Nat.{ℕ, zero, suc, _+_, _*_, _/_, _%_, min}
+use mathlib.Core.Bool.{not, cond}
 use mathlib.Core.List.{List, [], _∷_, _++_}
 use lib.ListN.{length, getD, drop}
 use lib.Dec.{ltb, eqb}
@@ -10,7 +10,11 @@ use Rattle.rules.specs.declared.One.{One}
 use Rattle.rules.specs.declared.One.the-variants.{Word, Bad}
 use Rattle.rules.specs.declared.Refusal.the-variants.{Taken, Short, Foreign, Oversize, Trailing, SmallOutput}
 use Rattle.rules.specs.Names.{mostInstructions, numberOf, answer, refusal, outputOf, roomFor, first}
-use Rattle.rules.specs.Words.{bitOf, judgeOf, judgeWord, firstRefused, fieldsOf, packFields}
+use Rattle.rules.specs.Words.{judgeOf, judgeWord, firstRefused, fieldsOf, packFields}
+
+-- 1 of a number that is not 0
+abbrev pub bitOf : ℕ → ℕ
+bitOf x = min x 1
 
 -- 'a map byte: bit 0 kind, 1 d, 2 a, 3 b, 4 c, 5 v'; 'a field that is 0 is absent'
 abbrev pub mapOf : Fields → ℕ
@@ -43,17 +47,13 @@ fieldsAt m s =
       v = quadAt (m / 2 / 2 / 2 / 2 / 2) s (1 + m % 2 + m / 2 % 2 + m / 2 / 2 % 2 + m / 2 / 2 / 2 % 2 + m / 2 / 2 / 2 / 2 % 2);
     }
 
--- 0 of two equal numbers
-abbrev pub gap : ℕ → ℕ → ℕ
-gap x y = (x - y) + (y - x)
-
 -- an instruction, or its refusal x
 abbrev pub orBad : ℕ → One → One
 orBad x o = cond (eqb x 0) o (Bad x)
 
--- 3, 2, 4; a present field that is 0 makes the map another than the fields'
+-- 3, 2, 4; a present field that is 0, which is foreign, makes the map another than the fields'
 unfoldable pub oneFields : ℕ → Fields → One
-oneFields m f = orBad (judgeOf (gap m (mapOf f)) f) (Word (packFields f) (sizeOf m))
+oneFields m f = orBad (judgeOf (not (eqb m (mapOf f))) f) (Word (packFields f) (sizeOf m))
 
 -- map 2, then 1
 unfoldable pub oneMap : ℕ → List ℕ → One

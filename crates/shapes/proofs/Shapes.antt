@@ -14,7 +14,8 @@ use Rattle.rules.specs.declared.Bundle.{Bundle}
 use Rattle.rules.specs.declared.Limits.{Limits}
 use Rattle.rules.specs.Names.{bundleLength, guestRegisters, hidden, topRegister, topCondition, events}
 use Rattle.rules.specs.Words.{kindOf, dOf, aOf, bOf, cOf, vOf, fieldsOf}
-use Rattle.rules.specs.Commands.{limitOf, limitsOf}
+use Rattle.rules.specs.Words.{limitOf}
+use Rattle.rules.specs.Commands.{limitsOf}
 use Rattle.rules.specs.Bundles.{addressOf, lastAddress, bundleOf, readOff, valid}
 use Rattle.words.specs.Packing.{cutWord, Fits}
 use Rattle.words.proofs.Laying.{lay-halt, lay-plain, lay-load, lay-store, lay-goif, lay-gox, lay-event}

@@ -1,5 +1,6 @@
 -- Laws of a guest's words.
 use mathlib.Core.Path.{_≡_}
+use mathlib.Core.Bool.{Bool}
 use Prim.Native.Nat.{ℕ, _%_, _^_}
 use native.Mathlib.Omega.{arith}
 use Rattle.rules.specs.declared.Fields.{Fields}
@@ -7,7 +8,7 @@ use Rattle.rules.specs.Words.{judgeOf, cutOf}
 use Rattle.rules.proofs.WordLaws.{bounds}
 
 -- packing cuts nothing off an instruction that is not refused
-pub uncut : (x : ℕ) (f : Fields) → judgeOf x f ≡ 0 → cutOf f ≡ f
+pub uncut : (x : Bool) (f : Fields) → judgeOf x f ≡ 0 → cutOf f ≡ f
 uncut x f e =
     let g = bounds x f e in
     let h0 : f .kind % 2 ^ 8 ≡ f .kind = omega (arith, g .kind) in

@@ -10,8 +10,8 @@ use lib.Seq.{sets as stores, length-sets, drop-cons}
 use Rattle.rules.specs.declared.Answer.{Answer}
 use Rattle.rules.specs.declared.Fields.{Fields}
 use Rattle.rules.specs.Names.{mostInstructions, answer}
-use Rattle.rules.specs.Words.{bitOf, fieldsOf, judgeWord, firstRefused}
-use Rattle.rules.specs.Bytes.{mapOf, sizeOf, fieldsOut, oneOut, bytesOf, routineOf, writeAnswer, writeOutput}
+use Rattle.rules.specs.Words.{fieldsOf, judgeWord, firstRefused}
+use Rattle.rules.specs.Bytes.{bitOf, mapOf, sizeOf, fieldsOut, oneOut, bytesOf, routineOf, writeAnswer, writeOutput}
 use Rattle.rules.proofs.Bytes.{length-fields, length-routine, WriteOk, write-ok}
 use Rattle.rules.proofs.Refusals.{refused-done, output-kept, output-written}
 use Rattle.encode.proofs.Storing.{sets-append}

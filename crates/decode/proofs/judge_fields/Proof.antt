@@ -11,6 +11,5 @@ judge-fields-spec =
     (λ c κs. search needs)
     (λ c κs. search needs)
     (λ c κs. search needs)
-    (λ c κs. search needs)
     (λ c. search (fields-good, needs))
     (λ c. search (fields-bad, needs)))

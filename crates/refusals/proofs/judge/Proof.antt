@@ -1,5 +1,5 @@
 use borrow.Author.Needs.{needs}
-use Rattle.refusals.proofs.Judging.{judge-kind, judge-foreign, judge-stray, judge-good, judge-high}
+use Rattle.refusals.proofs.Judging.{judge-kind, judge-foreign, judge-high, judge-good}
 use Rattle.refusals.proofs.judge.Statement.{statement}
 use Rattle.refusals.proofs.judge.Tie as tie
 
@@ -8,11 +8,9 @@ judge-spec =
     tie.close
     (tie.spec
     (λ c. search (judge-kind, needs))
+    (λ c κs. search needs)
+    (λ c κs. search needs)
     (λ c. search (judge-foreign, needs))
     (λ c κs. search needs)
-    (λ c κs. search needs)
-    (λ c. search (judge-stray, needs))
-    (λ c κs. search needs)
-    (λ c κs. search needs)
-    (λ c. search (judge-good, needs))
-    (λ c. search (judge-high, needs)))
+    (λ c. search (judge-high, needs))
+    (λ c. search (judge-good, needs)))

@@ -1,11 +1,11 @@
 use Prim.Native.Nat.{zero-le, _≤_}
 use native.Mathlib.Omega.{arith}
 use Rattle.strays.proofs.Tables.{past}
-use Rattle.refusals.proofs.set_of.Statement.{statement}
-use Rattle.refusals.proofs.set_of.Tie as tie
+use Rattle.refusals.proofs.limits_of.Statement.{statement}
+use Rattle.refusals.proofs.limits_of.Tie as tie
 
-pub set-of-spec : {M : Type 1} → statement M
-set-of-spec =
+pub limits-of-spec : {M : Type 1} → statement M
+limits-of-spec =
     tie.close
     (tie.spec
     (λ c. rw (c .match .keys1))
