@@ -13,7 +13,8 @@ use Rattle.rules.specs.declared.Installed.{Installed}
 use Rattle.rules.specs.Policies.{Policy}
 use Rattle.rules.specs.Bundles.{rewriteAnswer, rewriteOutput, checkAnswer}
 use Rattle.rules.specs.Machines.{fits, installAnswer, installMachine, installMemory, installOf, Ran, ranOf, runOf}
-use Rattle.rules.specs.Loading.{loadAnswer, loadCommands, loadMemory, loadMachine, loadOf, layoutFrom, machineFrom, machineTo, answerTo, runAnswerTo, recordAfter}
+use Rattle.rules.specs.Loading.{loadAnswer, loadCommands, loadMemory, loadMachine, loadOf}
+use Rattle.hosts.specs.Numbers.{layoutFrom, machineFrom, machineTo, answerTo, runAnswerTo, recordAfter}
 use Rattle.rules.proofs.Counts.{Bounded, RunCounts, run-counts}
 use Rattle.preview.proofs.Laws.{Previewed}
 use Rattle.befores.specs.declared.Made.{Made}

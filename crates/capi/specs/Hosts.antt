@@ -3,7 +3,7 @@ use Prim.Native.Nat.{ℕ}
 use mathlib.Core.Bool.{Bool, true, false}
 use mathlib.Core.List.{List, [], _∷_}
 use Rattle.rules.specs.Machines.{Ran, runOf}
-use Rattle.rules.specs.Loading.{layoutFrom, machineFrom}
+use Rattle.hosts.specs.Numbers.{layoutFrom, machineFrom}
 use Rattle.befores.specs.declared.Made.{Made}
 
 -- a run for the numbers of layout and record

@@ -14,7 +14,8 @@ ghost use Rattle.rules.specs.Policies.{policyOf, wordRight};
 ghost use Rattle.rules.specs.Bytes.{readAnswer, readOutput, writeAnswer, writeOutput};
 ghost use Rattle.rules.specs.Bundles.{rewriteAnswer, rewriteOutput, checkAnswer};
 ghost use Rattle.rules.specs.Machines.{installAnswer, installMachine, installMemory};
-ghost use Rattle.rules.specs.Loading.{loadAnswer, loadMachine, loadCommands, loadMemory, layoutFrom, machineTo, answerTo, runAnswerTo, recordAfter};
+ghost use Rattle.rules.specs.Loading.{loadAnswer, loadMachine, loadCommands, loadMemory};
+ghost use Rattle.hosts.specs.Numbers.{layoutFrom, machineTo, answerTo, runAnswerTo, recordAfter};
 ghost use Rattle.befores.specs.Befores.{makeOf, makeTable};
 ghost use Rattle.capi.specs.Hosts.{runFor, yesOrNo, madeTo};
 

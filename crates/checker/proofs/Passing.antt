@@ -5,7 +5,7 @@ use mathlib.Core.List.{List}
 use Prim.Native.Nat.{ℕ, zero, suc, _+_, _-_, _*_, _/_, _%_, _^_, _≤_, _<_}
 use native.Mathlib.Omega.{arith}
 use lib.Count.{ones, ones-le}
-use lib.Dec.{ltb}
+use lib.Dec.{ltb, eqb}
 use lib.ListN.{length, getD}
 use borrow.Author.Tests.{leb-true, eqb-true}
 use Rattle.rules.specs.declared.Layout.{Layout}
@@ -13,7 +13,8 @@ use Rattle.rules.specs.declared.Answer.{Answer}
 use Rattle.rules.specs.declared.Refusal.the-variants.{BadBase, BadBundle, BadCount, BadLayout, Taken}
 use Rattle.rules.specs.Names.{mostBundles, mostCommands, bundleLength, baseBound, numberOf, answer, refusal}
 use Rattle.rules.specs.Layouts.{rightLayout}
-use Rattle.rules.specs.Bundles.{addressOf, readOff, bundleAt, isBundle, shapedAt, isHalt, passesAt, checkFrom, baseRight, countRight, checkAnswer}
+use Rattle.rules.specs.Words.{kindOf}
+use Rattle.rules.specs.Bundles.{addressOf, readOff, bundleAt, isBundle, shapedAt, passesAt, checkFrom, baseRight, countRight, checkAnswer}
 use Rattle.rules.proofs.Bools.{both}
 use Rattle.rules.proofs.Masks.{base-room as list-room}
 
@@ -21,7 +22,7 @@ use Rattle.rules.proofs.Masks.{base-room as list-room}
 
 module _ (l : Layout) (n : ℕ) (ws : List ℕ) (h : ℕ) where
   pub passing-at : (r : Bool) → (w x y z : ℕ) → w ≡ getD ws (bundleLength * h) 0 → x ≡ getD ws (bundleLength * h + 1) 0 → y ≡ getD ws (bundleLength * h + 2) 0 → z ≡ getD ws (bundleLength * h + 3) 0
-      → r ≡ (isBundle l n (readOff l w y z) w x y z && (ltb (h + 1) n || isHalt (readOff l w y z))) → r ≡ passesAt l n ws h
+      → r ≡ (isBundle l n (readOff l w y z) w x y z && (ltb (h + 1) n || eqb (kindOf w) 1)) → r ≡ passesAt l n ws h
   unfolding passesAt shapedAt bundleAt
   passing-at r w x y z ew ex ey ez p = p ∙ rw (ew, ex, ey, ez)
 

@@ -10,7 +10,8 @@ use lib.Dec.{ltb, eqb}
 use borrow.Author.Tests.{eq-eqb, ne-eqb, eqb-true, ltb-true}
 use Rattle.rules.specs.declared.Fields.{Fields}
 use Rattle.rules.specs.declared.One.the-variants.{Word}
-use Rattle.rules.specs.Words.{judgeOf, judgeWord, fieldsOf, packFields, cutOf}
+use Rattle.rules.specs.Words.{judgeOf, judgeWord, fieldsOf, packFields}
+use Rattle.packing.specs.Cut.{cutOf}
 use Rattle.rules.specs.Bytes.{byteAt, quadAt, fieldsAt, mapOf, sizeOf, oneFields}
 use Rattle.rules.proofs.Bytes.{fields-are, fields-word}
 use Rattle.rules.proofs.Bools.{both}

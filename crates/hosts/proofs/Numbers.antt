@@ -10,7 +10,7 @@ use Rattle.rules.specs.declared.Machine.{Machine}
 use Rattle.rules.specs.declared.Status.{Status}
 use Rattle.rules.specs.Names.{registers}
 use Rattle.rules.specs.Machines.{machineOf}
-use Rattle.rules.specs.Loading.{statusFrom, machineFrom, machineTo, statusNumber}
+use Rattle.hosts.specs.Numbers.{statusFrom, machineFrom, machineTo, statusNumber}
 
 -- ---- arrays
 

@@ -7,7 +7,7 @@ ghost use mathlib.Core.Path.{_≡_};
 ghost use mathlib.Core.Bool.{_&&_, cond};
 ghost use lib.Dec.{eqb};
 ghost use Rattle.rules.specs.Layouts.{rightLayout};
-ghost use Rattle.rules.specs.Loading.{layoutFrom, statusFrom, statusNumber, machineFrom, machineTo};
+ghost use Rattle.hosts.specs.Numbers.{layoutFrom, statusFrom, statusNumber, machineFrom, machineTo};
 
 // A layout.
 pub fn layout_of(xs: &[u32; 8]) -> Layout

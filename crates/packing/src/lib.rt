@@ -1,7 +1,8 @@
 // The fields of a word: taken apart, and packed.
 use rules::Fields;
 ghost use mathlib.Core.Path.{_≡_};
-ghost use Rattle.rules.specs.Words.{fieldsOf, packFields, cutOf};
+ghost use Rattle.rules.specs.Words.{fieldsOf, packFields};
+ghost use Rattle.packing.specs.Cut.{cutOf};
 
 pub fn fields(w: u64) -> Fields
     ensures { λ r. ⌜ r ≡ fieldsOf w ⌝ }

@@ -7,7 +7,7 @@ use rules::Refusal;
 ghost use mathlib.Core.Path.{_≡_};
 ghost use Prim.Native.Nat.{_≤_};
 ghost use Rattle.rules.specs.Names.{topKind};
-ghost use Rattle.rules.specs.Words.{guestLimits, hasStray, hasHigh, judgeOf};
+ghost use Rattle.rules.specs.Words.{limitOf, guestLimits, hasStray, hasHigh, judgeOf};
 
 // The greatest kind, the greatest guest register and the greatest condition.
 pub const TOP_KIND: u64 = 12;
@@ -23,110 +23,32 @@ const TOP_EVENT: u64 = Policy::EVENTS as u64 - 1;
 
 pub const TOP_WORD: u64 = 0xFFFF_FFFF;
 
+fn limits(d: u64, a: u64, b: u64, c: u64, v: u64) -> Limits
+    ensures { λ r. ⌜ r ≡ limitOf d a b c v ⌝ }
+{
+    Limits { d, a, b, c, v }
+}
+
 // The largest value of each field of a kind; 0 for a field that it lacks.
 fn limits_of(k: u64) -> Limits
     requires { ⌜ k ≤ topKind ⌝ }
     ensures { λ r. ⌜ r ≡ guestLimits k ⌝ }
 {
     match k {
-        0 => Limits {
-            d: 0,
-            a: 0,
-            b: 0,
-            c: 0,
-            v: 0,
-        },
-        1 => Limits {
-            d: TOP_GUEST,
-            a: 0,
-            b: 0,
-            c: 0,
-            v: TOP_WORD,
-        },
-        2 => Limits {
-            d: TOP_GUEST,
-            a: TOP_GUEST,
-            b: 0,
-            c: 0,
-            v: 0,
-        },
-        3 => Limits {
-            d: TOP_GUEST,
-            a: TOP_GUEST,
-            b: TOP_GUEST,
-            c: 0,
-            v: 0,
-        },
-        4 => Limits {
-            d: TOP_GUEST,
-            a: TOP_GUEST,
-            b: TOP_GUEST,
-            c: 0,
-            v: 0,
-        },
-        5 => Limits {
-            d: TOP_GUEST,
-            a: TOP_GUEST,
-            b: TOP_GUEST,
-            c: 0,
-            v: 0,
-        },
-        6 => Limits {
-            d: TOP_GUEST,
-            a: TOP_GUEST,
-            b: TOP_GUEST,
-            c: 0,
-            v: 0,
-        },
-        7 => Limits {
-            d: TOP_GUEST,
-            a: TOP_GUEST,
-            b: 0,
-            c: 0,
-            v: TOP_SHIFT,
-        },
-        8 => Limits {
-            d: TOP_GUEST,
-            a: TOP_GUEST,
-            b: 0,
-            c: 0,
-            v: 0,
-        },
-        9 => Limits {
-            d: 0,
-            a: TOP_GUEST,
-            b: TOP_GUEST,
-            c: 0,
-            v: 0,
-        },
-        10 => Limits {
-            d: 0,
-            a: TOP_GUEST,
-            b: TOP_GUEST,
-            c: TOP_CONDITION,
-            v: TOP_WORD,
-        },
-        11 => Limits {
-            d: TOP_GUEST,
-            a: TOP_GUEST,
-            b: TOP_GUEST,
-            c: TOP_CONDITION,
-            v: 0,
-        },
-        12 => Limits {
-            d: 0,
-            a: 0,
-            b: 0,
-            c: 0,
-            v: TOP_EVENT,
-        },
-        _ => Limits {
-            d: 0,
-            a: 0,
-            b: 0,
-            c: 0,
-            v: 0,
-        },
+        0 => limits(0, 0, 0, 0, 0),
+        1 => limits(TOP_GUEST, 0, 0, 0, TOP_WORD),
+        2 => limits(TOP_GUEST, TOP_GUEST, 0, 0, 0),
+        3 => limits(TOP_GUEST, TOP_GUEST, TOP_GUEST, 0, 0),
+        4 => limits(TOP_GUEST, TOP_GUEST, TOP_GUEST, 0, 0),
+        5 => limits(TOP_GUEST, TOP_GUEST, TOP_GUEST, 0, 0),
+        6 => limits(TOP_GUEST, TOP_GUEST, TOP_GUEST, 0, 0),
+        7 => limits(TOP_GUEST, TOP_GUEST, 0, 0, TOP_SHIFT),
+        8 => limits(TOP_GUEST, TOP_GUEST, 0, 0, 0),
+        9 => limits(0, TOP_GUEST, TOP_GUEST, 0, 0),
+        10 => limits(0, TOP_GUEST, TOP_GUEST, TOP_CONDITION, TOP_WORD),
+        11 => limits(TOP_GUEST, TOP_GUEST, TOP_GUEST, TOP_CONDITION, 0),
+        12 => limits(0, 0, 0, 0, TOP_EVENT),
+        _ => limits(0, 0, 0, 0, 0),
     }
 }
 

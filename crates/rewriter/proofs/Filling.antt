@@ -13,7 +13,7 @@ use Rattle.rules.specs.declared.Instr.the-variants.{HALT}
 use Rattle.rules.specs.declared.Bundle.{Bundle}
 use Rattle.rules.specs.Names.{bundleLength}
 use Rattle.rules.specs.Words.{instrOf, routine}
-use Rattle.rules.specs.Bundles.{bundleOf, bundlesFrom, rewritten}
+use Rattle.rules.specs.Bundles.{bundleOf, bundlesFrom}
 use Rattle.words.specs.Packing.{Fits}
 use Rattle.rewriter.specs.Rewriting.{Ready}
 
@@ -36,8 +36,7 @@ put-four out at w x y z = simp towards-suc
 
 -- ---- the bundles in order
 
-pub fill-start : (l : Layout) (n : ℕ) (ws out : List ℕ) → sets out 0 (rewritten l n (routine ws)) ≡ sets out (bundleLength * 0) (bundlesFrom l n (routine ws) 0 (n - 0))
-unfolding rewritten
+pub fill-start : (l : Layout) (n : ℕ) (ws out : List ℕ) → sets out 0 (bundlesFrom l n (routine ws) 0 n) ≡ sets out (bundleLength * 0) (bundlesFrom l n (routine ws) 0 (n - 0))
 fill-start l n ws out = rw sub-zero
 
 pub still-ready : (l : Layout) (n room room′ : ℕ) (ws : List ℕ) → Ready l n ws room → room′ ≡ room → Ready l n ws room′

@@ -15,7 +15,7 @@ use Rattle.rules.specs.declared.Answer.{Answer}
 use Rattle.rules.specs.Names.{mostInstructions}
 use Rattle.rules.specs.Layouts.{rightLayout}
 use Rattle.rules.specs.Words.{judgeAt, routine, bundlesFor}
-use Rattle.rules.specs.Bundles.{baseRight, commandCount, commandsOf, placeAnswer, rewritten, rewriteAnswer, rewriteOutput, valid}
+use Rattle.rules.specs.Bundles.{bundlesFrom, baseRight, commandCount, commandsOf, placeAnswer, rewriteAnswer, rewriteOutput, valid}
 use Rattle.rules.proofs.Facts.{Valid}
 use Rattle.rules.proofs.Bools.{cond-ind, unless-ind}
 use Rattle.rules.proofs.Refusals.{taken-then, output-kept, output-written}
@@ -70,7 +70,7 @@ module _ (l : Layout) (ws : List ℕ) (room : ℕ) where
         }
 
 module _ (l : Layout) (ws out : List ℕ) (a : Answer) (ea : a ≡ rewriteAnswer l ws (length out)) where
-  pub written : a .number ≡ 0 → (k : ℕ) → k ≡ bundlesFor (length ws) → (out′ : List ℕ) → out′ ≡ sets out 0 (rewritten l k (routine ws))
+  pub written : a .number ≡ 0 → (k : ℕ) → k ≡ bundlesFor (length ws) → (out′ : List ℕ) → out′ ≡ sets out 0 (bundlesFrom l k (routine ws) 0 k)
       → out′ ≡ rewriteOutput l ws out
   unfolding rewriteOutput
   written z k ek out′ eo =

@@ -19,7 +19,7 @@ ghost use lib.ListN.{length};
 ghost use lib.Seq.{sets};
 ghost use Rattle.rules.specs.Names.{mostInstructions, bundleLength};
 ghost use Rattle.rules.specs.Words.{judgeAt, firstRefused, routine};
-ghost use Rattle.rules.specs.Bundles.{bundleOf, placeAnswer, rewritten, rewriteAnswer, rewriteOutput};
+ghost use Rattle.rules.specs.Bundles.{bundleOf, bundlesFrom, placeAnswer, rewriteAnswer, rewriteOutput};
 ghost use Rattle.rewriter.specs.Rewriting.{Ready};
 
 // The first refusal among the words, or what is answered where there is none.
@@ -123,7 +123,7 @@ fn put_bundle(layout: Layout, n: usize, words: &[u64], h: usize, commands: &mut 
 // The bundles of a routine that was judged.
 fn fill(layout: Layout, n: usize, words: &[u64], commands: &mut [u64])
     requires { ⌜ Ready layout n (now words) (length (now commands)) ⌝ }
-    ensures { λ _. ⌜ now (commands .exit) ≡ sets (now (commands .entry)) 0 (rewritten layout n (routine (now (words .entry)))) ⌝ }
+    ensures { λ _. ⌜ now (commands .exit) ≡ sets (now (commands .entry)) 0 (bundlesFrom layout n (routine (now (words .entry))) 0 n) ⌝ }
 {
     let mut h: usize = 0;
     while h < n {

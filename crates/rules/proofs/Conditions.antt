@@ -18,9 +18,9 @@ use Rattle.rules.specs.Names.{mostInstructions, mostBundles, mostCommand
 use Rattle.rules.specs.Layouts.{rightLayout, tableEnd, landingsEnd}
 use Rattle.rules.specs.Policies.{Policy, entryRight, entriesRight, rightPolicy}
 use Rattle.rules.specs.Landings.{rightLandings, landingsOf}
-use Rattle.rules.specs.Words.{judgeAt, instrOf, routine, bundlesFor}
-use Rattle.rules.specs.Commands.{commandOf, fetchOf}
-use Rattle.rules.specs.Bundles.{bundleWord, bundlesFrom, rewritten, commandsOf, commandCount, baseRight, placeAnswer, rewriteAnswer, valid, bundleAt, isBundle, shapedAt, isHalt, passesAt, checkFrom, countRight, checkAnswer}
+use Rattle.rules.specs.Words.{kindOf, judgeAt, instrOf, routine, bundlesFor}
+use Rattle.rules.specs.Commands.{commandOf, wordOf, fetchOf}
+use Rattle.rules.specs.Bundles.{shapeOf, bundlesFrom, commandsOf, commandCount, baseRight, placeAnswer, rewriteAnswer, valid, readOff, bundleAt, isBundle, shapedAt, passesAt, checkFrom, countRight, checkAnswer}
 use Rattle.rules.specs.Claims.{SizeLaws}
 use Rattle.rules.specs.Machines.{machineAt, fits, installAnswer, installMemory, installMachine}
 use Rattle.rules.proofs.Facts.{Right, Valid, Bundled, Laid}
@@ -127,18 +127,10 @@ valid-is n (GOX d a b c) t =
     (ltb-true _ _ (t₀ .0), ltb-true _ _ (t₀ .1), ltb-true _ _ (t₁ .1), leb-true _ _ (t₂ .1))
 valid-is n (EVENT e) t = ltb-true e events t
 
-halt-is : (i : Instr) → isHalt i ≡ true → i ≡ HALT
-halt-is HALT t = refl
-halt-is (PLAIN k d a b v) t = no t
-halt-is (LOAD d a) t = no t
-halt-is (STORE a b) t = no t
-halt-is (GOIF a b c v) t = no t
-halt-is (GOX d a b c) t = no t
-halt-is (EVENT e) t = no t
-
 -- a bundle that no other follows
-last-halts : (h n : ℕ) (i : Instr) → (ltb h n || isHalt i) ≡ true → n ≤ h → i ≡ HALT
-last-halts h n i t l = ⊎-elim (λ e. absurd (let u = ltb-true h n e in omega arith)) (λ e. halt-is i e) (either _ _ t)
+last-halts : (h n : ℕ) (lay : Layout) (w y z : ℕ) → (ltb h n || eqb (kindOf w) 1) ≡ true → n ≤ h → readOff lay w y z ≡ HALT
+unfolding readOff
+last-halts h n lay w y z t l = ⊎-elim (λ e. absurd (let u = ltb-true h n e in omega arith)) (λ e. rw e) (either _ _ t)
 
 -- the word at a position of a list of bundles
 fetched : (ws : List ℕ) (base h p : ℕ) → bundleLength * h + p < length ws → fetchOf ws base (base + bundleLength * h + p) ≡ commandOf (getD ws (bundleLength * h + p) 0)
@@ -147,7 +139,7 @@ fetched ws base h p l =
     let at : base + 4 * h + p - base ≡ 4 * h + p = omega arith in
     rw (le-leb base (base + 4 * h + p) (omega arith), at, lt-ltb (4 * h + p) (length ws) l)
 
-bundle-parts : (lay : Layout) (n : ℕ) (i : Instr) (w x y z : ℕ) → isBundle lay n i w x y z ≡ true → Valid n i × (w ≡ bundleWord lay n i 0) × (x ≡ bundleWord lay n i 1) × (y ≡ bundleWord lay n i 2) × (z ≡ bundleWord lay n i 3)
+bundle-parts : (lay : Layout) (n : ℕ) (i : Instr) (w x y z : ℕ) → isBundle lay n i w x y z ≡ true → Valid n i × (w ≡ wordOf (shapeOf lay n i 0)) × (x ≡ wordOf (shapeOf lay n i 1)) × (y ≡ wordOf (shapeOf lay n i 2)) × (z ≡ wordOf (shapeOf lay n i 3))
 unfolding isBundle
 bundle-parts lay n i w x y z t =
     let t₃ = both _ _ t in
@@ -174,17 +166,17 @@ module _ (lay : Layout) (ws : List ℕ) (n : ℕ) (passed : Passed lay ws n) whe
     unfolding shapedAt
     passed-valid = bundle-parts lay n _ _ _ _ _ shaped .0
 
-    pub passed-word : (p : ℕ) → p < bundleLength → getD ws (bundleLength * h + p) 0 ≡ bundleWord lay n (bundleAt lay ws h) p
+    pub passed-word : (p : ℕ) → p < bundleLength → getD ws (bundleLength * h + p) 0 ≡ wordOf (shapeOf lay n (bundleAt lay ws h) p)
     unfolding shapedAt
     passed-word =
         let t = bundle-parts lay n _ _ _ _ _ shaped in
-        four-words ws (bundleLength * h) (bundleWord lay n (bundleAt lay ws h)) (t .1) (t .2) (t .3) (t .4)
+        four-words ws (bundleLength * h) (λ (p : ℕ). wordOf (shapeOf lay n (bundleAt lay ws h) p)) (t .1) (t .2) (t .3) (t .4)
 
   pub passed-last : bundleAt lay ws (n - 1) ≡ HALT
-  unfolding passesAt
+  unfolding passesAt bundleAt
   passed-last =
       let some = some-ones n (passed .single) in
-      last-halts (n - 1 + 1) n _ (both (shapedAt lay n ws (n - 1)) _ (passed .each (n - 1) (omega arith)) .1) (omega arith)
+      last-halts (n - 1 + 1) n lay _ _ _ (both (shapedAt lay n ws (n - 1)) _ (passed .each (n - 1) (omega arith)) .1) (omega arith)
 
   pub passed-bundled : Bundled lay ws n (bundleAt lay ws)
   passed-bundled =
@@ -352,11 +344,11 @@ pub length-bundles : (lay : Layout) (n : ℕ) (is : ℕ → Instr) (h m : ℕ) �
 length-bundles lay n is h zero = refl
 length-bundles lay n is h (suc m) = omega (arith, length-bundles lay n is (suc h) m)
 
-bundles-word : (lay : Layout) (n : ℕ) (is : ℕ → Instr) (h m j p : ℕ) → j < m → p < bundleLength → getD (bundlesFrom lay n is h m) (bundleLength * j + p) 0 ≡ bundleWord lay n (is (h + j)) p
+bundles-word : (lay : Layout) (n : ℕ) (is : ℕ → Instr) (h m j p : ℕ) → j < m → p < bundleLength → getD (bundlesFrom lay n is h m) (bundleLength * j + p) 0 ≡ wordOf (shapeOf lay n (is (h + j)) p)
 bundles-word lay n is h zero j p lj lp = absurd (omega arith)
 bundles-word lay n is h (suc m) zero p lj lp =
     let z : h + 0 ≡ h = omega arith in
-    rw z (four-words (bundlesFrom lay n is h (suc m)) 0 (bundleWord lay n (is h)) refl refl refl refl p lp)
+    rw z (four-words (bundlesFrom lay n is h (suc m)) 0 (λ (p : ℕ). wordOf (shapeOf lay n (is h) p)) refl refl refl refl p lp)
 bundles-word lay n is h (suc m) (suc j) p lj lp =
     let z : 4 * suc j + p ≡ suc (suc (suc (suc (4 * j + p)))) = omega arith in
     let y : h + suc j ≡ suc h + j = omega arith in
@@ -384,11 +376,9 @@ module _ (lay : Layout) (code : List ℕ) (taken : Taken lay code) where
   routine-last = past-end code (count - 1) (omega (arith, size-laws .above))
 
   pub routine-length : length (commandsOf lay code) ≡ bundleLength * count
-  unfolding rewritten
   routine-length = length-bundles lay count (routine code) 0 count
 
-  pub routine-word : (h p : ℕ) → h < count → p < bundleLength → getD (commandsOf lay code) (bundleLength * h + p) 0 ≡ bundleWord lay count (routine code h) p
-  unfolding rewritten
+  pub routine-word : (h p : ℕ) → h < count → p < bundleLength → getD (commandsOf lay code) (bundleLength * h + p) 0 ≡ wordOf (shapeOf lay count (routine code h) p)
   routine-word h p lh lp =
       bundles-word lay count (routine code) 0 count h p lh lp ∙ (let z : 0 + h ≡ h = omega arith in rw z)
 

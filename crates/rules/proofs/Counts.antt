@@ -27,7 +27,7 @@ use Rattle.rules.specs.Layouts.{rightLayout}
 use Rattle.rules.specs.Policies.{Policy, rightPolicy}
 use Rattle.rules.specs.Landings.{rightLandings}
 use Rattle.rules.specs.Commands.{fetchOf, holdsOf}
-use Rattle.rules.specs.Bundles.{baseRight, rewritten, commandsOf, commandCount, placeAnswer, rewriteAnswer, countRight, passesAt, checkFrom, checkAnswer}
+use Rattle.rules.specs.Bundles.{baseRight, commandsOf, commandCount, placeAnswer, rewriteAnswer, countRight, passesAt, checkFrom, checkAnswer}
 use Rattle.rules.specs.Machines.{ifRoom, View, State, Ran, fits, installAnswer, regAt, entryOf, landsAt, effectOf, withPair, applyOf, seen, nextOf, stepOf, endingOf, endedIn, unlessOver, unlessWait, runFrom, startOf, runOf}
 use Rattle.rules.specs.Loading.{loadAnswer}
 use Rattle.rules.proofs.Bools.{cond-ind, unless-ind, both}
@@ -142,16 +142,14 @@ write-bound ws room =
 judge-at-small : (n w : ℕ) → judgeAt n w < 2 ^ 8
 unfolding judgeAt
 judge-at-small n w =
-    cond-ind (λ (x : ℕ). x < 2 ^ 8) (eqb (judgeWord w) 0)
+    unless-ind (λ (x : ℕ). x < 2 ^ 8) (eqb (judgeWord w) 0) (λ _. judge-small _ _)
     (λ _. cond-ind (λ (x : ℕ). x < 2 ^ 8) (eqb (kindOf w) 10 && ltb n (vOf w)) (λ _. lit< tt) (λ _. lit< tt))
-    (λ _. judge-small _ _)
 
 -- at most 1,024 bundles
 pub count-bound : (n : ℕ) → n ≤ mostInstructions → commandCount n ≤ mostCommands
 count-bound n h = omega (arith, sizes n h .most)
 
 pub length-commands : (lay : Layout) (ws : List ℕ) → length (commandsOf lay ws) ≡ commandCount (length ws)
-unfolding rewritten
 length-commands lay ws = length-bundles lay (bundlesFor (length ws)) (routine ws) 0 (bundlesFor (length ws))
 
 pub rewrite-bound : (lay : Layout) (ws : List ℕ) (room : ℕ) → Bounded mostCommands room (rewriteAnswer lay ws room)

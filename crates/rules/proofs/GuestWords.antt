@@ -13,7 +13,7 @@ use Rattle.rules.specs.Names.{topGuest, topRegister, topCondition, topKi
 use Rattle.rules.specs.Words.{kindOf, vOf, zeroOf, fieldsOf, packOf, guestLimits, judgeOf, judgeWord, judgeAt, instrOf}
 use Rattle.rules.specs.Commands.{limitsOf}
 use Rattle.rules.proofs.Facts.{Valid}
-use Rattle.rules.proofs.Bools.{both, cond-ind}
+use Rattle.rules.proofs.Bools.{both, cond-ind, unless-ind}
 use Rattle.rules.proofs.WordLaws.{Kept, good, judged, bounds}
 use Rattle.rules.proofs.Packing.{InBits, guest-bits, condition-bits, pack-kind, pack-d, pack-a, pack-b, pack-c, pack-zero, pack-v}
 
@@ -27,8 +27,8 @@ landing n k v e ten =
 taken-word : (n w : ℕ) → judgeAt n w ≡ 0 → (judgeWord w ≡ 0) × (kindOf w ≡ 10 → vOf w ≤ n)
 unfolding judgeAt
 taken-word n w =
-    cond-ind (λ (x : ℕ). x ≡ 0 → (judgeWord w ≡ 0) × (kindOf w ≡ 10 → vOf w ≤ n)) (eqb (judgeWord w) 0)
-    (λ h e. (eqb-true _ _ h, landing n (kindOf w) (vOf w) e)) (λ h e. absurd (eqb-false _ _ h e))
+    unless-ind (λ (x : ℕ). x ≡ 0 → (judgeWord w ≡ 0) × (kindOf w ≡ 10 → vOf w ≤ n)) (eqb (judgeWord w) 0)
+    (λ h e. absurd (eqb-false _ _ h e)) (λ h e. (eqb-true _ _ h, landing n (kindOf w) (vOf w) e))
 
 abbrev fields : ℕ → ℕ → ℕ → ℕ → ℕ → ℕ → Fields
 fields k d a b c v = record { kind = k; d = d; a = a; b = b; c = c; v = v }

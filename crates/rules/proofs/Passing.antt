@@ -6,7 +6,7 @@ use mathlib.Core.List.{List, [], _∷_}
 use Prim.Native.Nat.{ℕ, zero, suc, _+_, _-_, _*_, _/_, _%_, _^_, _<_, _≤_}
 use native.Mathlib.Omega.{arith}
 use borrow.Author.Tests.{ltb-true, ltb-false, lt-ltb, le-ltb, le-leb, eq-eqb, ne-eqb}
-use lib.Dec.{ltb, lit<}
+use lib.Dec.{eqb, ltb, lit<}
 use lib.Count.{trailingZeros}
 use lib.ListN.{length, getD}
 use lib.Seq.{ext-getD}
@@ -15,9 +15,9 @@ use Rattle.rules.specs.declared.Answer.{Answer}
 use Rattle.rules.specs.declared.Instr.{Instr}
 use Rattle.rules.specs.declared.Instr.the-variants.{HALT, PLAIN, LOAD, STORE, GOIF, GOX, EVENT}
 use Rattle.rules.specs.Names.{mostInstructions, mostCommands, bundleLength, bundleShift, hidden, guestRegisters, topCondition, events, answer}
-use Rattle.rules.specs.Words.{judgeAt, instrOf, routine, bundlesFor}
+use Rattle.rules.specs.Words.{kindOf, judgeAt, instrOf, routine, bundlesFor}
 use Rattle.rules.specs.Commands.{limitsOf, wordOf}
-use Rattle.rules.specs.Bundles.{addressOf, shapeOf, bundleWord, commandsOf, commandCount, placeAnswer, rewriteAnswer, rewriteOutput, valid, readOff, bundleAt, isBundle, shapedAt, isHalt, passesAt, checkFrom, checkAnswer}
+use Rattle.rules.specs.Bundles.{addressOf, shapeOf, commandsOf, commandCount, placeAnswer, rewriteAnswer, rewriteOutput, valid, readOff, bundleAt, isBundle, shapedAt, passesAt, checkFrom, checkAnswer}
 use Rattle.rules.specs.Claims.{RewriteLeaves, RewrittenPasses, Rewrites, PassedRewrites, PassedDecodes}
 use Rattle.rules.proofs.Facts.{Valid}
 use Rattle.rules.proofs.Bools.{cases}
@@ -48,8 +48,8 @@ bundle-of : (base v : ℕ) → (base + bundleLength * v - base) / bundleLength �
 bundle-of base v = omega arith
 
 module _ (lay : Layout) (n : ℕ) where
-  bundle-back : (i : Instr) → Valid n i → readOff lay (bundleWord lay n i 0) (bundleWord lay n i 2) (bundleWord lay n i 3) ≡ i
-  unfolding readOff bundleWord shapeOf wordOf
+  bundle-back : (i : Instr) → Valid n i → readOff lay (wordOf (shapeOf lay n i 0)) (wordOf (shapeOf lay n i 2)) (wordOf (shapeOf lay n i 3)) ≡ i
+  unfolding readOff shapeOf wordOf
   bundle-back HALT g = refl
   bundle-back (PLAIN k d a b v) g =
       let l = plain-kind k (g .0) (g .1) in
@@ -88,9 +88,9 @@ module _ (lay : Layout) (n : ℕ) where
   is-valid (EVENT e) g = lt-ltb e events g
 
   -- ---- a list of the bundles of valid instructions, the last one HALT, passes
-  module _ (ws : List ℕ) (is : ℕ → Instr) (each : (h p : ℕ) → h < n → p < bundleLength → getD ws (bundleLength * h + p) 0 ≡ bundleWord lay n (is h) p)
+  module _ (ws : List ℕ) (is : ℕ → Instr) (each : (h p : ℕ) → h < n → p < bundleLength → getD ws (bundleLength * h + p) 0 ≡ wordOf (shapeOf lay n (is h) p))
       (fine : (h : ℕ) → Valid n (is h)) (last : is (n - 1) ≡ HALT) (h : ℕ) (lh : h < n) where
-    first-word : getD ws (bundleLength * h) 0 ≡ bundleWord lay n (is h) 0
+    first-word : getD ws (bundleLength * h) 0 ≡ wordOf (shapeOf lay n (is h) 0)
     first-word = let z : bundleLength * h ≡ bundleLength * h + 0 = omega arith in rw z (each h 0 lh (omega arith))
 
     back : bundleAt lay ws h ≡ is h
@@ -102,13 +102,14 @@ module _ (lay : Layout) (n : ℕ) where
     bundle-shaped =
         rw (back, is-valid (is h) (fine h), eq-eqb _ _ first-word, eq-eqb _ _ (each h 1 lh (omega arith)), eq-eqb _ _ (each h 2 lh (omega arith)), eq-eqb _ _ (each h 3 lh (omega arith)))
 
-    halts : (ltb (h + 1) n || isHalt (is h)) ≡ true
+    halts : (ltb (h + 1) n || eqb (kindOf (wordOf (shapeOf lay n (is h) 0))) 1) ≡ true
+    unfolding shapeOf wordOf
     halts =
         ⊎-elim (λ (e : ltb (h + 1) n ≡ true). rw e) (λ (e : ltb (h + 1) n ≡ false). let q : h ≡ n - 1 = omega (arith, ltb-false (h + 1) n e) in rw (e, ap is q ∙ last)) (cases (ltb (h + 1) n))
 
     pub bundle-passes : passesAt lay n ws h ≡ true
     unfolding passesAt
-    bundle-passes = rw (bundle-shaped, back) halts
+    bundle-passes = rw (bundle-shaped, first-word) halts
 
 check-all : (lay : Layout) (n : ℕ) (ws : List ℕ) (h m : ℕ) → ((j : ℕ) → j < h + m → passesAt lay n ws j ≡ true) → checkFrom lay n ws h m ≡ answer 0 0
 unfolding checkFrom
@@ -217,7 +218,7 @@ module _ (lay : Layout) (ws : List ℕ) (n : ℕ) (p : Passed lay ws n) where
       let lh : h < n = omega (arith, size) in
       let lp : i % bundleLength < bundleLength = omega arith in
       ap (λ (x : ℕ). getD (commandsOf lay code) x 0) (sym at) ∙ routine-word lay code taken h (i % bundleLength) (rw bundles lh) lp
-      ∙ ap₂ (λ (x : ℕ) (y : Instr). bundleWord lay x y (i % bundleLength)) bundles (instr h lh)
+      ∙ ap₂ (λ (x : ℕ) (y : Instr). wordOf (shapeOf lay x y (i % bundleLength))) bundles (instr h lh)
       ∙ sym (passed-word lay ws n p h lh (i % bundleLength) lp)
       ∙ ap (λ (x : ℕ). getD ws x 0) at)
 

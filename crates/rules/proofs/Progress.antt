@@ -32,7 +32,7 @@ use Rattle.rules.proofs.Facts.{Right, Bundled}
 use Rattle.rules.proofs.Bools.{no, cond-ind}
 use Rattle.rules.proofs.Conditions.{bundled-of, right-of, layout-of}
 use Rattle.rules.proofs.Sim.{Mid, start, rest, load1, load2, store1, store2, gox1, gox2, gox3, event1, event2, event3, Sim, over, live, Known}
-use Rattle.rules.proofs.Track.{course-going, first-yes, first-no, silent, fetched, tracks, step-known, enter}
+use Rattle.rules.proofs.Track.{first-yes, first-no, silent, fetched, tracks, step-known, enter}
 use Rattle.rules.proofs.Isolation.{stays}
 
 -- ---- effects that neither pause nor record
@@ -251,12 +251,12 @@ more-left r p e = omega arith
 
 module _ (lay : Layout) (pol : Policy) (ws : List ℕ) (n : ℕ) (is : ℕ → Instr) (ok : Right lay pol n) (bs : Bundled lay ws n is) (past : List Pair) (u0 rd : List ℕ) (g0 : Guest) where
   sim-moves : (s : State) (g : Guest) (k b : ℕ) → s .status ≡ Running → Sim lay pol n is g k b s → Moves lay rd s (nextOf lay ws rd s)
-  sim-moves s g k b run (over f st h p lh lp si pc q bk) = absurd (f (course-going (g .course) (sym st ∙ run)))
+  sim-moves s g k b run (over f st h p lh lp si pc q bk) = absurd (f .0 (sym st ∙ run))
   sim-moves s g k b run (live gg st h p lh lp pc m) = rw (fetched lay pol ws n is ok bs s h p lh lp pc) (mid-moves lay rd s pol n g h k b (is h) p m)
 
   -- a first command, by its bundle
   sim-start : (s : State) (g : Guest) (k b : ℕ) → s .status ≡ Running → positionOf lay (s .pc) ≡ 0 → Sim lay pol n is g k b s → (h : ℕ) × (h < n) × (s .pc ≡ addressOf lay h + 0)
-  sim-start s g k b run z (over f st h p lh lp si pc q bk) = absurd (f (course-going (g .course) (sym st ∙ run)))
+  sim-start s g k b run z (over f st h p lh lp si pc q bk) = absurd (f .0 (sym st ∙ run))
   sim-start s g k b run z (live gg st h p lh lp pc m) = (h, lh, omega arith)
 
   room-on : (s : State) (h p : ℕ) → h < n → p < 3 → s .pc ≡ addressOf lay h + p → Room rd s → Room rd (stepOf lay ws rd s)

@@ -7,10 +7,10 @@ use Rattle.rules.specs.Landings.{rightLandings, bitsFrom, landingsOf, ma
 use Rattle.rules.specs.Words.{judgeOf, judgeAt, firstRefused, instrOf, routine, bundlesFor}
 use Rattle.rules.specs.Bytes.{byteAt, quadAt, fieldsAt, oneFields, oneMap, oneOf, scanOf, readAnswer, byteOut, quadOut, regsOut, fieldsOut, bytesOf, routineOf, writeAnswer, writeOutput}
 use Rattle.rules.specs.Commands.{isCommand, commandOf, wordOf, fetchOf, plainOf}
-use Rattle.rules.specs.Bundles.{shapeOf, bundleWord, rewritten, placeAnswer, rewriteAnswer, valid, readOff, bundleAt, isBundle, shapedAt, passesAt, checkFrom, checkAnswer}
+use Rattle.rules.specs.Bundles.{shapeOf, placeAnswer, rewriteAnswer, valid, readOff, bundleAt, isBundle, shapedAt, passesAt, checkFrom, checkAnswer}
 use Rattle.rules.specs.Machines.{installAnswer, installMemory, landsAt, effectOf, applyOf, runFrom, runOf}
 use Rattle.rules.specs.Tray.{TrayHolds}
 
 pub tray-holds : TrayHolds
-unfolding ones leadingZeros rightLayout judgeOf judgeAt firstRefused instrOf routine bundlesFor byteAt quadAt fieldsAt oneFields oneMap oneOf scanOf readAnswer byteOut quadOut regsOut fieldsOut bytesOf routineOf writeAnswer writeOutput isCommand commandOf wordOf fetchOf plainOf shapeOf bundleWord rewritten placeAnswer rewriteAnswer valid readOff bundleAt isBundle shapedAt passesAt checkFrom checkAnswer rightPolicy rightLandings bitsFrom landingsOf marked installAnswer installMemory landsAt effectOf applyOf runFrom runOf
+unfolding ones leadingZeros rightLayout judgeOf judgeAt firstRefused instrOf routine bundlesFor byteAt quadAt fieldsAt oneFields oneMap oneOf scanOf readAnswer byteOut quadOut regsOut fieldsOut bytesOf routineOf writeAnswer writeOutput isCommand commandOf wordOf fetchOf plainOf shapeOf placeAnswer rewriteAnswer valid readOff bundleAt isBundle shapedAt passesAt checkFrom checkAnswer rightPolicy rightLandings bitsFrom landingsOf marked installAnswer installMemory landsAt effectOf applyOf runFrom runOf
 tray-holds = refl

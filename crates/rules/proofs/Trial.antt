@@ -7,14 +7,15 @@ use native.Mathlib.Omega.{arith}
 use lib.Count.{ones, leadingZeros}
 use lib.ListN.{set, replicate}
 use lib.Seq.{getD-set-other}
+use Rattle.rules.specs.declared.Status.the-variants.{Running, Stopped}
 use Rattle.rules.specs.Layouts.{rightLayout, inBox, inTable, inLandings, protected}
 use Rattle.rules.specs.Policies.{rightPolicy}
 use Rattle.rules.specs.Landings.{rightLandings, bitsFrom, landingsOf}
 use Rattle.rules.specs.Words.{instrOf, routine, bundlesFor}
 use Rattle.rules.specs.Commands.{isCommand, commandOf, wordOf, fetchOf, plainOf}
-use Rattle.rules.specs.Bundles.{shapeOf, bundleWord, rewritten, valid, readOff, bundleAt, isBundle, shapedAt, passesAt, checkFrom, checkAnswer}
+use Rattle.rules.specs.Bundles.{shapeOf, valid, readOff, bundleAt, isBundle, shapedAt, passesAt, checkFrom, checkAnswer}
 use Rattle.rules.specs.Machines.{installAnswer, installMemory, installMachine, effectOf, applyOf, runFrom, runOf}
-use Rattle.rules.specs.Guests.{going, stopped, pairOf, Guest, guestOf, sentOf, doOf, guestStep, guestAfter, guestStart}
+use Rattle.rules.specs.Guests.{pairOf, Guest, guestOf, sentOf, doOf, guestStep, guestAfter, guestStart}
 use Rattle.rules.specs.Runs.{begins, begunFrom, runOn, afterTaken, afterRun, afterRuns, runsOf, Matches, Served, allRuns}
 use Rattle.rules.specs.Claims.{Each, Alike, Same}
 use Rattle.rules.specs.Sample.{layout, policy, code, commands, memory, left, runs, SampleHolds}
@@ -26,7 +27,7 @@ free-set : (mem : List ℕ) (i x : ℕ) → (inBox layout i || protected layout 
 free-set mem i x f j s = getD-set-other mem i j x 0 (λ e. no (sym f ∙ ap (λ (k : ℕ). inBox layout k || protected layout k) (sym e) ∙ s))
 
 passed : checkAnswer layout commands .number ≡ 0
-unfolding ones leadingZeros rightLayout instrOf routine bundlesFor wordOf shapeOf bundleWord rewritten valid readOff bundleAt isBundle shapedAt passesAt checkFrom checkAnswer
+unfolding ones leadingZeros rightLayout instrOf routine bundlesFor wordOf shapeOf valid readOff bundleAt isBundle shapedAt passesAt checkFrom checkAnswer
 passed = refl
 
 served-with : (x : ℕ) → Served layout policy commands (memory x) (runs x)
@@ -49,7 +50,7 @@ alike-in x y =
     rw (installed-with x, installed-with y) (λ i s. free-set mem 700 x refl i s ∙ sym (free-set mem 700 y refl i s))
 
 given-alike : (x y : ℕ) → Each Alike (runs x) (runs y)
-unfolding ones leadingZeros rightLayout rightPolicy rightLandings bitsFrom landingsOf instrOf routine bundlesFor wordOf shapeOf bundleWord rewritten isCommand commandOf fetchOf plainOf installAnswer installMemory installMachine effectOf applyOf runFrom runOf runOn afterTaken afterRun
+unfolding ones leadingZeros rightLayout rightPolicy rightLandings bitsFrom landingsOf instrOf routine bundlesFor wordOf shapeOf isCommand commandOf fetchOf plainOf installAnswer installMemory installMachine effectOf applyOf runFrom runOf runOn afterTaken afterRun
 given-alike x y = (
   record { readings = refl; budget = refl; log = refl; memory = refl },
   (
@@ -68,14 +69,14 @@ guest-with x =
     let g = guestStart layout policy (installMemory layout policy (memory x)) in
     let step : Guest → Guest = guestStep layout policy 8 (routine code) [] in
     let regs : List ℕ = 70 ∷ replicate 7 0 in
-    let one : step g ≡ guestOf regs 1 (g .box) 0 [] 0 going = refl in
-    let two : step (step g) ≡ guestOf regs 2 (g .box) 0 (pairOf 0 70 ∷ []) 0 going = ap step one in
-    let three : step (step (step g)) ≡ guestOf regs 3 (g .box) 1 (pairOf 0 70 ∷ pairOf 2 70 ∷ []) 0 going = ap step two in
-    let four : step (step (step (step g))) ≡ guestOf regs 3 (g .box) 1 (pairOf 0 70 ∷ pairOf 2 70 ∷ []) 0 stopped = ap step three in
+    let one : step g ≡ guestOf regs 1 (g .box) 0 [] 0 Running = refl in
+    let two : step (step g) ≡ guestOf regs 2 (g .box) 0 (pairOf 0 70 ∷ []) 0 Running = ap step one in
+    let three : step (step (step g)) ≡ guestOf regs 3 (g .box) 1 (pairOf 0 70 ∷ pairOf 2 70 ∷ []) 0 Running = ap step two in
+    let four : step (step (step (step g))) ≡ guestOf regs 3 (g .box) 1 (pairOf 0 70 ∷ pairOf 2 70 ∷ []) 0 Stopped = ap step three in
     ap (λ (y : Guest). y .records) four
 
 pub sample-holds : SampleHolds
-unfolding ones leadingZeros rightLayout rightPolicy rightLandings bitsFrom landingsOf instrOf routine bundlesFor wordOf shapeOf bundleWord rewritten isCommand commandOf fetchOf plainOf installAnswer installMemory installMachine effectOf applyOf runFrom runOf begins begunFrom runOn afterTaken afterRun afterRuns runsOf
+unfolding ones leadingZeros rightLayout rightPolicy rightLandings bitsFrom landingsOf instrOf routine bundlesFor wordOf shapeOf isCommand commandOf fetchOf plainOf installAnswer installMemory installMachine effectOf applyOf runFrom runOf begins begunFrom runOn afterTaken afterRun afterRuns runsOf
 sample-holds =
     record {
       served = served-with;

@@ -36,7 +36,7 @@ use Rattle.rules.proofs.Landings.{marked-same}
 use Rattle.rules.proofs.Facts.{Right, Valid, Bundled, Laid}
 use Rattle.rules.proofs.Conditions.{machine-of}
 use Rattle.rules.proofs.Sim.{Mid, start, rest, load1, load2, store1, store2, gox1, gox2, gox3, event1, event2, event3, Sim, over, live, Known, Stays}
-use Rattle.rules.proofs.Track.{course-going, lent-box, lent-cell, lent-table, lent-landing, tracks, step-known, enter, stays-run, install}
+use Rattle.rules.proofs.Track.{lent-box, lent-cell, lent-table, lent-landing, tracks, step-known, enter, stays-run, install}
 
 -- ---- two states with the same machine and counts, alike in what is seen of memory and in the pairs logged
 abbrev besides : State → List ℕ → List ℕ → State
@@ -298,7 +298,7 @@ mid-safe lay pol n regs mem g h k b i p ok v l (event2 at bk q e some) = tt
 mid-safe lay pol n regs mem g h k b i p ok v l (event3 at bk q some) = tt
 
 sim-safe : (lay : Layout) (pol : Policy) (ws : List ℕ) (n : ℕ) (is : ℕ → Instr) (s : State) (g : Guest) (k b : ℕ) → Right lay pol n → Bundled lay ws n is → g .state < lay .states → s .status ≡ Running → Sim lay pol n is g k b s → Safe lay (fetchOf ws (lay .base) (s .pc)) (s .regs) (s .mem)
-sim-safe lay pol ws n is s g k b ok bs l run (over f st h p lh lp si pc q bk) = absurd (f (course-going (g .course) (sym st ∙ run)))
+sim-safe lay pol ws n is s g k b ok bs l run (over f st h p lh lp si pc q bk) = absurd (f .0 (sym st ∙ run))
 sim-safe lay pol ws n is s g k b ok bs l run (live gg st h p lh lp pc m) =
     let e : fetchOf ws (lay .base) (s .pc) ≡ shapeOf lay n (is h) p = ap (fetchOf ws (lay .base)) pc ∙ bs .each h p lh lp in
     rw e (mid-safe lay pol n (s .regs) (s .mem) g h k b (is h) p ok (bs .valid h lh) l m)

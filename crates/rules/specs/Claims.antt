@@ -21,7 +21,7 @@ use Rattle.rules.specs.Bytes.{readAnswer, readOutput, writeAnswer, write
 use Rattle.rules.specs.Commands.{shlOf, fetchOf}
 use Rattle.rules.specs.Bundles.{addressOf, lastAddress, positionOf, shapeOf, bundleAt, baseRight, commandsOf, rewriteAnswer, rewriteOutput, checkAnswer}
 use Rattle.rules.specs.Machines.{State, onward, leftIn, runFrom, runOf, installMemory}
-use Rattle.rules.specs.Guests.{Course, going, ended, stopped, strayed, Guest, guestAfter, guestStart, boxOf}
+use Rattle.rules.specs.Guests.{Guest, guestAfter, guestStart, boxOf}
 use Rattle.rules.specs.Runs.{begunFrom, Given, Carried, afterRun, allRuns, after, Run, recordedIn, Matches, Lent, Served, pairsOf, eventsOf, pendingAt}
 
 -- ---- masks and sizes
@@ -146,12 +146,6 @@ Cuts =
 
 -- ---- the guest rule
 
-abbrev pub statusOf : Course → Status
-statusOf going = Running
-statusOf ended = Ended
-statusOf stopped = Stopped
-statusOf strayed = Strayed
-
 -- on the first command of a bundle, or no longer running
 abbrev pub Stands : Layout → Machine → Type 0
 Stands lay m = (positionOf lay (m .pc) ≡ 0) ⊎ (m .status ≡ Running → ⊥)
@@ -159,7 +153,7 @@ Stands lay m = (positionOf lay (m .pc) ≡ 0) ⊎ (m .status ≡ Running → ⊥
 -- 'on ending, r0 to r7, sandbox, state cell, records and readings used'; and on the instruction to come.
 -- The ending is the record's status: by Endings a run answers 20, 21 or 26 exactly where it has ended, stopped or strayed
 pub record Agrees (lay : Layout) (g : Guest) (c : Carried) : Type 0 where
-  pub ending : c .machine .status ≡ statusOf (g .course)
+  pub ending : c .machine .status ≡ g .status
   pub regs : take guestRegisters (c .machine .regs) ≡ g .regs
   pub box : boxOf lay (c .memory) ≡ g .box
   pub state : getD (c .memory) (lay .cell) 0 ≡ g .state

@@ -11,7 +11,7 @@ use Rattle.rules.specs.declared.Instr.the-variants.{PLAIN}
 use Rattle.rules.specs.Names.{mostBundles}
 use Rattle.rules.specs.Words.{kindOf, dOf, aOf, bOf, cOf, vOf, zeroOf, packOf, judgeAt, instrOf}
 use Rattle.rules.specs.Commands.{wordOf}
-use Rattle.rules.specs.Bundles.{addressOf, shapeOf, bundleWord, bundleOf, valid, readOff, isBundle, isHalt}
+use Rattle.rules.specs.Bundles.{addressOf, shapeOf, bundleOf, valid, readOff, isBundle}
 use Rattle.rules.proofs.Bools.{both}
 use Rattle.rules.proofs.Facts.{Valid}
 use Rattle.rules.proofs.WordLaws.{pack-fields}
@@ -74,17 +74,17 @@ module _ (w : ℕ) (lo : 2 ≤ kindOf w) (hi : kindOf w ≤ 8) where
       rw k (sym (rw c at (pack-fields w z)))
 
 plain-bundle : (l : Layout) (n w x y z : ℕ) → PlainWord n w → x ≡ 0 → y ≡ 0 → z ≡ 0 → isBundle l n (readOff l w y z) w x y z ≡ true
-unfolding isBundle bundleWord shapeOf wordOf
+unfolding isBundle shapeOf wordOf
 plain-bundle l n w x y z p ex ey ez =
     rw (← (plain-off w (p .0) (p .1) l y z), plain-valid w (p .0) (p .1) n (p .2), eq-eqb w _ (plain-word w (p .0) (p .1) (p .3)), ex, ey, ez)
 
 module _ (l : Layout) (n w x y z : ℕ) (m : Bool) where
-  pub passing : (i : Instr) → i ≡ readOff l w y z → (s : Bool) → s ≡ isBundle l n i w x y z → (k : Bool) → k ≡ isHalt i
-      → (s && (m || k)) ≡ (isBundle l n (readOff l w y z) w x y z && (m || isHalt (readOff l w y z)))
-  passing i ei s es k ek = rw (es, ek, ei)
+  pub passing : (i : Instr) → i ≡ readOff l w y z → (s : Bool) → s ≡ isBundle l n i w x y z
+      → (s && (m || eqb (kindOf w) 1)) ≡ (isBundle l n (readOff l w y z) w x y z && (m || eqb (kindOf w) 1))
+  passing i ei s es = rw (es, ei)
 
   pub plain-passing : (p : Bool) → (p ≡ true → PlainWord n w) → (p && eqb x 0 && eqb y 0 && eqb z 0 && m) ≡ true
-      → true ≡ (isBundle l n (readOff l w y z) w x y z && (m || isHalt (readOff l w y z)))
+      → true ≡ (isBundle l n (readOff l w y z) w x y z && (m || eqb (kindOf w) 1))
   plain-passing p f t =
       let t4 = both (p && eqb x 0 && eqb y 0 && eqb z 0) m t in
       let t3 = both (p && eqb x 0 && eqb y 0) (eqb z 0) (t4 .0) in

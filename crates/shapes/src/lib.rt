@@ -10,8 +10,10 @@ use words::guest::judge_at;
 ghost use mathlib.Core.Path.{_≡_};
 ghost use mathlib.Core.Bool.{true, _&&_, _||_};
 ghost use Prim.Native.Nat.{_≤_, _<_, _^_};
+ghost use lib.Dec.{eqb};
 ghost use Rattle.rules.specs.Names.{mostBundles};
-ghost use Rattle.rules.specs.Bundles.{addressOf, readOff, isBundle, isHalt};
+ghost use Rattle.rules.specs.Words.{kindOf};
+ghost use Rattle.rules.specs.Bundles.{addressOf, readOff, isBundle};
 ghost use Rattle.shapes.specs.Sameness.{PlainWord};
 
 // Whether four words are the bundle of an instruction among n.
@@ -23,20 +25,6 @@ fn is_bundle(l: Layout, n: usize, i: Instr, w: u64, x: u64, y: u64, z: u64) -> b
         return false;
     }
     same(l, n, i, w, x, y, z)
-}
-
-fn is_halt(i: Instr) -> bool
-    ensures { λ r. ⌜ r ≡ isHalt i ⌝ }
-{
-    match i {
-        Instr::HALT => true,
-        Instr::PLAIN(_, _, _, _, _) => false,
-        Instr::LOAD(_, _) => false,
-        Instr::STORE(_, _) => false,
-        Instr::GOIF(_, _, _, _) => false,
-        Instr::GOX(_, _, _, _) => false,
-        Instr::EVENT(_) => false,
-    }
 }
 
 // Whether a word is a plain command on the guest's registers: the instruction of the kind before it, judged by one AND.
@@ -56,11 +44,11 @@ fn is_plain(n: usize, w: u64) -> bool
 // Whether four words are a bundle, and a HALT where no more follow. The plain ones, which are most, come first.
 pub fn passes_words(l: Layout, n: usize, w: u64, x: u64, y: u64, z: u64, more: bool) -> bool
     requires { ⌜ (0 < n) × (n ≤ mostBundles) × (addressOf l n ≤ 2 ^ 32) ⌝ }
-    ensures { λ r. ⌜ r ≡ (isBundle l n (readOff l w y z) w x y z && (more || isHalt (readOff l w y z))) ⌝ }
+    ensures { λ r. ⌜ r ≡ (isBundle l n (readOff l w y z) w x y z && (more || eqb (kindOf w) 1)) ⌝ }
 {
     if is_plain(n, w) & (x == 0) & (y == 0) & (z == 0) & more {
         return true;
     }
     let i = read_off(l, w, y, z);
-    is_bundle(l, n, i, w, x, y, z) & (more | is_halt(i))
+    is_bundle(l, n, i, w, x, y, z) & (more | (w % 256 == 1))
 }

@@ -4,7 +4,8 @@ use mathlib.Core.Bool.{Bool}
 use Prim.Native.Nat.{ℕ, _%_, _^_}
 use native.Mathlib.Omega.{arith}
 use Rattle.rules.specs.declared.Fields.{Fields}
-use Rattle.rules.specs.Words.{judgeOf, cutOf}
+use Rattle.rules.specs.Words.{judgeOf}
+use Rattle.packing.specs.Cut.{cutOf}
 use Rattle.rules.proofs.WordLaws.{bounds}
 
 -- packing cuts nothing off an instruction that is not refused

@@ -12,7 +12,7 @@ use Rattle.rules.specs.declared.Bundle.{Bundle}
 use Rattle.rules.specs.Names.{bundleLength, hidden, topWord}
 use Rattle.rules.specs.Words.{packOf}
 use Rattle.rules.specs.Commands.{limitsOf, wordOf}
-use Rattle.rules.specs.Bundles.{addressOf, lastAddress, shapeOf, bundleWord, bundleOf, valid}
+use Rattle.rules.specs.Bundles.{addressOf, lastAddress, shapeOf, bundleOf, valid}
 use Rattle.rules.proofs.Facts.{Valid}
 use Rattle.rules.proofs.Conditions.{valid-is}
 use Rattle.words.specs.Packing.{cutWord, Fits}
@@ -43,11 +43,11 @@ module _ (l : Layout) (n : ℕ) (i : Instr) (f : Fits l n i) where
   facts j e = valid-is n j (subst (λ (x : Instr). valid n x ≡ true) e (f .valid))
 
   pub lay-halt : i ≡ HALT → (w : ℕ) → w ≡ cutWord 1 0 0 0 0 0 → record { words = w ∷ 0 ∷ 0 ∷ 0 ∷ [] } ≡ bundleOf l n i
-  unfolding bundleWord shapeOf wordOf
+  unfolding shapeOf wordOf
   lay-halt e w ew = rw (e, ew)
 
   pub lay-plain : (k d a b v : ℕ) → i ≡ PLAIN k d a b v → (w : ℕ) → w ≡ cutWord (k + 1) d a b 0 v → record { words = w ∷ 0 ∷ 0 ∷ 0 ∷ [] } ≡ bundleOf l n i
-  unfolding bundleWord shapeOf wordOf
+  unfolding shapeOf wordOf
   lay-plain k d a b v e w ew =
       let g = facts (PLAIN k d a b v) e in
       let h1 = g .1 in
@@ -61,7 +61,7 @@ module _ (l : Layout) (n : ℕ) (i : Instr) (f : Fits l n i) where
   module _ (hh : l .high < 2 ^ 32) (hl : l .low < 2 ^ 32) where
     pub lay-load : (d a : ℕ) → i ≡ LOAD d a → (w x y : ℕ) → w ≡ cutWord 9 hidden a 0 0 (l .high) → x ≡ cutWord 10 hidden hidden 0 0 (l .low) → y ≡ cutWord 12 d hidden 0 0 0
         → record { words = w ∷ x ∷ y ∷ 0 ∷ [] } ≡ bundleOf l n i
-    unfolding bundleWord shapeOf wordOf
+    unfolding shapeOf wordOf
     lay-load d a e w x y ew ex ey =
         let g = facts (LOAD d a) e in
         rw e
@@ -72,7 +72,7 @@ module _ (l : Layout) (n : ℕ) (i : Instr) (f : Fits l n i) where
 
     pub lay-store : (a b : ℕ) → i ≡ STORE a b → (w x y : ℕ) → w ≡ cutWord 9 hidden a 0 0 (l .high) → x ≡ cutWord 10 hidden hidden 0 0 (l .low) → y ≡ cutWord 13 0 hidden b 0 0
         → record { words = w ∷ x ∷ y ∷ 0 ∷ [] } ≡ bundleOf l n i
-    unfolding bundleWord shapeOf wordOf
+    unfolding shapeOf wordOf
     lay-store a b e w x y ew ex ey =
         let g = facts (STORE a b) e in
         rw e
@@ -82,7 +82,7 @@ module _ (l : Layout) (n : ℕ) (i : Instr) (f : Fits l n i) where
         refl)
 
   pub lay-goif : (a b c v : ℕ) → i ≡ GOIF a b c v → (w : ℕ) → w ≡ cutWord 14 0 a b c (addressOf l v) → record { words = w ∷ 0 ∷ 0 ∷ 0 ∷ [] } ≡ bundleOf l n i
-  unfolding bundleWord shapeOf wordOf
+  unfolding shapeOf wordOf
   lay-goif a b c v e w ew =
       let g = facts (GOIF a b c v) e in
       let m = f .top in
@@ -91,7 +91,7 @@ module _ (l : Layout) (n : ℕ) (i : Instr) (f : Fits l n i) where
 
   pub lay-gox : (d a b c : ℕ) → i ≡ GOX d a b c → (w x y z : ℕ) → w ≡ cutWord 11 hidden d 0 0 2 → x ≡ cutWord 9 hidden hidden 0 0 (lastAddress l n)
       → y ≡ cutWord 10 hidden hidden 0 0 (l .base) → z ≡ cutWord 15 hidden a b c 0 → record { words = w ∷ x ∷ y ∷ z ∷ [] } ≡ bundleOf l n i
-  unfolding bundleWord shapeOf wordOf
+  unfolding shapeOf wordOf
   lay-gox d a b c e w x y z ew ex ey ez =
       let g = facts (GOX d a b c) e in
       let m = f .top in
@@ -103,7 +103,7 @@ module _ (l : Layout) (n : ℕ) (i : Instr) (f : Fits l n i) where
 
   pub lay-event : (v : ℕ) → i ≡ EVENT v → (w x y z : ℕ) → w ≡ cutWord 16 hidden 0 0 0 v → x ≡ cutWord 17 hidden 0 0 0 0 → y ≡ cutWord 18 hidden 0 0 0 0
       → z ≡ cutWord 19 0 0 0 0 v → record { words = w ∷ x ∷ y ∷ z ∷ [] } ≡ bundleOf l n i
-  unfolding bundleWord shapeOf wordOf
+  unfolding shapeOf wordOf
   lay-event v e w x y z ew ex ey ez =
       let g = facts (EVENT v) e in
       rw e

@@ -1,5 +1,5 @@
 use borrow.Author.Needs.{needs}
-use Rattle.rules.specs.Loading.{layoutFrom}
+use Rattle.hosts.specs.Numbers.{layoutFrom}
 use Rattle.hosts.proofs.layout_of.Statement.{statement}
 use Rattle.hosts.proofs.layout_of.Tie as tie
 

@@ -6,13 +6,13 @@ use lib.Seq.{sets}
 use borrow.Author.Needs.{needs}
 use Rattle.rules.specs.Names.{bundleLength}
 use Rattle.rules.specs.Words.{routine}
-use Rattle.rules.specs.Bundles.{bundlesFrom, rewritten}
+use Rattle.rules.specs.Bundles.{bundlesFrom}
 use Rattle.rewriter.proofs.Filling.{fill-start, still-ready, fill-more, fill-done, length-put}
 use Rattle.rewriter.proofs.fill.Statement.{statement}
 use Rattle.rewriter.proofs.fill.Tie as tie
 
 abbrev Inv-loop : tie.InvT-loop
-Inv-loop layout n words commands₀ h₀ commands h = (h ≤ n) × (sets commands₀ 0 (rewritten layout n (routine words)) ≡ sets commands (bundleLength * h) (bundlesFrom layout n (routine words) h (n - h))) × (length commands ≡ length commands₀)
+Inv-loop layout n words commands₀ h₀ commands h = (h ≤ n) × (sets commands₀ 0 (bundlesFrom layout n (routine words) 0 n) ≡ sets commands (bundleLength * h) (bundlesFrom layout n (routine words) h (n - h))) × (length commands ≡ length commands₀)
 
 abbrev μ-loop : tie.MeasureT-loop
 μ-loop layout n words commands₀ h₀ commands h = n - h
@@ -23,7 +23,7 @@ fill-spec =
     (tie.spec
     Inv-loop
     μ-loop
-    (λ c. (omega arith, fill-start _ _ _ _, refl))
+    (λ c. (omega arith, search (fill-start, needs), refl))
     (λ c κs. search (still-ready, needs))
     (λ c. search needs)
     (λ c. search needs)

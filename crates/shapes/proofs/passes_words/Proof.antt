@@ -11,5 +11,4 @@ passes-words-spec =
     (λ c. search (plain-passing, needs))
     (λ c κs. search needs)
     (λ c κs. search needs)
-    (λ c κs. search needs)
     (λ c. search (passing, needs)))
