@@ -11,12 +11,12 @@ use lib.Dec.{eqb, leb, ltb}
 use lib.ListN.{length, getD, set, drop}
 use borrow.Author.Tests.{ltb-true, eq-eqb, ne-eqb, lt-ltb, le-ltb, leb-true}
 use lib.Pow.{pow-lt, pow-pos, pow-mono}
-use Rattle.rules.specs.declared.Refusal.the-variants.{SmallOutput}
+use Rattle.rules.specs.declared.Refusal.the-variants.{SmallOutput, BadPair}
 use Rattle.rules.specs.Names.{events, noArrow, answer, refusal}
 use Rattle.rules.proofs.Bools.{both}
 use Rattle.befores.specs.declared.Made.{Made}
 use Rattle.befores.specs.Maps.{every, some, mapOf, bit, build}
-use Rattle.befores.specs.Befores.{Fit, namedIn, named, knownIn, known, mostNamed, firstAt, pairsIn, place, firstsIn, statesOf, bytesOf, namedCount, arrowOf, entryOf, stuck, onOf, turnsOf, fullOf, neverOf, badPair, pairsRight, makeAnswer, madeWith, makeOf, makeTable}
+use Rattle.befores.specs.Befores.{Fit, namedIn, named, knownIn, known, mostNamed, firstAt, pairsIn, place, firstsIn, statesOf, bytesOf, namedCount, arrowOf, entryOf, stuck, onOf, turnsOf, fullOf, neverOf, pairsRight, makeAnswer, madeWith, makeOf, makeTable}
 use Rattle.befores.proofs.Maps.{every-at, map-or, map-one, map-none, map-low, map-ones, bit-map, count-less, map-lt, length-build, build-more}
 
 pub known-none : (ps : List ℕ) → knownIn ps 0 ≡ true
@@ -272,7 +272,7 @@ module _ (ps : List ℕ) (m : ℕ) (e : m ≡ mapOf (named ps) events) (r : Bool
   abbrev pub Makes : List ℕ → Made → List ℕ → Type 0
   Makes t made t′ = (made ≡ makeOf ps (length t)) × (t′ ≡ makeTable ps t)
 
-  pub no-pairs : (t : List ℕ) (made : Made) → r ≡ false → made ≡ madeWith (answer badPair 0) 0 0 → Makes t made t
+  pub no-pairs : (t : List ℕ) (made : Made) → r ≡ false → made ≡ madeWith (refusal BadPair 0) 0 0 → Makes t made t
   unfolding makeOf makeTable makeAnswer
   no-pairs t made f q = rw (← g, f) (q, refl)
 

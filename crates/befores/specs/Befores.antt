@@ -2,12 +2,13 @@
 use Prim.Native.Nat.{ℕ, zero, suc, _+_, _*_, _/_, _%_, _^_, _≤_}
 use mathlib.Core.Path.{_≡_}
 use mathlib.Core.Bool.{Bool, true, _&&_, _||_, not, cond}
-use mathlib.Core.List.{List, []}
+use mathlib.Core.List.{List, [], _∷_}
 use lib.ListN.{length, getD}
 use lib.Dec.{eqb, leb, ltb}
 use lib.Bits.{bitOr}
 use Rattle.rules.specs.declared.Answer.{Answer}
-use Rattle.rules.specs.Names.{events, noArrow, answer, ifTaken, outputOf, roomFor}
+use Rattle.rules.specs.declared.Refusal.the-variants.{BadPair}
+use Rattle.rules.specs.Names.{events, noArrow, refusal, ifTaken, outputOf, roomFor, first}
 use Rattle.rules.specs.Policies.{Policy, policyOf}
 use Rattle.befores.specs.Maps.{every, some, count, mapOf, bit, build}
 use Rattle.befores.specs.declared.Made.{Made}
@@ -15,10 +16,6 @@ use Rattle.befores.specs.declared.Made.{Made}
 -- 'more than four named events' are too many
 abbrev pub mostNamed : ℕ
 mostNamed = 4
-
--- 'Answers: 17 (bad pair ..)'
-abbrev pub badPair : ℕ
-badPair = 17
 
 -- 'a list of pairs of event numbers', flat: of pair i, the first and the second
 abbrev pub pairsIn : List ℕ → ℕ
@@ -111,7 +108,7 @@ neverOf ps = mapOf (stuck ps (fullOf ps)) events
 
 -- '17 .. comes first. 9 follows it'
 unfoldable pub makeAnswer : List ℕ → ℕ → Answer
-makeAnswer ps room = cond (pairsRight ps) (roomFor room (bytesOf ps)) (answer badPair 0)
+makeAnswer ps room = first ((not (pairsRight ps), refusal BadPair 0) ∷ []) (roomFor room (bytesOf ps))
 
 -- 'After a reject all else handed back is 0'
 abbrev pub madeWith : Answer → ℕ → ℕ → Made

@@ -14,9 +14,6 @@ ghost use Rattle.rules.specs.Names.{events, answer};
 ghost use Rattle.befores.specs.Maps.{mapOf, bit, build};
 ghost use Rattle.befores.specs.Befores.{Fit, named, known, mostNamed, pairsIn, pairsRight, statesOf, firstsIn, arrowOf, entryOf, bytesOf, stuck, onOf, fullOf, neverOf, madeWith, makeOf, makeTable};
 
-// The number of a refusal: an event above 15 or without its partner, or more than four named events.
-pub const BAD_PAIR: u8 = 17;
-
 // The most events that a list of pairs may name.
 const MOST_NAMED: usize = 4;
 
@@ -233,7 +230,7 @@ pub fn make(pairs: &[u8], table: &mut [u8]) -> Made
 {
     let map = names(pairs);
     if !right(map, pairs) {
-        return refused(BAD_PAIR);
+        return refused(Refusal::BAD_PAIR);
     }
     let states = states(map);
     let bytes = EVENTS * states;

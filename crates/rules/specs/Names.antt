@@ -5,7 +5,7 @@ use mathlib.Core.List.{List, [], _∷_, _++_}
 use lib.ListN.{length, drop}
 use lib.Dec.{eqb, ltb}
 use Rattle.rules.specs.declared.Refusal.{Refusal}
-use Rattle.rules.specs.declared.Refusal.the-variants.{Taken, Short, Foreign, UnknownKind, OffRange, Oversize, Trailing, BadLayout, BadLanding, SmallOutput, BadPolicy, BadBundle, BadCount, BadBase, BadLandings}
+use Rattle.rules.specs.declared.Refusal.the-variants.{Taken, Short, Foreign, UnknownKind, OffRange, Oversize, Trailing, BadLayout, BadLanding, SmallOutput, BadPolicy, BadBundle, BadCount, BadBase, BadLandings, TooManyStates, BadDrawing, BadPair, NotForward}
 use Rattle.rules.specs.declared.Ending.{Ending}
 use Rattle.rules.specs.declared.Ending.the-variants.{Done, NoArrow, Fault, LogFull, Silent, Spent, NoLanding, Refused}
 use Rattle.rules.specs.declared.Answer.{Answer}
@@ -107,6 +107,10 @@ numberOf BadBundle = 11  -- bad bundle
 numberOf BadCount = 12  -- bad count
 numberOf BadBase = 13  -- bad base
 numberOf BadLandings = 14  -- bad landing list
+numberOf TooManyStates = 15  -- too many states
+numberOf BadDrawing = 16  -- bad drawing
+numberOf BadPair = 17  -- bad pair
+numberOf NotForward = 18  -- not forward
 
 -- the table of endings, with its words; a refused run answers 7
 abbrev pub endingNumber : Ending → ℕ

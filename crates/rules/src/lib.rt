@@ -188,6 +188,10 @@ pub enum Refusal {
     BadCount,
     BadBase,
     BadLandings,
+    TooManyStates,
+    BadDrawing,
+    BadPair,
+    NotForward,
 }
 
 impl Refusal {
@@ -220,6 +224,14 @@ impl Refusal {
     pub const BAD_BASE: u8 = 13;
 
     pub const BAD_LANDINGS: u8 = 14;
+
+    pub const TOO_MANY_STATES: u8 = 15;
+
+    pub const BAD_DRAWING: u8 = 16;
+
+    pub const BAD_PAIR: u8 = 17;
+
+    pub const NOT_FORWARD: u8 = 18;
 }
 
 // A refusal's number, or 0, and its place, or what was written.
