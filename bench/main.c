@@ -9,14 +9,15 @@
 #include <string.h>
 #include <time.h>
 
-typedef void Run(const uint32_t layout[8], const uint64_t *, size_t, uint32_t machine[11], uint32_t *, size_t, uint32_t,
+typedef void Run(const uint32_t layout[16], const uint64_t *, size_t, uint32_t machine[11], uint32_t *, size_t, uint32_t,
                  const uint32_t *, size_t, uint32_t *, size_t, uint32_t answer[4]);
 Run run_O2, run_O3;
 enum { KINDS = 3, MOST_ROUNDS = 1001 };
 static Run *const RUNS[KINDS] = {hemdroas_run, run_O2, run_O3};
 
 enum { U = 1024, SL = 256, SH = 511, M = 0, P = 16, S = 2, B = 4096, Q = 64, LOG = 800000, READINGS = 400000, BUNDLES = 8 };
-static const uint32_t layout[8] = {U, SL, SH, M, P, S, B, Q};
+/* Orders are limited to 50,000, half of what the counter reaches. */
+static const uint32_t layout[16] = {U, SL, SH, M, P, S, B, Q, 50000, 50000, 50000, 50000, 50000, 50000, 50000, 50000};
 
 /* The word of a command. */
 static uint64_t word(uint64_t k, uint64_t d, uint64_t a, uint64_t b, uint64_t c, uint64_t v) {

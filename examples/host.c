@@ -14,8 +14,10 @@
 enum { CELLS = 1024, STATE_CELL = 0, STATES = 2, MOST_COMMANDS = 4096, LOG = 64 };
 enum { GAS = 0, DOOR = 2, NO_ARROW = 255 };
 
-/* U, SL, SH, M, P, S, B, Q */
-static const uint32_t layout[8] = {CELLS, 256, 511, STATE_CELL, 16, STATES, 4096, 64};
+/* U, SL, SH, M, P, S, B, Q; and the ceilings of events 0 to 7, here none below the greatest number */
+static const uint32_t layout[16] = {CELLS, 256, 511, STATE_CELL, 16, STATES, 4096, 64,
+                                    UINT32_MAX, UINT32_MAX, UINT32_MAX, UINT32_MAX,
+                                    UINT32_MAX, UINT32_MAX, UINT32_MAX, UINT32_MAX};
 
 /* Gas at 70, open the door, and gas again, which the policy forbids. */
 static const uint8_t routine[] = {0x04, 0x00,

@@ -14,7 +14,7 @@
  * other too. No call keeps a pointer. A pointer to an empty buffer is not
  * followed, but must not be null.
  *
- * layout[8], in this order:
+ * layout[16], in this order:
  *   U   memory cells, 1 to 4096
  *   SL  first cell of the sandbox
  *   SH  last cell of the sandbox
@@ -23,6 +23,8 @@
  *   S   policy states, 1 to 16
  *   B   address of the first command
  *   Q   first of 32 cells with a bit for each landing
+ *   and the ceilings of events 0 to 7, any numbers: an order records the
+ *   smaller of r0 and its event's ceiling
  * It is right when U and S are in these ranges; SL <= SH < U, M < U,
  * P + 16 * S <= U and Q + 32 <= U; SH - SL + 1 is a power of two and SL a
  * multiple of it; and sandbox, state cell, table and landing cells share no
@@ -75,10 +77,10 @@ void hemdroas_write  (const uint64_t *words, size_t n, uint8_t *bytes, size_t ro
 /* Rewrites n words into commands, 4 for each of 1, 2, 4, ... 1024 bundles: the
  * smallest such count above n. B must be a multiple of the commands' number.
  * 4096 commands are always room enough. */
-void hemdroas_rewrite(const uint32_t layout[8], const uint64_t *words, size_t n, uint64_t *commands, size_t room, uint32_t answer[2]);
+void hemdroas_rewrite(const uint32_t layout[16], const uint64_t *words, size_t n, uint64_t *commands, size_t room, uint32_t answer[2]);
 
 /* Checks that n commands, run under this layout, keep to sandbox and policy. */
-void hemdroas_check  (const uint32_t layout[8], const uint64_t *commands, size_t n, uint32_t answer[2]);
+void hemdroas_check  (const uint32_t layout[16], const uint64_t *commands, size_t n, uint32_t answer[2]);
 
 /* 1 if states is 1 to 16 and each of the word's four bytes is below states or
  * 255, else 0: the test that installing makes of the policy's table, four
@@ -91,7 +93,7 @@ uint32_t hemdroas_word_right(uint32_t states, uint32_t word);
  * table[16 * s + e] is the state after event e in state s, or 255 where event
  * e is not allowed. landings are the instructions that a GOX may go to,
  * strictly rising; count may be 0. */
-void hemdroas_install(const uint32_t layout[8], uint32_t states, uint32_t start, const uint8_t *table, size_t len,
+void hemdroas_install(const uint32_t layout[16], uint32_t states, uint32_t start, const uint8_t *table, size_t len,
                       const uint32_t *landings, size_t count, uint32_t *memory, size_t cells, uint32_t machine[11], uint32_t answer[2]);
 
 /* Loads a routine of n bytes: reads, rewrites and checks it, then installs the
@@ -100,7 +102,7 @@ void hemdroas_install(const uint32_t layout[8], uint32_t states, uint32_t start,
  * count of commands, which then stand at the start of commands. 4096 commands
  * are always room enough. It takes about 50 KB of stack, the four calls by
  * themselves 10 KB at most. */
-void hemdroas_load   (const uint32_t layout[8], uint32_t states, uint32_t start, const uint8_t *table, size_t len,
+void hemdroas_load   (const uint32_t layout[16], uint32_t states, uint32_t start, const uint8_t *table, size_t len,
                       const uint32_t *landings, size_t count, const uint8_t *bytes, size_t n, uint64_t *commands, size_t room,
                       uint32_t *memory, size_t cells, uint32_t machine[11], uint32_t answer[2]);
 
@@ -118,7 +120,7 @@ void hemdroas_load   (const uint32_t layout[8], uint32_t states, uint32_t start,
  *   26 no landing    a GOX to an instruction that is no landing stopped it
  *    7 bad layout    refused, and nothing done; three zeros follow
  * After a pause, lend the same machine and memory again. */
-void hemdroas_run    (const uint32_t layout[8], const uint64_t *commands, size_t n, uint32_t machine[11], uint32_t *memory, size_t cells,
+void hemdroas_run    (const uint32_t layout[16], const uint64_t *commands, size_t n, uint32_t machine[11], uint32_t *memory, size_t cells,
                       uint32_t budget, const uint32_t *readings, size_t r, uint32_t *log, size_t g, uint32_t answer[4]);
 
 /* Looks ahead: answers as hemdroas_run would, with these readings, writes the
@@ -126,7 +128,7 @@ void hemdroas_run    (const uint32_t layout[8], const uint64_t *commands, size_t
  * leave, which is machine's own numbers if it is refused. Neither machine nor
  * memory changes. The run is done on a copy of the memory, which takes about
  * 17 KB of stack. */
-void hemdroas_preview(const uint32_t layout[8], const uint64_t *commands, size_t n, const uint32_t machine[11], const uint32_t *memory, size_t cells,
+void hemdroas_preview(const uint32_t layout[16], const uint64_t *commands, size_t n, const uint32_t machine[11], const uint32_t *memory, size_t cells,
                       uint32_t budget, const uint32_t *readings, size_t r, uint32_t *log, size_t g, uint32_t after[11], uint32_t answer[4]);
 
 /* Makes the policy of a list of n / 2 pairs of events, pairs[2 * i] before

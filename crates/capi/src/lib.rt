@@ -73,7 +73,7 @@ pub extern "C" fn hemdroas_write(words: &[u64], bytes: &mut [u8], answer: &mut [
 // Rewrites a routine's words into commands.
 #[no_mangle]
 pub extern "C" fn hemdroas_rewrite(
-    layout: &[u32; 8],
+    layout: &[u32; 16],
     words: &[u64],
     commands: &mut [u64],
     answer: &mut [u32; 2],
@@ -86,7 +86,7 @@ pub extern "C" fn hemdroas_rewrite(
 
 // Checks a list of commands.
 #[no_mangle]
-pub extern "C" fn hemdroas_check(layout: &[u32; 8], commands: &[u64], answer: &mut [u32; 2])
+pub extern "C" fn hemdroas_check(layout: &[u32; 16], commands: &[u64], answer: &mut [u32; 2])
     ensures { λ _. ⌜ now (answer .exit) ≡ answerTo (checkAnswer (layoutFrom (now (layout .entry))) (now (commands .entry))) ⌝ }
 {
     *answer = answer_of(checker::check(layout_of(layout), commands));
@@ -106,7 +106,7 @@ pub extern "C" fn hemdroas_word_right(states: u32, word: u32) -> u32
 // Installs a policy.
 #[no_mangle]
 pub extern "C" fn hemdroas_install(
-    layout: &[u32; 8],
+    layout: &[u32; 16],
     states: u32,
     start: u32,
     table: &[u8],
@@ -128,7 +128,7 @@ pub extern "C" fn hemdroas_install(
 // Loads a routine: all that comes before a run, in one call.
 #[no_mangle]
 pub extern "C" fn hemdroas_load(
-    layout: &[u32; 8],
+    layout: &[u32; 16],
     states: u32,
     start: u32,
     table: &[u8],
@@ -161,7 +161,7 @@ pub extern "C" fn hemdroas_load(
 // Runs a record; one that is refused comes back as it was.
 #[no_mangle]
 pub extern "C" fn hemdroas_run(
-    layout: &[u32; 8],
+    layout: &[u32; 16],
     commands: &[u64],
     machine: &mut [u32; 11],
     memory: &mut [u32],
@@ -187,7 +187,7 @@ pub extern "C" fn hemdroas_run(
 // Previews a run: the answer, the log and, in `after`, the record that `hemdroas_run` would leave.
 #[no_mangle]
 pub extern "C" fn hemdroas_preview(
-    layout: &[u32; 8],
+    layout: &[u32; 16],
     commands: &[u64],
     machine: &[u32; 11],
     memory: &[u32],

@@ -10,28 +10,23 @@ use Rattle.rules.specs.declared.Machine.{Machine}
 use Rattle.rules.specs.declared.Status.{Status}
 use Rattle.rules.specs.Names.{registers}
 use Rattle.rules.specs.Machines.{machineOf}
-use Rattle.hosts.specs.Numbers.{statusFrom, machineFrom, machineTo, statusNumber}
+use Rattle.hosts.specs.Numbers.{numbersFrom, statusFrom, machineFrom, machineTo, statusNumber}
 
 -- ---- arrays
 
--- n elements from i on, one by one
-abbrev cells : ℕ → ℕ → List ℕ → List ℕ
-cells zero i xs = []
-cells (suc n) i xs = getD xs i 0 ∷ cells n (suc i) xs
-
-spelt : (n i : ℕ) (xs : List ℕ) → i + n ≤ length xs → take n (drop i xs) ≡ cells n i xs
+spelt : (n i : ℕ) (xs : List ℕ) → i + n ≤ length xs → take n (drop i xs) ≡ numbersFrom n i xs
 spelt zero i xs h = refl
 spelt (suc n) i xs h = ap (take (suc n)) (drop-cons xs i 0 (omega arith)) ∙ ap (λ (r : List ℕ). getD xs i 0 ∷ r) (spelt n (suc i) xs (omega arith))
 
-registers-of : (xs : List ℕ) → registers ≤ length xs → cells registers 0 xs ≡ take registers xs
+registers-of : (xs : List ℕ) → registers ≤ length xs → numbersFrom registers 0 xs ≡ take registers xs
 registers-of xs h = sym (spelt registers 0 xs h)
 
-pub machine-of : (xs : List ℕ) (t : Status) → length xs ≡ registers + 2 → t ≡ statusFrom (getD xs (registers + 1) 0) → machineOf (cells registers 0 xs) (getD xs registers 0) t ≡ machineFrom xs
+pub machine-of : (xs : List ℕ) (t : Status) → length xs ≡ registers + 2 → t ≡ statusFrom (getD xs (registers + 1) 0) → machineOf (numbersFrom registers 0 xs) (getD xs registers 0) t ≡ machineFrom xs
 machine-of xs t h e = rw (registers-of xs (omega arith), e)
 
-pub record-of : (m : Machine) (t : ℕ) → length (m .regs) ≡ registers → t ≡ statusNumber (m .status) → cells registers 0 (m .regs) ++ (m .pc ∷ t ∷ []) ≡ machineTo m
+pub record-of : (m : Machine) (t : ℕ) → length (m .regs) ≡ registers → t ≡ statusNumber (m .status) → numbersFrom registers 0 (m .regs) ++ (m .pc ∷ t ∷ []) ≡ machineTo m
 record-of m t h e =
-    ap (λ (k : ℕ). cells registers 0 (m .regs) ++ (m .pc ∷ k ∷ [])) e
+    ap (λ (k : ℕ). numbersFrom registers 0 (m .regs) ++ (m .pc ∷ k ∷ [])) e
     ∙ ap (λ (r : List ℕ). r ++ (m .pc ∷ statusNumber (m .status) ∷ [])) (registers-of (m .regs) (omega arith) ∙ take-all registers (m .regs) (omega arith))
 
 -- ---- one of two lists, by a test that was made

@@ -1,5 +1,5 @@
 -- The numbers in which a C host holds layouts and records.
-use Prim.Native.Nat.{ℕ, _+_}
+use Prim.Native.Nat.{ℕ, zero, suc, _+_}
 use mathlib.Core.Bool.{cond}
 use mathlib.Core.List.{List, [], _∷_, _++_}
 use lib.ListN.{getD, take}
@@ -10,13 +10,20 @@ use Rattle.rules.specs.declared.Answer.{Answer}
 use Rattle.rules.specs.declared.RunAnswer.{RunAnswer}
 use Rattle.rules.specs.declared.Status.{Status}
 use Rattle.rules.specs.declared.Status.the-variants.{Running, Ended, Stopped, Faulted, Strayed}
-use Rattle.rules.specs.Names.{registers, endingNumber, first}
+use Rattle.rules.specs.Names.{orders, registers, endingNumber, first}
 use Rattle.rules.specs.Layouts.{layoutOf}
 use Rattle.rules.specs.Machines.{machineOf, fits, Ran}
 
--- a layout as U, SL, SH, M, P, S, B, Q
+-- n numbers from place i on
+abbrev pub numbersFrom : ℕ → ℕ → List ℕ → List ℕ
+numbersFrom zero i xs = []
+numbersFrom (suc n) i xs = getD xs i 0 ∷ numbersFrom n (suc i) xs
+
+-- a layout as U, SL, SH, M, P, S, B, Q and the ceilings of events 0 to 7
 unfoldable pub layoutFrom : List ℕ → Layout
-layoutFrom xs = layoutOf (getD xs 0 0) (getD xs 1 0) (getD xs 2 0) (getD xs 3 0) (getD xs 4 0) (getD xs 5 0) (getD xs 6 0) (getD xs 7 0)
+layoutFrom xs =
+    layoutOf (getD xs 0 0) (getD xs 1 0) (getD xs 2 0) (getD xs 3 0) (getD xs 4 0) (getD xs 5 0) (getD xs 6 0) (getD xs 7 0)
+    (numbersFrom orders 8 xs)
 
 -- 0 running, 1 ended, 2 stopped, 3 faulted, 4 strayed; any other number counts as faulted
 abbrev pub statusFrom : ℕ → Status

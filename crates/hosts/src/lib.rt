@@ -10,10 +10,23 @@ ghost use Rattle.rules.specs.Layouts.{rightLayout};
 ghost use Rattle.hosts.specs.Numbers.{layoutFrom, statusFrom, statusNumber, machineFrom, machineTo};
 
 // A layout.
-pub fn layout_of(xs: &[u32; 8]) -> Layout
+pub fn layout_of(xs: &[u32; 16]) -> Layout
     ensures { λ r. ⌜ r ≡ layoutFrom (now (xs .entry)) ⌝ }
 {
-    Layout::new(xs[0], xs[1], xs[2], xs[3], xs[4], xs[5], xs[6], xs[7])
+    let low = xs[1];
+    let base = xs[6];
+    let ceilings = [xs[8], xs[9], xs[10], xs[11], xs[12], xs[13], xs[14], xs[15]];
+    Layout::new(
+        xs[0],
+        low,
+        xs[2],
+        xs[3],
+        xs[4],
+        xs[5],
+        base,
+        xs[7],
+        ceilings,
+    )
 }
 
 // A status; any number above 4 counts as faulted.

@@ -262,17 +262,17 @@ pair-rest l log n e x h i m =
     getD-set-other (set log (2 * n) e) (2 * n + 1) i x 0 (λ z. omega arith) ∙ getD-set-other log (2 * n) i e 0 (λ z. omega arith) ∙ h i (omega arith)
 
 -- one step adds at most one
-step-counts : (l : List ℕ) (p u : ℕ) (rd : List ℕ) (e : Effect) (s : State) → Counted l rd p u s → Room (length (s .log) - 2 * s .pairs) (length rd - s .used) e → Counted l rd (p + 1) (u + 1) (applyOf rd e s)
+step-counts : (caps l : List ℕ) (p u : ℕ) (rd : List ℕ) (e : Effect) (s : State) → Counted l rd p u s → Room (length (s .log) - 2 * s .pairs) (length rd - s .used) e → Counted l rd (p + 1) (u + 1) (applyOf caps rd e s)
 unfolding applyOf
-step-counts l p u rd (Go to) s b r = record { log = b .log; pairs = omega arith; used = omega arith; drawn = b .drawn; room = b .room; rest = b .rest }
-step-counts l p u rd (Put d x) s b r = record { log = b .log; pairs = omega arith; used = omega arith; drawn = b .drawn; room = b .room; rest = b .rest }
-step-counts l p u rd (Cell i x) s b r = record { log = b .log; pairs = omega arith; used = omega arith; drawn = b .drawn; room = b .room; rest = b .rest }
-step-counts l p u rd (Order v) s b r =
+step-counts caps l p u rd (Go to) s b r = record { log = b .log; pairs = omega arith; used = omega arith; drawn = b .drawn; room = b .room; rest = b .rest }
+step-counts caps l p u rd (Put d x) s b r = record { log = b .log; pairs = omega arith; used = omega arith; drawn = b .drawn; room = b .room; rest = b .rest }
+step-counts caps l p u rd (Cell i x) s b r = record { log = b .log; pairs = omega arith; used = omega arith; drawn = b .drawn; room = b .room; rest = b .rest }
+step-counts caps l p u rd (Order v) s b r =
     record { log = simp length-set (b .log); pairs = omega arith; used = omega arith; drawn = b .drawn; room = omega (arith, b .log); rest = pair-rest l (s .log) (s .pairs) v _ (b .rest) }
-step-counts l p u rd (Probe v) s b r =
+step-counts caps l p u rd (Probe v) s b r =
     record { log = simp length-set (b .log); pairs = omega arith; used = omega arith; drawn = omega arith; room = omega (arith, b .log); rest = pair-rest l (s .log) (s .pairs) v _ (b .rest) }
-step-counts l p u rd (End t) s b r = record { log = b .log; pairs = omega arith; used = omega arith; drawn = b .drawn; room = b .room; rest = b .rest }
-step-counts l p u rd (Wait e) s b r = record { log = b .log; pairs = omega arith; used = omega arith; drawn = b .drawn; room = b .room; rest = b .rest }
+step-counts caps l p u rd (End t) s b r = record { log = b .log; pairs = omega arith; used = omega arith; drawn = b .drawn; room = b .room; rest = b .rest }
+step-counts caps l p u rd (Wait e) s b r = record { log = b .log; pairs = omega arith; used = omega arith; drawn = b .drawn; room = b .room; rest = b .rest }
 
 -- a run's counts: at most n steps, pairs and readings; the pairs within a log as long as l, and as l beyond them; the readings within rd
 pub record RunCounts (l rd : List ℕ) (n : ℕ) (r : Ran) : Type 0 where
@@ -307,7 +307,7 @@ from-counts lay ws rd l n (suc m) k s h b =
     over-counts l rd n k (s .status) s _ (omega arith) b
     (wait-counts l rd n k (nextOf lay ws rd s) s _ (omega arith) b
     (from-counts lay ws rd l n m (k + 1) (stepOf lay ws rd s) (omega arith)
-    (step-counts l k k rd (nextOf lay ws rd s) s b (room (fetchOf ws (lay .base) (s .pc)) (seen lay rd s)))))
+    (step-counts (lay .ceilings) l k k rd (nextOf lay ws rd s) s b (room (fetchOf ws (lay .base) (s .pc)) (seen lay rd s)))))
 
 pub run-counts : (lay : Layout) (ws : List ℕ) (m : Machine) (mem : List ℕ) (budget : ℕ) (rd log : List ℕ) → RunCounts log rd budget (runOf lay ws m mem budget rd log)
 unfolding runOf

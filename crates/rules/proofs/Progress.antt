@@ -61,15 +61,15 @@ still (Keep d) v e = cond-ind Still (ltb (v .cell) (length (v .mem))) (λ _. tt)
 still (Event x) v e = no (cc)
 still Stray v e = tt
 
-still-keeps : (rd : List ℕ) (e : Effect) (s : State) → Still e → (applyOf rd e s .log ≡ s .log) × (applyOf rd e s .pairs ≡ s .pairs) × (applyOf rd e s .used ≡ s .used)
+still-keeps : (caps rd : List ℕ) (e : Effect) (s : State) → Still e → (applyOf caps rd e s .log ≡ s .log) × (applyOf caps rd e s .pairs ≡ s .pairs) × (applyOf caps rd e s .used ≡ s .used)
 unfolding applyOf
-still-keeps rd (Go to) s q = (refl, refl, refl)
-still-keeps rd (Put d x) s q = (refl, refl, refl)
-still-keeps rd (Cell i x) s q = (refl, refl, refl)
-still-keeps rd (Order v) s q = absurd q
-still-keeps rd (Probe v) s q = absurd q
-still-keeps rd (End t) s q = (refl, refl, refl)
-still-keeps rd (Wait e) s q = absurd q
+still-keeps caps rd (Go to) s q = (refl, refl, refl)
+still-keeps caps rd (Put d x) s q = (refl, refl, refl)
+still-keeps caps rd (Cell i x) s q = (refl, refl, refl)
+still-keeps caps rd (Order v) s q = absurd q
+still-keeps caps rd (Probe v) s q = absurd q
+still-keeps caps rd (End t) s q = (refl, refl, refl)
+still-keeps caps rd (Wait e) s q = absurd q
 
 -- ---- room for one pair and one reading: no command pauses
 abbrev Room : List ℕ → State → Type 0
@@ -107,7 +107,7 @@ abbrev StandsIn : Layout → State → Type 0
 StandsIn lay s = (positionOf lay (s .pc) ≡ 0) ⊎ (s .status ≡ Running → ⊥)
 
 abbrev Moves : Layout → List ℕ → State → Effect → Type 0
-Moves lay rd s e = Goes e → (applyOf rd e s .pc ≡ onward (s .pc)) ⊎ StandsIn lay (applyOf rd e s)
+Moves lay rd s e = Goes e → (applyOf (lay .ceilings) rd e s .pc ≡ onward (s .pc)) ⊎ StandsIn lay (applyOf (lay .ceilings) rd e s)
 
 -- a jump, taken or not, leads to a first command or on
 jumps : (lay : Layout) (rd : List ℕ) (s : State) (t : Bool) (x v : ℕ) → v ≡ addressOf lay x → Moves lay rd s (Go (cond t v (onward (s .pc))))
@@ -262,7 +262,7 @@ module _ (lay : Layout) (pol : Policy) (ws : List ℕ) (n : ℕ) (is : ℕ → I
   room-on : (s : State) (h p : ℕ) → h < n → p < 3 → s .pc ≡ addressOf lay h + p → Room rd s → Room rd (stepOf lay ws rd s)
   room-on s h p lh lp pc r =
       let e = fetched lay pol ws n is ok bs s h p lh (omega arith) pc in
-      let w = still-keeps rd (nextOf lay ws rd s) s (rw e (still (shapeOf lay n (is h) p) (seen lay rd s) (silent lay n (is h) p lp))) in
+      let w = still-keeps (lay .ceilings) rd (nextOf lay ws rd s) s (rw e (still (shapeOf lay n (is h) p) (seen lay rd s) (silent lay n (is h) p lp))) in
       rw (w .0, w .1, w .2) r
 
   -- from position p of bundle h, with r more commands after this one

@@ -74,7 +74,7 @@ pair-alike log log′ n e x i l h m =
     (λ p. set-alike log log′ (2 * n) i e l (λ q. h i (omega arith)))
 
 -- the same effect keeps two states twins
-apply-alike : (lay : Layout) (rd : List ℕ) (e : Effect) (s : State) (mem log : List ℕ) → Twin lay s (besides s mem log) → Twin lay (applyOf rd e s) (applyOf rd e (besides s mem log))
+apply-alike : (lay : Layout) (rd : List ℕ) (e : Effect) (s : State) (mem log : List ℕ) → Twin lay s (besides s mem log) → Twin lay (applyOf (lay .ceilings) rd e s) (applyOf (lay .ceilings) rd e (besides s mem log))
 unfolding applyOf
 apply-alike lay rd (Go to) s mem log t = record { same = refl; seen = t .seen; size = t .size; long = t .long; logged = t .logged }
 apply-alike lay rd (Put d x) s mem log t = record { same = refl; seen = t .seen; size = t .size; long = t .long; logged = t .logged }
@@ -218,9 +218,9 @@ module _ (lay : Layout) (ws : List ℕ) (In : List ℕ → State → Type 0) (Ou
       (λ h.
       let e = nextOf lay ws rd s in
       let u = apply-alike lay rd e s mem log t in
-      let s₂ = applyOf rd e s in
-      let t₂ = applyOf rd e (besides s mem log) in
-      subst (λ (x : Effect). RanAlike lay (unlessWait e (λ d. endedIn d k s) (runFrom lay ws rd n (k + 1) s₂)) (unlessWait x (λ d. endedIn d k (besides s mem log)) (runFrom lay ws rd n (k + 1) (applyOf rd x (besides s mem log)))))
+      let s₂ = applyOf (lay .ceilings) rd e s in
+      let t₂ = applyOf (lay .ceilings) rd e (besides s mem log) in
+      subst (λ (x : Effect). RanAlike lay (unlessWait e (λ d. endedIn d k s) (runFrom lay ws rd n (k + 1) s₂)) (unlessWait x (λ d. endedIn d k (besides s mem log)) (runFrom lay ws rd n (k + 1) (applyOf (lay .ceilings) rd x (besides s mem log)))))
       (sym (next-alike lay ws rd s mem log t (known .safe rd s w h)))
       (wait-alike lay e _ _ _ _ (λ d. ended-alike lay k s mem log d t)
       (λ q.

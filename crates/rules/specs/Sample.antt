@@ -7,7 +7,7 @@ use lib.ListN.{getD, set, replicate}
 use Rattle.rules.specs.declared.Layout.{Layout}
 use Rattle.rules.specs.declared.Ending.the-variants.{NoArrow, Spent, Refused}
 use Rattle.rules.specs.declared.RunAnswer.{RunAnswer}
-use Rattle.rules.specs.Layouts.{layoutOf}
+use Rattle.rules.specs.Layouts.{layoutOf, noLimits}
 use Rattle.rules.specs.Policies.{Policy, policyOf}
 use Rattle.rules.specs.Words.{packOf, routine}
 use Rattle.rules.specs.Bundles.{commandsOf}
@@ -17,7 +17,7 @@ use Rattle.rules.specs.Runs.{Given, atFirst, afterRun, Run, recordedIn, 
 use Rattle.rules.specs.Claims.{Each, Alike, Same}
 
 abbrev pub layout : Layout
-layout = layoutOf 1024 256 511 0 16 2 4096 64
+layout = layoutOf 1024 256 511 0 16 2 4096 64 noLimits
 
 -- the door's event 2 goes to state 1, which has no arrow for event 0, gas; instructions 3 and 40 are landings
 abbrev pub policy : Policy

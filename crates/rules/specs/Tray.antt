@@ -10,7 +10,7 @@ use Rattle.rules.specs.declared.Answer.{Answer}
 use Rattle.rules.specs.declared.Outcome.{Outcome}
 use Rattle.rules.specs.declared.Status.the-variants.{Running}
 use Rattle.rules.specs.Names.{mostInstructions, bundleLength, registers, events, endingNumber}
-use Rattle.rules.specs.Layouts.{layoutOf, rightLayout, maskOf}
+use Rattle.rules.specs.Layouts.{layoutOf, noLimits, rightLayout, maskOf}
 use Rattle.rules.specs.Policies.{policyOf}
 use Rattle.rules.specs.Words.{packOf, bundlesFor}
 use Rattle.rules.specs.Bytes.{readAnswer, writeOutput}
@@ -41,7 +41,7 @@ answersAs a r place = eqb (a .number) r && eqb (a .place) place
 
 -- U 64, SL 8, SH 15, M 0, P 16, S 1, Q 32 and a base
 abbrev pub smallLayout : ℕ → Layout
-smallLayout b = layoutOf 64 8 15 0 16 1 b 32
+smallLayout b = layoutOf 64 8 15 0 16 1 b 32 noLimits
 
 -- GOX r0, always; then HALTs to seven instructions
 abbrev pub goxRoutine : List ℕ
@@ -76,11 +76,11 @@ rows =
     ∷ masks 256 511 768 256
     ∷ masks 256 511 4294967295 511
     ∷ masks 7 7 0 7
-    ∷ checks (layoutOf 64 6 9 0 16 1 0 32) (1 ∷ 0 ∷ 0 ∷ 0 ∷ []) 7 0
+    ∷ checks (layoutOf 64 6 9 0 16 1 0 32 noLimits) (1 ∷ 0 ∷ 0 ∷ 0 ∷ []) 7 0
     ∷ masks 6 9 9 15
     ∷ rightness (smallLayout 0) true
     ∷ checks (smallLayout 0) (1 ∷ 0 ∷ 0 ∷ 0 ∷ []) 0 0
-    ∷ rightness (layoutOf 64 8 13 0 16 1 0 32) false
+    ∷ rightness (layoutOf 64 8 13 0 16 1 0 32 noLimits) false
     ∷ reaches (smallLayout 32) 3 25 44
     ∷ reaches (smallLayout 32) 11 25 44
     ∷ reaches (smallLayout 32) 0x40000003 25 44

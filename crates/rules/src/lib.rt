@@ -3,7 +3,7 @@ ghost use mathlib.Core.Path.{_≡_};
 ghost use Rattle.rules.specs.Layouts.{layoutOf};
 ghost use Rattle.rules.specs.Machines.{machineAt, machineRefused};
 
-// The layout of one drum's memory: U, SL, SH, M, P, S, B and Q of document 01.
+// The layout of one drum: U, SL, SH, M, P, S, B and Q, and the ceilings of events 0 to 7.
 pub struct Layout {
     pub size: u32,
     pub low: u32,
@@ -13,6 +13,7 @@ pub struct Layout {
     pub states: u32,
     pub base: u32,
     pub landings: u32,
+    pub ceilings: [u32; 8],
 }
 
 impl Layout {
@@ -23,6 +24,8 @@ impl Layout {
     pub const LANDING_CELLS: u32 = 32;
 
     pub const CELL_BITS: u32 = 32;
+    // A ceiling that limits nothing.
+    pub const NO_LIMIT: u32 = 4294967295;
 
     pub fn new(
         size: u32,
@@ -33,8 +36,9 @@ impl Layout {
         states: u32,
         base: u32,
         landings: u32,
+        ceilings: [u32; 8],
     ) -> Layout
-        ensures { λ r. ⌜ r ≡ layoutOf size low high cell table states base landings ⌝ }
+        ensures { λ r. ⌜ r ≡ layoutOf size low high cell table states base landings ceilings ⌝ }
     {
         Layout {
             size,
@@ -45,6 +49,7 @@ impl Layout {
             states,
             base,
             landings,
+            ceilings,
         }
     }
 }

@@ -1,50 +1,61 @@
 -- Each effect applied, in plain variables.
-use Prim.Native.Nat.{ℕ, _+_, _*_}
-use mathlib.Core.Path.{_≡_}
+use Prim.Native.Nat.{ℕ, _+_, _*_, _<_, _≤_}
+use mathlib.Core.Path.{_≡_, sym}
+use native.Mathlib.Omega.{arith}
+use native.Mathlib.Nat.{min-eq-left, min-eq-right}
 use mathlib.Core.List.{List}
 use lib.ListN.{getD, set}
 use Rattle.rules.specs.declared.Status.{Status}
 use Rattle.rules.specs.declared.Ending.{Ending}
 use Rattle.rules.specs.declared.Effect.{Effect}
 use Rattle.rules.specs.declared.Effect.the-variants.{Go, Put, Cell, Order, Probe, End, Wait}
+use Rattle.rules.specs.Layouts.{limited}
 use Rattle.rules.specs.Machines.{onward, applyOf, withPair}
 use Rattle.states.specs.declared.Point.{Point}
 use Rattle.states.specs.Points.{pointOf, stateAt}
 
-module _ (rd regs mem log : List ℕ) (at r : Point) (e : Effect) where
-  pub goes : (to : ℕ) → e ≡ Go to → r ≡ pointOf to (at .status) (at .pairs) (at .used) → stateAt regs r mem log ≡ applyOf rd e (stateAt regs at mem log)
+module _ (caps rd regs mem log : List ℕ) (at r : Point) (e : Effect) where
+  pub goes : (to : ℕ) → e ≡ Go to → r ≡ pointOf to (at .status) (at .pairs) (at .used) → stateAt regs r mem log ≡ applyOf caps rd e (stateAt regs at mem log)
   unfolding applyOf
   goes to p q = rw (p, q)
 
   pub puts : (d x : ℕ) (regs′ : List ℕ) → e ≡ Put d x → regs′ ≡ set regs d x → r ≡ pointOf (onward (at .pc)) (at .status) (at .pairs) (at .used)
-      → stateAt regs′ r mem log ≡ applyOf rd e (stateAt regs at mem log)
+      → stateAt regs′ r mem log ≡ applyOf caps rd e (stateAt regs at mem log)
   unfolding applyOf
   puts d x regs′ p s q = rw (p, q, s)
 
   pub stores : (i x : ℕ) (mem′ : List ℕ) → e ≡ Cell i x → mem′ ≡ set mem i x → r ≡ pointOf (onward (at .pc)) (at .status) (at .pairs) (at .used)
-      → stateAt regs r mem′ log ≡ applyOf rd e (stateAt regs at mem log)
+      → stateAt regs r mem′ log ≡ applyOf caps rd e (stateAt regs at mem log)
   unfolding applyOf
   stores i x mem′ p s q = rw (p, q, s)
 
-  pub orders : (v : ℕ) (log′ : List ℕ) → e ≡ Order v → log′ ≡ withPair log (at .pairs) v (getD regs 0 0)
-      → r ≡ pointOf (onward (at .pc)) (at .status) (at .pairs + 1) (at .used) → stateAt regs r mem log′ ≡ applyOf rd e (stateAt regs at mem log)
+  pub orders : (v : ℕ) (log′ : List ℕ) → e ≡ Order v → log′ ≡ withPair log (at .pairs) v (limited caps v (getD regs 0 0))
+      → r ≡ pointOf (onward (at .pc)) (at .status) (at .pairs + 1) (at .used) → stateAt regs r mem log′ ≡ applyOf caps rd e (stateAt regs at mem log)
   unfolding applyOf
   orders v log′ p s q = rw (p, q, s)
 
   pub probes : (v : ℕ) (regs′ log′ : List ℕ) → e ≡ Probe v
       → (regs′ ≡ set regs 0 (getD rd (at .used) 0)) × (log′ ≡ withPair log (at .pairs) v (getD rd (at .used) 0))
-      → r ≡ pointOf (onward (at .pc)) (at .status) (at .pairs + 1) (at .used + 1) → stateAt regs′ r mem log′ ≡ applyOf rd e (stateAt regs at mem log)
+      → r ≡ pointOf (onward (at .pc)) (at .status) (at .pairs + 1) (at .used + 1) → stateAt regs′ r mem log′ ≡ applyOf caps rd e (stateAt regs at mem log)
   unfolding applyOf
   probes v regs′ log′ p s q = rw (p, q, s .0, s .1)
 
-  pub ends : (t : Status) → e ≡ End t → r ≡ pointOf (at .pc) t (at .pairs) (at .used) → stateAt regs r mem log ≡ applyOf rd e (stateAt regs at mem log)
+  pub ends : (t : Status) → e ≡ End t → r ≡ pointOf (at .pc) t (at .pairs) (at .used) → stateAt regs r mem log ≡ applyOf caps rd e (stateAt regs at mem log)
   unfolding applyOf
   ends t p q = rw (p, q)
 
-pub waits : (rd regs mem log : List ℕ) (at : Point) (e : Effect) (t : Ending) → e ≡ Wait t → stateAt regs at mem log ≡ applyOf rd e (stateAt regs at mem log)
+pub waits : (caps rd regs mem log : List ℕ) (at : Point) (e : Effect) (t : Ending) → e ≡ Wait t → stateAt regs at mem log ≡ applyOf caps rd e (stateAt regs at mem log)
 unfolding applyOf
-waits rd regs mem log at e t p = rw p
+waits caps rd regs mem log at e t p = rw p
 
 -- a pair set cell by cell
 pub paired : (log log₁ log₂ : List ℕ) (n v x : ℕ) → log₁ ≡ set log (2 * n) v → log₂ ≡ set log₁ (2 * n + 1) x → log₂ ≡ withPair log n v x
 paired log log₁ log₂ n v x p q = rw (q, p)
+
+-- the smaller of a value and its ceiling
+module _ (caps : List ℕ) (v x most : ℕ) (e : most ≡ getD caps v 0) where
+  pub below : x < most → x ≡ limited caps v x
+  below h = rw (← e) (sym (min-eq-left (omega arith)))
+
+  pub above : most ≤ x → most ≡ limited caps v x
+  above h = rw (← e) (sym (min-eq-right h))

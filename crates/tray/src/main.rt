@@ -105,7 +105,8 @@ fn rewrites_to_7(name: &[u8], layout: Layout, words: &[u64]) {
 }
 
 fn drum(base: u32) -> Layout {
-    Layout::new(1024, 256, 511, 0, 16, 2, base, 64)
+    let ceilings = [Layout::NO_LIMIT; 8];
+    Layout::new(1024, 256, 511, 0, 16, 2, base, 64, ceilings)
 }
 
 fn bad_words(layout: Layout) {
@@ -130,11 +131,9 @@ fn lists(layout: Layout) {
 }
 
 fn layouts() {
-    rewrites(
-        b"rewrite sandbox_6_to_9",
-        Layout::new(64, 6, 9, 0, 16, 1, 0, 32),
-        &[0xd],
-    );
+    let ceilings = [Layout::NO_LIMIT; 8];
+    let unaligned = Layout::new(64, 6, 9, 0, 16, 1, 0, 32, ceilings);
+    rewrites(b"rewrite sandbox_6_to_9", unaligned, &[0xd]);
     rewrites(b"rewrite base_16_of_7", drum(16), &[0, 0, 0, 0, 0, 0, 0]);
     rewrites(b"rewrite base_32_of_7", drum(32), &[0, 0, 0, 0, 0, 0, 0]);
     rewrites_to_7(b"rewrite base_before_room", drum(4), &[0]);

@@ -67,7 +67,8 @@ fn all_landings() -> [u32; 1024] {
 }
 
 fn try_routine(bytes: &[u8]) {
-    let layout = Layout::new(1024, 256, 511, 0, 16, 2, 4096, 64);
+    let ceilings = [Layout::NO_LIMIT; 8];
+    let layout = Layout::new(1024, 256, 511, 0, 16, 2, 4096, 64, ceilings);
     // State 0 stays but for event 2, the door; in state 1 event 0, gas, has no arrow.
     let table = [
         0u8,
