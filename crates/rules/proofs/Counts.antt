@@ -14,8 +14,7 @@ use Rattle.rules.specs.declared.Fields.{Fields}
 use Rattle.rules.specs.declared.Answer.{Answer}
 use Rattle.rules.specs.declared.One.{One}
 use Rattle.rules.specs.declared.One.the-variants.{Word, Bad}
-use Rattle.rules.specs.declared.Status.{Status}
-use Rattle.rules.specs.declared.Status.the-variants.{Running, Ended, Stopped, Faulted, Strayed}
+use Rattle.rules.specs.declared.Ending.{Ending}
 use Rattle.rules.specs.declared.Effect.{Effect}
 use Rattle.rules.specs.declared.Effect.the-variants.{Go, Put, Cell, Order, Probe, End, Wait}
 use Rattle.rules.specs.declared.Command.{Command}
@@ -28,11 +27,12 @@ use Rattle.rules.specs.Policies.{Policy, rightPolicy}
 use Rattle.rules.specs.Landings.{rightLandings}
 use Rattle.rules.specs.Commands.{fetchOf, holdsOf}
 use Rattle.rules.specs.Bundles.{baseRight, commandsOf, commandCount, placeAnswer, rewriteAnswer, countRight, passesAt, checkFrom, checkAnswer}
-use Rattle.rules.specs.Machines.{ifRoom, View, State, Ran, fits, installAnswer, regAt, entryOf, landsAt, effectOf, withPair, applyOf, seen, nextOf, stepOf, endingOf, endedIn, unlessOver, unlessWait, runFrom, startOf, runOf}
+use Rattle.rules.specs.Machines.{ifRoom, View, State, Ran, fits, installAnswer, regAt, entryOf, landsAt, effectOf, withPair, applyOf, seen, nextOf, stepOf, endingOf, endedIn, runFrom, startOf, runOf}
 use Rattle.rules.specs.Loading.{loadAnswer}
 use Rattle.rules.proofs.Bools.{cond-ind, unless-ind, both}
 use Rattle.rules.proofs.Refusals.{taken-then}
 use Rattle.rules.proofs.Bytes.{bit-le, length-fields, length-routine}
+use Rattle.rules.proofs.Endings.{run-ind}
 use Rattle.rules.proofs.Masks.{sizes}
 use Rattle.rules.proofs.Conditions.{length-bundles}
 
@@ -284,30 +284,16 @@ pub record RunCounts (l rd : List ℕ) (n : ℕ) (r : Ran) : Type 0 where
   pub log : length (r .log) ≡ length l
   pub rest : (i : ℕ) → 2 * r .outcome .answer .pairs ≤ i → getD (r .log) i 0 ≡ getD l i 0
 
-over-counts : (l rd : List ℕ) (n k : ℕ) (t : Status) (s : State) (r : Ran) → k ≤ n → Counted l rd k k s → RunCounts l rd n r → RunCounts l rd n (unlessOver t (endedIn (endingOf (s .status)) k s) r)
-over-counts l rd n k Running s r h b q = q
-over-counts l rd n k Ended s r h b q = record { steps = h; pairs = omega arith; used = omega arith; drawn = b .drawn; room = b .room; log = b .log; rest = b .rest }
-over-counts l rd n k Stopped s r h b q = record { steps = h; pairs = omega arith; used = omega arith; drawn = b .drawn; room = b .room; log = b .log; rest = b .rest }
-over-counts l rd n k Faulted s r h b q = record { steps = h; pairs = omega arith; used = omega arith; drawn = b .drawn; room = b .room; log = b .log; rest = b .rest }
-over-counts l rd n k Strayed s r h b q = record { steps = h; pairs = omega arith; used = omega arith; drawn = b .drawn; room = b .room; log = b .log; rest = b .rest }
-
-wait-counts : (l rd : List ℕ) (n k : ℕ) (e : Effect) (s : State) (r : Ran) → k ≤ n → Counted l rd k k s → RunCounts l rd n r → RunCounts l rd n (unlessWait e (λ d. endedIn d k s) r)
-wait-counts l rd n k (Wait e) s r h b q = record { steps = h; pairs = omega arith; used = omega arith; drawn = b .drawn; room = b .room; log = b .log; rest = b .rest }
-wait-counts l rd n k (Go to) s r h b q = q
-wait-counts l rd n k (Put d x) s r h b q = q
-wait-counts l rd n k (Cell i x) s r h b q = q
-wait-counts l rd n k (Order v) s r h b q = q
-wait-counts l rd n k (Probe v) s r h b q = q
-wait-counts l rd n k (End t) s r h b q = q
+ended-counts : (l rd : List ℕ) (n k : ℕ) (s : State) (e : Ending) → k ≤ n → Counted l rd k k s → RunCounts l rd n (endedIn e k s)
+ended-counts l rd n k s e h b = record { steps = h; pairs = omega arith; used = omega arith; drawn = b .drawn; room = b .room; log = b .log; rest = b .rest }
 
 from-counts : (lay : Layout) (ws rd l : List ℕ) (n m k : ℕ) (s : State) → k + m ≤ n → Counted l rd k k s → RunCounts l rd n (runFrom lay ws rd m k s)
 unfolding runFrom
-from-counts lay ws rd l n zero k s h b = record { steps = omega arith; pairs = omega arith; used = omega arith; drawn = b .drawn; room = b .room; log = b .log; rest = b .rest }
+from-counts lay ws rd l n zero k s h b = ended-counts l rd n k s (endingOf (s .status)) (omega arith) b
 from-counts lay ws rd l n (suc m) k s h b =
-    over-counts l rd n k (s .status) s _ (omega arith) b
-    (wait-counts l rd n k (nextOf lay ws rd s) s _ (omega arith) b
-    (from-counts lay ws rd l n m (k + 1) (stepOf lay ws rd s) (omega arith)
-    (step-counts (lay .ceilings) l k k rd (nextOf lay ws rd s) s b (room (fetchOf ws (lay .base) (s .pc)) (seen lay rd s)))))
+    run-ind lay ws rd m k s (RunCounts l rd n) (λ _. ended-counts l rd n k s _ (omega arith) b) (λ _ w _. ended-counts l rd n k s w (omega arith) b)
+    (λ _ _. from-counts lay ws rd l n m (k + 1) (stepOf lay ws rd s) (omega arith)
+    (step-counts (lay .ceilings) l k k rd (nextOf lay ws rd s) s b (room (fetchOf ws (lay .base) (s .pc)) (seen lay rd s))))
 
 pub run-counts : (lay : Layout) (ws : List ℕ) (m : Machine) (mem : List ℕ) (budget : ℕ) (rd log : List ℕ) → RunCounts log rd budget (runOf lay ws m mem budget rd log)
 unfolding runOf

@@ -16,7 +16,6 @@ use Rattle.rules.specs.declared.Command.{Command}
 use Rattle.rules.specs.declared.Command.the-variants.{Nop, Halt, Plain, Load, Store, GoIf, GoReg, Look, StopIf, Keep, Event, Stray}
 use Rattle.rules.specs.declared.Status.{Status}
 use Rattle.rules.specs.declared.Status.the-variants.{Running, Ended, Stopped, Faulted, Strayed}
-use Rattle.rules.specs.declared.Ending.{Ending}
 use Rattle.rules.specs.declared.Ending.the-variants.{LogFull, Silent}
 use Rattle.rules.specs.declared.Effect.{Effect}
 use Rattle.rules.specs.declared.Effect.the-variants.{Go, Put, Cell, Order, Probe, End, Wait}
@@ -24,7 +23,7 @@ use Rattle.rules.specs.Names.{orders, noArrow, bundleLength, hidden}
 use Rattle.rules.specs.Policies.{Policy}
 use Rattle.rules.specs.Commands.{fetchOf, holdsOf}
 use Rattle.rules.specs.Bundles.{addressOf, positionOf, shapeOf, bundleAt}
-use Rattle.rules.specs.Machines.{State, Ran, View, regAt, ifCell, landsAt, ifLanding, ifRoom, entryOf, onward, effectOf, applyOf, seen, nextOf, stepOf, unlessWait, runFrom, startOf, runOf, fits, installMemory}
+use Rattle.rules.specs.Machines.{State, Ran, View, regAt, ifCell, landsAt, ifLanding, ifRoom, entryOf, onward, effectOf, applyOf, seen, nextOf, stepOf, runFrom, startOf, runOf, fits, installMemory}
 use Rattle.rules.specs.Guests.{Pair, Guest, rOf, guestStart}
 use Rattle.rules.specs.Runs.{begins, begunFrom, runOn, afterTaken, afterRun, after, eventIn}
 use Rattle.rules.specs.Claims.{Stands, Progress}
@@ -33,6 +32,7 @@ use Rattle.rules.proofs.Bools.{no, cond-ind}
 use Rattle.rules.proofs.Conditions.{bundled-of, right-of, layout-of}
 use Rattle.rules.proofs.Sim.{Mid, start, rest, load1, load2, store1, store2, gox1, gox2, gox3, event1, event2, event3, Sim, over, live, Known}
 use Rattle.rules.proofs.Track.{first-yes, first-no, silent, fetched, tracks, step-known, enter}
+use Rattle.rules.proofs.Endings.{Goes, goes, over-ind, wait-ind, run-ind}
 use Rattle.rules.proofs.Isolation.{stays}
 
 -- ---- effects that neither pause nor record
@@ -75,32 +75,8 @@ still-keeps caps rd (Wait e) s q = absurd q
 abbrev Room : List ℕ → State → Type 0
 Room rd s = (2 * s .pairs + 1 < length (s .log)) × (s .used < length rd)
 
-abbrev Goes : Effect → Type 0
-Goes e = (w : Ending) → e ≡ Wait w → ⊥
-
-still-goes : (e : Effect) → Still e → Goes e
-still-goes e q w z = subst Still z q
-
-goes : (lay : Layout) (rd : List ℕ) (c : Command) (s : State) → Room rd s → Goes (effectOf c (seen lay rd s))
-goes lay rd Nop s r = still-goes _ (still Nop _ refl)
-goes lay rd Halt s r = still-goes _ (still Halt _ refl)
-goes lay rd (Plain k d a b x) s r = still-goes _ (still (Plain k d a b x) _ refl)
-goes lay rd (Load d a) s r = still-goes _ (still (Load d a) _ refl)
-goes lay rd (Store a b) s r = still-goes _ (still (Store a b) _ refl)
-goes lay rd (GoIf a b c x) s r = still-goes _ (still (GoIf a b c x) _ refl)
-goes lay rd (GoReg d a b c) s r = still-goes _ (still (GoReg d a b c) _ refl)
-goes lay rd (Look d x) s r = still-goes _ (still (Look d x) _ refl)
-goes lay rd (StopIf d) s r = still-goes _ (still (StopIf d) _ refl)
-goes lay rd (Keep d) s r = still-goes _ (still (Keep d) _ refl)
-goes lay rd (Event x) s r = event (ltb x orders) refl
-  where
-    event : (t : Bool) → ltb x orders ≡ t → Goes (effectOf (Event x) (seen lay rd s))
-    event t e w z = absurd (clash t (unfold effectOf in rw (le-ltb (length (s .log) - 2 * s .pairs) 2 (omega (arith, r .0)), e, ne-eqb (length rd - s .used) 0 (λ u. omega (arith, r .1))) at z))
-      where
-        clash : (t : Bool) → cond t (Order x) (Probe x) ≡ Wait w → ⊥
-        clash true h = no (cc)
-        clash false h = no (cc)
-goes lay rd Stray s r = still-goes _ (still Stray _ refl)
+goes-in : (lay : Layout) (rd : List ℕ) (c : Command) (s : State) → Room rd s → Goes (effectOf c (seen lay rd s))
+goes-in lay rd c s r = goes c (seen lay rd s) (omega (arith, r .0)) (omega (arith, r .1))
 
 -- ---- where an effect leads: to the next address, or to a place of comparison
 abbrev StandsIn : Layout → State → Type 0
@@ -180,23 +156,16 @@ module _ (lay : Layout) (rd : List ℕ) (s : State) where
   mid-moves pol n g h k b i p (event3 {e = x} at bk q some) = moves-event x
 
 -- ---- one step of a run
-unwaiting : {A : Type 0} (e : Effect) (f : Ending → A) (x : A) → Goes e → unlessWait e f x ≡ x
-unwaiting (Go to) f x h = refl
-unwaiting (Put d v) f x h = refl
-unwaiting (Cell i v) f x h = refl
-unwaiting (Order v) f x h = refl
-unwaiting (Probe v) f x h = refl
-unwaiting (End t) f x h = refl
-unwaiting (Wait e) f x h = absurd (h e refl)
-
 module _ (lay : Layout) (ws rd : List ℕ) (s : State) (run : s .status ≡ Running) (go : Goes (nextOf lay ws rd s)) where
   run-step : (j k : ℕ) → runFrom lay ws rd (suc j) k s ≡ runFrom lay ws rd j (k + 1) (stepOf lay ws rd s)
-  unfolding runFrom
-  run-step j k = rw run (unwaiting (nextOf lay ws rd s) _ _ go)
+  run-step j k =
+      run-ind lay ws rd j k s (λ (r : Ran). r ≡ runFrom lay ws rd j (k + 1) (stepOf lay ws rd s)) (λ f. absurd (f run)) (λ _ w z. absurd (go w z)) (λ _ _. refl)
 
   begun-step : (j b : ℕ) → begunFrom lay ws rd (suc j) b s ≡ begunFrom lay ws rd j (b + begins lay (s .pc)) (stepOf lay ws rd s)
   unfolding begunFrom
-  begun-step j b = rw run (unwaiting (nextOf lay ws rd s) _ _ go)
+  begun-step j b =
+      let to = begunFrom lay ws rd j (b + begins lay (s .pc)) (stepOf lay ws rd s) in
+      over-ind (λ (x : ℕ). x ≡ to) (s .status) (λ f. absurd (f run)) (λ _. wait-ind (λ (x : ℕ). x ≡ to) (nextOf lay ws rd s) (λ w z. absurd (go w z)) (λ _. refl))
 
 -- a run of at most so many steps that ends at a place of comparison
 record Came (lay : Layout) (ws rd : List ℕ) (most k b b₂ : ℕ) (s : State) : Type 0 where
@@ -268,12 +237,12 @@ module _ (lay : Layout) (pol : Policy) (ws : List ℕ) (n : ℕ) (is : ℕ → I
   -- from position p of bundle h, with r more commands after this one
   reach : (r p h k b b₂ : ℕ) (s : State) → p + suc r ≡ bundleLength → h < n → b + begins lay (s .pc) ≡ b₂ → Known lay pol n is past u0 rd g0 b s → s .status ≡ Running → s .pc ≡ addressOf lay h + p → Room rd s → Came lay ws rd (suc r) k b b₂ s
   reach zero p h k b b₂ s e lh z w run pc room =
-      let go = goes lay rd (fetchOf ws (lay .base) (s .pc)) s room in
+      let go = goes-in lay rd (fetchOf ws (lay .base) (s .pc)) s room in
       let t = tracks lay pol ws n is ok bs past u0 rd g0 b s w in
       came-then lay ws rd 0 k b b₂ b₂ s run go z
       (came-now lay ws rd 0 (k + 1) b₂ (stepOf lay ws rd s) (⊎-elim (λ y. inl (goes-next (lay .base) n h p (s .pc) _ (ok .room) lh e pc y)) (λ y. y) (sim-moves s _ (t .0) b run (t .1 .sim) go)))
   reach (suc r) p h k b b₂ s e lh z w run pc room =
-      let go = goes lay rd (fetchOf ws (lay .base) (s .pc)) s room in
+      let go = goes-in lay rd (fetchOf ws (lay .base) (s .pc)) s room in
       let t = tracks lay pol ws n is ok bs past u0 rd g0 b s w in
       let lp = more-left r p e in
       let now : StandsIn lay (stepOf lay ws rd s) → Came lay ws rd (suc r) (k + 1) b₂ b₂ (stepOf lay ws rd s) = λ y. came-now lay ws rd (suc r) (k + 1) b₂ (stepOf lay ws rd s) y in
