@@ -2,12 +2,14 @@
 use packing::fields;
 use refusals::TOP_KIND;
 use refusals::judge;
+use rules::Answer;
 use rules::Refusal;
 ghost use mathlib.Core.Path.{_≡_};
 ghost use mathlib.Core.Bool.{true};
 ghost use Prim.Native.Nat.{_≤_};
+ghost use lib.ListN.{length};
 ghost use Rattle.rules.specs.Names.{topKind};
-ghost use Rattle.rules.specs.Words.{guestLimits, judgeWord, judgeAt};
+ghost use Rattle.rules.specs.Words.{guestLimits, judgeWord, judgeAt, firstRefused};
 ghost use Rattle.guests.specs.Strays.{strayBits};
 
 // The kind with a landing.
@@ -69,4 +71,20 @@ pub fn judge_at(n: usize, w: u64) -> u8
         return Refusal::BAD_LANDING;
     }
     Refusal::TAKEN
+}
+
+// The first refusal among the words, or what is answered where there is none.
+pub fn judge_all(words: &[u64], taken: Answer) -> Answer
+    ensures { λ r. ⌜ r ≡ firstRefused (judgeAt (length (now (words .entry)))) (now (words .entry)) 0 taken ⌝ }
+{
+    let n = words.len();
+    let mut i: usize = 0;
+    while i < n {
+        let number = judge_at(n, words[i]);
+        if number != 0 {
+            return Answer { number, place: i };
+        }
+        i += 1;
+    }
+    taken
 }

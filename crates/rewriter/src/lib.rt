@@ -10,7 +10,7 @@ use rules::Refusal;
 use words::count::base_right;
 use words::count::bundles;
 use words::guest::instruction;
-use words::guest::judge_at;
+use words::guest::judge_all;
 use words::layout::right;
 ghost use mathlib.Core.Path.{_≡_};
 ghost use mathlib.Core.List.{[], _∷_};
@@ -18,25 +18,9 @@ ghost use Prim.Native.Nat.{_+_, _*_, _≤_, _<_};
 ghost use lib.ListN.{length};
 ghost use lib.Seq.{sets};
 ghost use Rattle.rules.specs.Names.{mostInstructions, bundleLength};
-ghost use Rattle.rules.specs.Words.{judgeAt, firstRefused, routine};
+ghost use Rattle.rules.specs.Words.{routine};
 ghost use Rattle.rules.specs.Bundles.{bundleOf, bundlesFrom, placeAnswer, rewriteAnswer, rewriteOutput};
 ghost use Rattle.rewriter.specs.Rewriting.{Ready};
-
-// The first refusal among the words, or what is answered where there is none.
-fn judge_all(words: &[u64], taken: Answer) -> Answer
-    ensures { λ r. ⌜ r ≡ firstRefused (judgeAt (length (now (words .entry)))) (now (words .entry)) 0 taken ⌝ }
-{
-    let n = words.len();
-    let mut i: usize = 0;
-    while i < n {
-        let number = judge_at(n, words[i]);
-        if number != 0 {
-            return Answer { number, place: i };
-        }
-        i += 1;
-    }
-    taken
-}
 
 // The answer for n words that are right: the base, then the room for their commands.
 fn place(layout: Layout, n: usize, room: usize) -> Answer

@@ -1,4 +1,5 @@
 // The words of a guest's instructions: their fields, their first refusal, the instruction that they stand for.
+pub use guests::judge_all;
 pub use guests::judge_at;
 pub use guests::judge_word;
 pub use instructions::instruction;
