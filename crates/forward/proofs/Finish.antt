@@ -1,0 +1,172 @@
+-- It goes on, and it finishes.
+use mathlib.Core.Path.{_≡_, refl, sym, _∙_, ap}
+use mathlib.Core.Bool.{Bool, true, false, _&&_, cond}
+use mathlib.Core.Logic.{_⊎_, inl, inr, ⊎-elim}
+use mathlib.Core.List.{List, [], _∷_}
+use Prim.Native.Nat.{ℕ, zero, suc, _/_, _≤_}
+use native.Mathlib.Omega.{arith}
+use borrow.Author.Tests.{eq-eqb, le-leb, leb-true}
+use lib.Dec.{leb}
+use lib.ListN.{length}
+use Rattle.rules.specs.declared.Layout.{Layout}
+use Rattle.rules.specs.declared.Status.{Status}
+use Rattle.rules.specs.declared.Status.the-variants.{Running, Ended, Stopped, Faulted, Strayed}
+use Rattle.rules.specs.declared.Ending.{Ending}
+use Rattle.rules.specs.declared.Ending.the-variants.{Done, NoArrow, Fault, LogFull, Silent, Spent, NoLanding, Refused}
+use Rattle.rules.specs.Names.{bundleLength}
+use Rattle.rules.specs.Layouts.{rightLayout}
+use Rattle.rules.specs.Policies.{Policy}
+use Rattle.rules.specs.Commands.{fetchOf}
+use Rattle.rules.specs.Bundles.{bundleAt}
+use Rattle.rules.specs.Machines.{State, Ran, seen, runFrom, startOf, runOf, fits, installMemory}
+use Rattle.rules.specs.Guests.{Guest, guestStart}
+use Rattle.rules.specs.Runs.{Given, Carried, atFirst, runOn, afterTaken, afterRun, afterRuns, runAs, runsOf, after, Served}
+use Rattle.rules.specs.Claims.{Every}
+use Rattle.rules.proofs.Bools.{no, both, cond-ind}
+use Rattle.rules.proofs.Endings.{goes}
+use Rattle.rules.proofs.Conditions.{bundled-of, right-of, layout-of}
+use Rattle.rules.proofs.Sim.{Sim, over, live}
+use Rattle.rules.proofs.Track.{tracks}
+use Rattle.rules.proofs.Isolation.{stays}
+use Rattle.forward.specs.Forward.{checkForwardAnswer}
+use Rattle.forward.specs.Claims.{stepsIn, Resumed, GoesOn, Over, paidFor, paidBy, paidIn, Finishes, FinishesIn}
+use Rattle.forward.proofs.Runs.{pauses, steps-some, ran-before, all-spent, no-budget, not-refused}
+use Rattle.forward.proofs.Bound.{ahead-all}
+
+-- ---- one run that is not refused
+module _ (lay : Layout) (ws : List ℕ) (c : Carried) (g : Given) (fit : fits lay (g .memory) ≡ true) where
+  abbrev begin : State
+  begin = startOf (c .machine) (g .memory) (g .log)
+
+  taken : runOn lay ws c g ≡ runFrom lay ws (g .readings) (g .budget) 0 begin
+  unfolding runOn runOf
+  taken = rw fit
+
+  left : afterRun lay ws c g .machine ≡ runFrom lay ws (g .readings) (g .budget) 0 begin .outcome .machine
+  unfolding afterRun afterTaken runOn runOf
+  left = rw fit
+
+  -- it takes a step with a free pair and a reading
+  one-step : c .machine .status ≡ Running → 2 ≤ length (g .log) → 1 ≤ length (g .readings) → 1 ≤ g .budget → 1 ≤ runOn lay ws c g .outcome .answer .steps
+  one-step run ll lr b =
+      let go = goes (fetchOf ws (lay .base) (c .machine .pc)) (seen lay (g .readings) begin) (omega arith) (omega arith) in
+      rw taken (omega (arith, steps-some lay ws (g .readings) (g .budget) 0 begin b run go))
+
+  begun : runOn lay ws c g .outcome .answer .ending ≡ Refused → ⊥
+  begun e = not-refused lay ws (g .readings) (g .budget) 0 begin (rw taken at e)
+
+  module _ (run : afterRun lay ws c g .machine .status ≡ Running) where
+    -- one that leaves the machine running found it running
+    before : c .machine .status ≡ Running
+    before = ran-before lay ws (g .readings) (g .budget) 0 begin (rw left at run)
+
+    some-budget : (b : ℕ) → g .budget ≡ b → pauses (runOn lay ws c g .outcome .answer .ending) ≡ true → 1 ≤ b
+    some-budget zero z p =
+        no (sym (ap pauses (ap (λ (r : Ran). r .outcome .answer .ending) taken ∙ ap (λ (j : ℕ). runFrom lay ws (g .readings) j 0 begin .outcome .answer .ending) z) ∙ no-budget lay ws (g .readings) 0 begin) ∙ p)
+    some-budget (suc b) z p = omega arith
+
+    -- and took the steps that it pays for
+    paused : pauses (runOn lay ws c g .outcome .answer .ending) ≡ true → cond (leb 2 (length (g .log)) && leb 1 (length (g .readings))) 1 0 ≤ runOn lay ws c g .outcome .answer .steps
+    paused p =
+        cond-ind (λ (x : ℕ). x ≤ runOn lay ws c g .outcome .answer .steps) (leb 2 (length (g .log)) && leb 1 (length (g .readings)))
+        (λ t. let w = both _ _ t in one-step before (leb-true _ _ (w .0)) (leb-true _ _ (w .1)) (some-budget (g .budget) refl p)) (λ _. omega arith)
+
+    spent : pauses (runOn lay ws c g .outcome .answer .ending) ≡ false → g .budget ≤ runOn lay ws c g .outcome .answer .steps
+    spent p = rw taken (omega (arith, all-spent lay ws (g .readings) (g .budget) 0 begin (rw left at run) (rw taken at p)))
+
+    paid : (e : Ending) → runOn lay ws c g .outcome .answer .ending ≡ e → paidFor e g ≤ runOn lay ws c g .outcome .answer .steps
+    paid Refused e = omega arith
+    paid LogFull e = paused (ap pauses e)
+    paid Silent e = paused (ap pauses e)
+    paid Spent e = spent (ap pauses e)
+    paid Done e = spent (ap pauses e)
+    paid NoArrow e = spent (ap pauses e)
+    paid Fault e = spent (ap pauses e)
+    paid NoLanding e = spent (ap pauses e)
+
+-- ---- any run, and a list of runs that leaves the machine running
+module _ (lay : Layout) (ws : List ℕ) where
+  was-running : (c : Carried) (g : Given) (t : Bool) → fits lay (g .memory) ≡ t → afterRun lay ws c g .machine .status ≡ Running → c .machine .status ≡ Running
+  unfolding afterRun
+  was-running c g true t e = before lay ws c g t e
+  was-running c g false t e = rw t at e
+
+  took : (c : Carried) (g : Given) (t : Bool) → fits lay (g .memory) ≡ t → afterRun lay ws c g .machine .status ≡ Running → paidBy (runAs lay ws c g) ≤ runOn lay ws c g .outcome .answer .steps
+  unfolding runOn runOf
+  took c g true t e = paid lay ws c g t e _ refl
+  took c g false t e = rw t (omega arith)
+
+  ran-all : (c : Carried) (gs : List Given) → afterRuns lay ws c gs .machine .status ≡ Running → c .machine .status ≡ Running
+  unfolding afterRuns
+  ran-all c [] e = e
+  ran-all c (g ∷ gs) e = was-running c g _ refl (ran-all (afterRun lay ws c g) gs e)
+
+  took-all : (c : Carried) (gs : List Given) → afterRuns lay ws c gs .machine .status ≡ Running → paidIn (runsOf lay ws c gs) ≤ stepsIn (runsOf lay ws c gs)
+  unfolding afterRuns runsOf
+  took-all c [] e = omega arith
+  took-all c (g ∷ gs) e =
+      let x = took c g _ refl (ran-all (afterRun lay ws c g) gs e) in
+      let y = took-all (afterRun lay ws c g) gs e in
+      omega arith
+
+fit-of : (lay : Layout) (g : Given) → rightLayout lay ≡ true → Resumed lay g → fits lay (g .memory) ≡ true
+fit-of lay g right ok = rw (right, eq-eqb _ _ (ok .memory))
+
+-- ---- on the premise a machine runs, has ended or stopped: no passed list faults, and none of the class wants a landing
+pub going-or-over : (lay : Layout) (pol : Policy) (ws mem : List ℕ) (gs : List Given) → checkForwardAnswer lay ws .number ≡ 0 → Served lay pol ws mem gs → (after lay pol ws mem gs .machine .status ≡ Running) ⊎ Over (after lay pol ws mem gs .machine)
+going-or-over lay pol ws mem gs f v =
+    let n = length ws / bundleLength in
+    let is = bundleAt lay ws in
+    let ok = right-of lay pol ws mem (v .passed) (v .installed) in
+    let bs = bundled-of lay ws (v .passed) in
+    let c = after lay pol ws mem gs in
+    by c _ _ _ (ahead-all lay pol ws mem gs f v .lands) (tracks lay pol ws n is ok bs (c .records) (c .used) [] (guestStart lay pol (installMemory lay pol mem)) (c .begun) (startOf (c .machine) (c .memory) []) (stays lay pol ws mem gs n is ok bs v) .1 .sim)
+  where
+    status : (t : Status) → (t ≡ Strayed → ⊥) → (t ≡ Faulted → ⊥) → (t ≡ Running) ⊎ ((t ≡ Ended) ⊎ (t ≡ Stopped))
+    status Running l f = inl refl
+    status Ended l f = inr (inl refl)
+    status Stopped l f = inr (inr refl)
+    status Faulted l f = absurd (f refl)
+    status Strayed l f = absurd (l refl)
+
+    by : (c : Carried) (g : Guest) (k b : ℕ) → (c .machine .status ≡ Strayed → ⊥) → Sim lay pol (length ws / bundleLength) (bundleAt lay ws) g k b (startOf (c .machine) (c .memory) []) → (c .machine .status ≡ Running) ⊎ Over (c .machine)
+    by c g k b l (over f st h p lh lp pc ev q bk) = status (c .machine .status) l (λ e. f .1 (sym st ∙ e))
+    by c g k b l (live gg st h p lh lp pc m) = inl st
+
+pub goes-on : GoesOn
+goes-on lay pol ws mem gs v run g ok b =
+    one-step lay ws (after lay pol ws mem gs) g (fit-of lay g (layout-of lay ws (v .passed)) ok) run (ok .log) (ok .readings) b
+
+pub finishes : Finishes
+finishes lay pol ws mem gs f v p =
+    ⊎-elim
+    (λ run.
+    let t = took-all lay ws (atFirst lay pol mem) gs run in
+    let o = ahead-all lay pol ws mem gs f v .on run in
+    absurd (omega (arith, o .0, o .1)))
+    (λ x. x)
+    (going-or-over lay pol ws mem gs f v)
+
+-- ---- by the count of runs
+paid-some : (lay : Layout) (g : Given) → Resumed lay g → 1 ≤ g .budget → (e : Ending) → (e ≡ Refused → ⊥) → 1 ≤ paidFor e g
+paid-some lay g ok b Refused f = absurd (f refl)
+paid-some lay g ok b LogFull f = rw (le-leb _ _ (ok .log), le-leb _ _ (ok .readings)) (omega arith)
+paid-some lay g ok b Silent f = rw (le-leb _ _ (ok .log), le-leb _ _ (ok .readings)) (omega arith)
+paid-some lay g ok b Spent f = b
+paid-some lay g ok b Done f = b
+paid-some lay g ok b NoArrow f = b
+paid-some lay g ok b Fault f = b
+paid-some lay g ok b NoLanding f = b
+
+paid-each : (lay : Layout) (ws : List ℕ) → rightLayout lay ≡ true → (c : Carried) (gs : List Given) → Every (Resumed lay) gs → Every (λ (g : Given). 1 ≤ g .budget) gs → length gs ≤ paidIn (runsOf lay ws c gs)
+unfolding runsOf
+paid-each lay ws right c [] ok b = omega arith
+paid-each lay ws right c (g ∷ gs) ok b =
+    let x = paid-some lay g (ok .0) (b .0) _ (begun lay ws c g (fit-of lay g right (ok .0))) in
+    let y = paid-each lay ws right (afterRun lay ws c g) gs (ok .1) (b .1) in
+    omega arith
+
+pub finishes-in : FinishesIn
+finishes-in lay pol ws mem gs f v ok b l =
+    let p = paid-each lay ws (layout-of lay ws (v .passed)) (atFirst lay pol mem) gs ok b in
+    finishes lay pol ws mem gs f v (omega arith)

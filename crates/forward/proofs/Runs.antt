@@ -1,0 +1,88 @@
+-- What holds of each run, whatever the commands: its steps, and when it pauses.
+use mathlib.Core.Path.{_≡_, refl, sym, _∙_, ap, subst}
+use mathlib.Core.Bool.{Bool, true, false}
+use mathlib.Core.Logic.{⊎-elim}
+use mathlib.Core.List.{List}
+use Prim.Native.Nat.{ℕ, zero, suc, _+_, _≤_}
+use native.Mathlib.Omega.{arith}
+use Rattle.rules.specs.declared.Layout.{Layout}
+use Rattle.rules.specs.declared.Status.{Status}
+use Rattle.rules.specs.declared.Status.the-variants.{Running, Ended, Stopped, Faulted, Strayed}
+use Rattle.rules.specs.declared.Ending.{Ending}
+use Rattle.rules.specs.declared.Ending.the-variants.{Done, NoArrow, Fault, LogFull, Silent, Spent, NoLanding, Refused}
+use Rattle.rules.specs.declared.Effect.the-variants.{Wait}
+use Rattle.rules.specs.Commands.{fetchOf}
+use Rattle.rules.specs.Machines.{State, Ran, seen, nextOf, stepOf, endingOf, runFrom}
+use Rattle.rules.proofs.Bools.{no}
+use Rattle.rules.proofs.Endings.{Pauses, pauses as pauses-only, Goes, run-ind}
+
+-- 23 and 24
+abbrev pub pauses : Ending → Bool
+pauses Done = false
+pauses NoArrow = false
+pauses Fault = false
+pauses LogFull = true
+pauses Silent = true
+pauses Spent = false
+pauses NoLanding = false
+pauses Refused = false
+
+-- an ending without a pause, and no refusal
+pub ending-plain : (t : Status) → (pauses (endingOf t) ≡ false) × (endingOf t ≡ Refused → ⊥)
+ending-plain Running = (refl, λ e. no (cc))
+ending-plain Ended = (refl, λ e. no (cc))
+ending-plain Stopped = (refl, λ e. no (cc))
+ending-plain Faulted = (refl, λ e. no (cc))
+ending-plain Strayed = (refl, λ e. no (cc))
+
+-- ---- steps
+module _ (lay : Layout) (ws rd : List ℕ) where
+  -- a run counts on from k
+  pub steps-more : (j k : ℕ) (s : State) → k ≤ runFrom lay ws rd j k s .outcome .answer .steps
+  unfolding runFrom
+  steps-more zero k s = omega arith
+  steps-more (suc j) k s =
+      run-ind lay ws rd j k s (λ (r : Ran). k ≤ r .outcome .answer .steps) (λ _. omega arith) (λ _ w z. omega arith)
+      (λ _ _. omega (arith, steps-more j (k + 1) (stepOf lay ws rd s)))
+
+  -- one that can take a step does
+  pub steps-some : (j k : ℕ) (s : State) → 1 ≤ j → s .status ≡ Running → Goes (nextOf lay ws rd s) → k + 1 ≤ runFrom lay ws rd j k s .outcome .answer .steps
+  steps-some zero k s l run go = absurd (omega arith)
+  steps-some (suc j) k s l run go =
+      run-ind lay ws rd j k s (λ (r : Ran). k + 1 ≤ r .outcome .answer .steps) (λ f. absurd (f run)) (λ _ w z. absurd (go w z))
+      (λ _ _. steps-more j (k + 1) (stepOf lay ws rd s))
+
+  -- one that leaves the machine running found it running
+  pub ran-before : (j k : ℕ) (s : State) → runFrom lay ws rd j k s .outcome .machine .status ≡ Running → s .status ≡ Running
+  unfolding runFrom
+  ran-before zero k s = λ e. e
+  ran-before (suc j) k s =
+      run-ind lay ws rd j k s (λ (r : Ran). r .outcome .machine .status ≡ Running → s .status ≡ Running) (λ f e. e) (λ r w z e. r) (λ r g e. r)
+
+  waits-only : (s : State) (w : Ending) → nextOf lay ws rd s ≡ Wait w → pauses w ≡ true
+  waits-only s w z =
+      ⊎-elim (λ x. ap pauses (x .0)) (λ x. ap pauses (x .0)) (subst (Pauses (seen lay rd s)) z (pauses-only (fetchOf ws (lay .base) (s .pc)) (seen lay rd s)))
+
+  -- and, unless it pauses, used up its budget
+  pub all-spent : (j k : ℕ) (s : State) → runFrom lay ws rd j k s .outcome .machine .status ≡ Running → pauses (runFrom lay ws rd j k s .outcome .answer .ending) ≡ false
+      → k + j ≤ runFrom lay ws rd j k s .outcome .answer .steps
+  unfolding runFrom
+  all-spent zero k s = λ e f. omega arith
+  all-spent (suc j) k s =
+      run-ind lay ws rd j k s (λ (r : Ran). r .outcome .machine .status ≡ Running → pauses (r .outcome .answer .ending) ≡ false → k + suc j ≤ r .outcome .answer .steps)
+      (λ f e. absurd (f e))
+      (λ r w z e p. no (sym p ∙ waits-only s w z))
+      (λ r g e p. omega (arith, all-spent j (k + 1) (stepOf lay ws rd s) e p))
+
+  -- without a budget no run pauses
+  pub no-budget : (k : ℕ) (s : State) → pauses (runFrom lay ws rd 0 k s .outcome .answer .ending) ≡ false
+  unfolding runFrom
+  no-budget k s = ending-plain (s .status) .0
+
+  -- what has begun is not refused
+  pub not-refused : (j k : ℕ) (s : State) → runFrom lay ws rd j k s .outcome .answer .ending ≡ Refused → ⊥
+  unfolding runFrom
+  not-refused zero k s = ending-plain (s .status) .1
+  not-refused (suc j) k s =
+      run-ind lay ws rd j k s (λ (r : Ran). r .outcome .answer .ending ≡ Refused → ⊥) (λ _. ending-plain (s .status) .1)
+      (λ _ w z e. no (sym (ap pauses e) ∙ waits-only s w z)) (λ _ _. not-refused j (k + 1) (stepOf lay ws rd s))

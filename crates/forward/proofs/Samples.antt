@@ -1,0 +1,39 @@
+-- The samples, by computation.
+use mathlib.Core.Path.{_≡_, refl}
+use lib.Count.{ones, leadingZeros}
+use lib.Dec.{lit≤}
+use Rattle.rules.specs.Layouts.{rightLayout}
+use Rattle.rules.specs.Policies.{rightPolicy}
+use Rattle.rules.specs.Landings.{rightLandings, landingsOf}
+use Rattle.rules.specs.Words.{judgeOf, judgeAt, firstRefused, instrOf, routine, bundlesFor}
+use Rattle.rules.specs.Commands.{isCommand, commandOf, wordOf, fetchOf, plainOf}
+use Rattle.rules.specs.Bundles.{shapeOf, valid, readOff, bundleAt, isBundle, shapedAt, passesAt, checkFrom, checkAnswer}
+use Rattle.rules.specs.Machines.{installAnswer, installMemory, installMachine, effectOf, applyOf, runFrom, runOf}
+use Rattle.rules.specs.Runs.{runOn, afterTaken, afterRun, runsOf, Served}
+use Rattle.forward.specs.Forward.{forwardAt, forwardFrom, forwardAnswer, checkForwardAnswer}
+use Rattle.forward.specs.Sample.{layout, policy, commands, memory, runs, Answers, Reaches}
+
+pub answers : Answers
+unfolding ones leadingZeros rightLayout judgeOf judgeAt firstRefused instrOf routine bundlesFor wordOf shapeOf valid readOff bundleAt isBundle shapedAt passesAt checkFrom checkAnswer forwardAt forwardFrom forwardAnswer checkForwardAnswer
+answers =
+    record { none = refl; end = refl; self = refl; back = refl; unreached = refl; indirect = refl; last = refl; grade = refl; long = refl; list = refl; listSelf = refl; listLowest = refl; listLayout = refl; listCount = refl; listBase = refl; listShape = refl }
+
+passed : checkAnswer layout commands .number ≡ 0
+unfolding ones leadingZeros rightLayout instrOf routine bundlesFor wordOf shapeOf valid readOff bundleAt isBundle shapedAt passesAt checkFrom checkAnswer
+passed = refl
+
+served : Served layout policy commands memory runs
+unfolding ones rightLayout rightPolicy rightLandings installAnswer
+served = record { passed = passed; installed = refl; lends = (λ l i s. refl, (λ l i s. refl, tt)) }
+
+pub reaches : Reaches
+unfolding ones leadingZeros rightLayout rightPolicy rightLandings landingsOf judgeOf judgeAt firstRefused instrOf routine bundlesFor wordOf shapeOf isCommand commandOf fetchOf plainOf installAnswer installMemory installMachine effectOf applyOf runFrom runOf runOn afterTaken afterRun runsOf forwardAt forwardFrom forwardAnswer
+reaches =
+    record {
+      forward = refl;
+      served = served;
+      resumed = (record { memory = refl; log = lit≤ tt; readings = lit≤ tt }, (record { memory = refl; log = lit≤ tt; readings = lit≤ tt }, tt));
+      paid = lit≤ tt;
+      answers = refl;
+      reached = refl;
+    }

@@ -1,0 +1,130 @@
+-- Laws of the code, one for each way out of it.
+use mathlib.Core.Path.{_≡_, refl, sym, _∙_, ap}
+use mathlib.Core.Bool.{Bool, true, false, not}
+use mathlib.Core.List.{List}
+use Prim.Native.Nat.{ℕ, suc, _+_, _-_, _*_, _/_, _<_, _≤_}
+use native.Mathlib.Omega.{arith}
+use borrow.Author.Tests.{eq-eqb, ne-eqb, lt-ltb, le-ltb, eqb-true}
+use lib.Dec.{eqb, ltb}
+use lib.ListN.{length, getD}
+use Rattle.rules.specs.declared.Layout.{Layout}
+use Rattle.rules.specs.declared.Answer.{Answer}
+use Rattle.rules.specs.declared.Instr.{Instr}
+use Rattle.rules.specs.declared.Instr.the-variants.{GOIF}
+use Rattle.rules.specs.declared.Refusal.the-variants.{Taken, Oversize, NotForward}
+use Rattle.rules.specs.Names.{mostInstructions, bundleLength, numberOf, answer, refusal}
+use Rattle.rules.specs.Words.{kindOf, vOf, judgeAt, firstRefused, instrOf, routine}
+use Rattle.rules.specs.Bundles.{readOff, bundleAt, checkAnswer}
+use Rattle.rules.proofs.Bools.{cond-ind}
+use Rattle.forward.specs.Forward.{forwardAt, forwardFrom, forwardAnswer, checkForwardAnswer, forwardWord}
+
+-- a jump, by its instruction
+pub jump-at : (h a b c v : ℕ) (i : Instr) → i ≡ GOIF a b c v → ltb h v ≡ forwardAt h i
+unfolding forwardAt
+jump-at h a b c v i e = rw e
+
+-- ---- the instructions in order
+module _ (is : ℕ → Instr) (n h : ℕ) (a : Answer) (ea : a ≡ forwardFrom is h (n - h)) where
+  module _ (lt : h < n) (p : Bool) (ep : p ≡ forwardAt h (is h)) where
+    left : n - h ≡ suc (n - (h + 1))
+    left = omega arith
+
+    scan-more : p ≡ true → a ≡ forwardFrom is (h + 1) (n - (h + 1))
+    unfolding forwardFrom
+    scan-more e = ea ∙ rw (left, ← ep, e)
+
+    scan-stop : p ≡ false → refusal NotForward h ≡ a
+    unfolding forwardFrom
+    scan-stop e = sym (ea ∙ rw (left, ← ep, e))
+
+  scan-done : n ≤ h → answer (numberOf Taken) 0 ≡ a
+  unfolding forwardFrom
+  scan-done l = let none : n - h ≡ 0 = omega arith in sym (ea ∙ rw none)
+
+-- ---- guest words
+module _ (ws : List ℕ) (h : ℕ) (a : Answer) (ea : a ≡ forwardFrom (routine ws) h (length ws - h)) where
+  module _ (lt : h < length ws) (w : ℕ) (ew : w ≡ getD ws h 0) (i : Instr) (ei : i ≡ instrOf w) (p : Bool) (ep : p ≡ forwardAt h i) where
+    is-forward : p ≡ forwardAt h (routine ws h)
+    unfolding routine
+    is-forward = ep ∙ ap (forwardAt h) (ei ∙ ap instrOf ew)
+
+    pub word-more : p ≡ true → a ≡ forwardFrom (routine ws) (h + 1) (length ws - (h + 1))
+    word-more = scan-more (routine ws) (length ws) h a ea lt p is-forward
+
+    pub word-stop : p ≡ false → refusal NotForward h ≡ a
+    word-stop = scan-stop (routine ws) (length ws) h a ea lt p is-forward
+
+  pub word-done : length ws ≤ h → answer (numberOf Taken) 0 ≡ a
+  word-done = scan-done (routine ws) (length ws) h a ea
+
+-- ---- bundles, by their first words
+module _ (lay : Layout) (h w y z : ℕ) where
+  abbrev Read : Type 0
+  Read = forwardWord lay h w ≡ forwardAt h (readOff lay w y z)
+
+  module _ (e1 : eqb (kindOf w) 1 ≡ false) (e9 : eqb (kindOf w) 9 ≡ false) where
+    read-far : (s t u : Bool) → eqb (kindOf w) 14 ≡ s → eqb (kindOf w) 11 ≡ t → eqb (kindOf w) 16 ≡ u → Read
+    unfolding forwardWord readOff forwardAt
+    read-far true t u e14 e11 e16 = rw (e1, e9, e14)
+    read-far false true u e14 e11 e16 = rw (e1, e9, e14, e11)
+    read-far false false true e14 e11 e16 = rw (e1, e9, e14, e11, e16)
+    read-far false false false e14 e11 e16 = rw (e1, e9, e14, e11, e16)
+
+  read-near : (s t : Bool) → eqb (kindOf w) 1 ≡ s → eqb (kindOf w) 9 ≡ t → Read
+  unfolding forwardWord readOff forwardAt
+  read-near true t e1 e9 = let q : kindOf w ≡ 1 = eqb-true _ _ e1 in rw q
+  read-near false true e1 e9 =
+      let q : kindOf w ≡ 9 = eqb-true _ _ e9 in
+      rw q (sym (cond-ind (λ (i : Instr). forwardAt h i ≡ true) (eqb (kindOf y) 12) (λ _. refl) (λ _. refl)))
+  read-near false false e1 e9 = read-far e1 e9 _ _ _ refl refl refl
+
+  read-is : Read
+  read-is = read-near _ _ refl refl
+
+-- a first word that is no GOIF, a GOIF to below the base, and one to an address from there on
+module _ (lay : Layout) (h w : ℕ) where
+  pub word-other : (kindOf w ≡ 14 → ⊥) → not (eqb (kindOf w) 11) ≡ forwardWord lay h w
+  unfolding forwardWord
+  word-other f = rw (ne-eqb (kindOf w) 14 f)
+
+  pub word-below : kindOf w ≡ 14 → vOf w < lay .base → false ≡ forwardWord lay h w
+  unfolding forwardWord
+  word-below e l = let z : (vOf w - lay .base) / bundleLength ≡ 0 = omega arith in rw (e, z) (sym (le-ltb h 0 (omega arith)))
+
+  pub word-jump : kindOf w ≡ 14 → ltb h ((vOf w - lay .base) / bundleLength) ≡ forwardWord lay h w
+  unfolding forwardWord
+  word-jump e = rw e
+
+module _ (lay : Layout) (ws : List ℕ) (h : ℕ) (a : Answer) (ea : a ≡ forwardFrom (bundleAt lay ws) h (length ws / bundleLength - h)) where
+  module _ (lt : h < length ws / bundleLength) (w : ℕ) (ew : w ≡ getD ws (bundleLength * h) 0) (p : Bool) (ep : p ≡ forwardWord lay h w) where
+    bundle-forward : p ≡ forwardAt h (bundleAt lay ws h)
+    unfolding bundleAt
+    bundle-forward = ep ∙ ap (forwardWord lay h) ew ∙ read-is lay h _ _ _
+
+    pub bundle-more : p ≡ true → a ≡ forwardFrom (bundleAt lay ws) (h + 1) (length ws / bundleLength - (h + 1))
+    bundle-more = scan-more (bundleAt lay ws) (length ws / bundleLength) h a ea lt p bundle-forward
+
+    pub bundle-stop : p ≡ false → refusal NotForward h ≡ a
+    bundle-stop = scan-stop (bundleAt lay ws) (length ws / bundleLength) h a ea lt p bundle-forward
+
+  pub bundle-done : length ws / bundleLength ≤ h → answer (numberOf Taken) 0 ≡ a
+  bundle-done = scan-done (bundleAt lay ws) (length ws / bundleLength) h a ea
+
+-- ---- the whole
+module _ (ws : List ℕ) where
+  pub oversize : mostInstructions < length ws → refusal Oversize 0 ≡ forwardAnswer ws
+  unfolding forwardAnswer
+  oversize h = rw (lt-ltb _ _ h)
+
+  pub judged : length ws ≤ mostInstructions → (z a : Answer) → z ≡ forwardFrom (routine ws) 0 (length ws) → a ≡ firstRefused (judgeAt (length ws)) ws 0 z → a ≡ forwardAnswer ws
+  unfolding forwardAnswer
+  judged h z a ez ea = ea ∙ rw (ez, le-ltb mostInstructions (length ws) h)
+
+module _ (lay : Layout) (ws : List ℕ) (a : Answer) (ea : a ≡ checkAnswer lay ws) where
+  pub check-refused : (a .number ≡ 0 → ⊥) → a ≡ checkForwardAnswer lay ws
+  unfolding checkForwardAnswer
+  check-refused f = rw (← ea) (rw (ne-eqb (a .number) 0 f))
+
+  pub check-passed : a .number ≡ 0 → (b : Answer) → b ≡ forwardFrom (bundleAt lay ws) 0 (length ws / bundleLength) → b ≡ checkForwardAnswer lay ws
+  unfolding checkForwardAnswer
+  check-passed z b eb = rw (← ea) (rw (eq-eqb (a .number) 0 z) eb)

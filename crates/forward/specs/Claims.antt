@@ -1,0 +1,138 @@
+-- What is claimed of the class. Each claim is a type; its proof has the claim's name in small letters, in proofs/.
+use Prim.Native.Nat.{ℕ, _+_, _-_, _*_, _/_, _≤_}
+use mathlib.Core.Path.{_≡_}
+use mathlib.Core.Bool.{_&&_, cond}
+use mathlib.Core.Logic.{_⊎_}
+use mathlib.Core.List.{List, [], _∷_, _++_}
+use lib.ListN.{length}
+use lib.Dec.{leb}
+use Rattle.rules.specs.declared.Layout.{Layout}
+use Rattle.rules.specs.declared.Machine.{Machine}
+use Rattle.rules.specs.declared.Status.the-variants.{Running, Ended, Stopped}
+use Rattle.rules.specs.declared.Ending.{Ending}
+use Rattle.rules.specs.declared.Ending.the-variants.{Done, NoArrow, Fault, LogFull, Silent, Spent, NoLanding, Refused}
+use Rattle.rules.specs.Names.{bundleLength, answer}
+use Rattle.rules.specs.Policies.{Policy}
+use Rattle.rules.specs.Words.{bundlesFor}
+use Rattle.rules.specs.Bundles.{commandsOf, rewriteAnswer}
+use Rattle.rules.specs.Runs.{Given, Run, runOn, allRuns, after, Served}
+use Rattle.rules.specs.Claims.{Every}
+use Rattle.forward.specs.Forward.{forwardAnswer, checkForwardAnswer}
+
+-- ---- the two checks agree
+
+-- words that the rewriter takes under a layout, and the commands that it writes of them: one answer, 18 and its place included
+abbrev pub ChecksAgree : Type 0
+ChecksAgree =
+    (lay : Layout) (code : List ℕ) (room : ℕ) → rewriteAnswer lay code room .number ≡ 0 → checkForwardAnswer lay (commandsOf lay code) ≡ forwardAnswer code
+
+-- so words of the class are rewritten to a list of the class
+abbrev pub ForwardWritten : Type 0
+ForwardWritten =
+    (lay : Layout) (code : List ℕ) (room : ℕ) → rewriteAnswer lay code room .number ≡ 0 → forwardAnswer code .number ≡ 0 →
+    checkForwardAnswer lay (commandsOf lay code) ≡ answer 0 0
+
+-- and a list of the class is that of words of the class
+pub record WrittenOf (lay : Layout) (ws : List ℕ) : Type 0 where
+  pub code : List ℕ
+  pub takes : rewriteAnswer lay code (length ws) ≡ answer 0 (length ws)
+  pub forward : forwardAnswer code ≡ answer 0 0
+  pub same : commandsOf lay code ≡ ws
+
+abbrev pub ForwardRead : Type 0
+ForwardRead = (lay : Layout) (ws : List ℕ) → checkForwardAnswer lay ws .number ≡ 0 → WrittenOf lay ws
+
+-- ---- how far it goes
+
+-- '4 × (N − 1) + 1'
+abbrev pub mostSteps : ℕ → ℕ
+mostSteps N = bundleLength * (N - 1) + 1
+
+-- the 'counted steps over all its runs'; a refused run answers 0
+abbrev pub stepsIn : List Run → ℕ
+stepsIn [] = 0
+stepsIn (r ∷ rs) = r .ran .outcome .answer .steps + stepsIn rs
+
+-- a list of the class, on demand 3's premise, whatever budgets, logs and readings the runs have
+abbrev pub Bounded : Type 0
+Bounded =
+    (lay : Layout) (pol : Policy) (ws mem : List ℕ) (gs : List Given) → checkForwardAnswer lay ws .number ≡ 0 → Served lay pol ws mem gs →
+    stepsIn (allRuns lay pol ws mem gs) ≤ mostSteps (length ws / bundleLength)
+
+-- ---- that it goes on
+
+-- 'each pause is resumed with a free pair and a reading', and with a memory that is not refused
+pub record Resumed (lay : Layout) (g : Given) : Type 0 where
+  pub memory : length (g .memory) ≡ lay .size
+  pub log : 2 ≤ length (g .log)
+  pub readings : 1 ≤ length (g .readings)
+
+-- a machine that still runs takes a step, if it is so resumed and has a budget
+abbrev pub GoesOn : Type 0
+GoesOn =
+    (lay : Layout) (pol : Policy) (ws mem : List ℕ) (gs : List Given) → Served lay pol ws mem gs →
+    let c = after lay pol ws mem gs in
+    c .machine .status ≡ Running → (g : Given) → Resumed lay g → 1 ≤ g .budget → 1 ≤ runOn lay ws c g .outcome .answer .steps
+
+-- ---- that it finishes
+
+-- 'ends or stops'
+abbrev pub Over : Machine → Type 0
+Over m = (m .status ≡ Ended) ⊎ (m .status ≡ Stopped)
+
+-- the steps of which a run is sure, by its answer: a refused run takes none; one that pauses, 23 or 24, takes one at least
+-- if it began with 'a free pair and a reading'; any other uses up its budget, if the machine is still running after it
+abbrev pub paidFor : Ending → Given → ℕ
+paidFor Refused g = 0
+paidFor LogFull g = cond (leb 2 (length (g .log)) && leb 1 (length (g .readings))) 1 0
+paidFor Silent g = cond (leb 2 (length (g .log)) && leb 1 (length (g .readings))) 1 0
+paidFor Spent g = g .budget
+paidFor Done g = g .budget
+paidFor NoArrow g = g .budget
+paidFor Fault g = g .budget
+paidFor NoLanding g = g .budget
+
+abbrev pub paidBy : Run → ℕ
+paidBy r = paidFor (r .ran .outcome .answer .ending) (r .given)
+
+abbrev pub paidIn : List Run → ℕ
+paidIn [] = 0
+paidIn (r ∷ rs) = paidBy r + paidIn rs
+
+-- a list of the class, after runs whose 'budgets suffice': they pay for 4 × (N − 1) + 1 steps, each pause that is resumed for one
+abbrev pub Finishes : Type 0
+Finishes =
+    (lay : Layout) (pol : Policy) (ws mem : List ℕ) (gs : List Given) → checkForwardAnswer lay ws .number ≡ 0 → Served lay pol ws mem gs →
+    mostSteps (length ws / bundleLength) ≤ paidIn (allRuns lay pol ws mem gs) → Over (after lay pol ws mem gs .machine)
+
+-- the same by the count of runs, each resumed and with a budget of at least 1: however small the budgets and however often it pauses
+abbrev pub FinishesIn : Type 0
+FinishesIn =
+    (lay : Layout) (pol : Policy) (ws mem : List ℕ) (gs : List Given) → checkForwardAnswer lay ws .number ≡ 0 → Served lay pol ws mem gs →
+    Every (Resumed lay) gs → Every (λ (g : Given). 1 ≤ g .budget) gs → mostSteps (length ws / bundleLength) ≤ length gs →
+    Over (after lay pol ws mem gs .machine)
+
+-- budget for every step that can be left, and log and readings for an event in each bundle but the last
+pub record AmpleFor (lay : Layout) (N : ℕ) (g : Given) : Type 0 where
+  pub memory : length (g .memory) ≡ lay .size
+  pub budget : mostSteps N ≤ g .budget
+  pub log : 2 * (N - 1) ≤ length (g .log)
+  pub readings : N - 1 ≤ length (g .readings)
+
+-- the same by one run, after any others: it does not pause
+abbrev pub FinishesAtOnce : Type 0
+FinishesAtOnce =
+    (lay : Layout) (pol : Policy) (ws mem : List ℕ) (gs : List Given) (g : Given) → checkForwardAnswer lay ws .number ≡ 0 →
+    Served lay pol ws mem (gs ++ (g ∷ [])) → AmpleFor lay (length ws / bundleLength) g → Over (after lay pol ws mem (gs ++ (g ∷ [])) .machine)
+
+-- 'A rewritten routine of this class ends or stops within 4 × (N − 1) + 1 counted steps over all its runs, provided that demand 3's premise
+-- holds, each pause is resumed with a free pair and a reading and the budgets suffice'
+pub record Finished (lay : Layout) (pol : Policy) (code mem : List ℕ) (gs : List Given) : Type 0 where
+  pub over : Over (after lay pol (commandsOf lay code) mem gs .machine)
+  pub within : stepsIn (allRuns lay pol (commandsOf lay code) mem gs) ≤ mostSteps (bundlesFor (length code))
+
+abbrev pub AlwaysFinish : Type 0
+AlwaysFinish =
+    (lay : Layout) (pol : Policy) (code mem : List ℕ) (room : ℕ) (gs : List Given) →
+    rewriteAnswer lay code room .number ≡ 0 → forwardAnswer code .number ≡ 0 → Served lay pol (commandsOf lay code) mem gs →
+    mostSteps (bundlesFor (length code)) ≤ paidIn (allRuns lay pol (commandsOf lay code) mem gs) → Finished lay pol code mem gs

@@ -1,0 +1,87 @@
+-- Samples: answers of the two checks, and a routine on the claims' premises that pauses once and reaches the bound.
+use Prim.Native.Nat.{ℕ, _≤_}
+use mathlib.Core.Path.{_≡_}
+use mathlib.Core.List.{List, [], _∷_, map}
+use lib.ListN.{set, replicate}
+use Rattle.rules.specs.declared.Layout.{Layout}
+use Rattle.rules.specs.declared.Ending.the-variants.{Done, LogFull}
+use Rattle.rules.specs.Names.{answer}
+use Rattle.rules.specs.Layouts.{layoutOf}
+use Rattle.rules.specs.Policies.{Policy, policyOf}
+use Rattle.rules.specs.Words.{packOf}
+use Rattle.rules.specs.Bundles.{commandsOf}
+use Rattle.rules.specs.Machines.{installMemory, runAnswer}
+use Rattle.rules.specs.Runs.{Given, atFirst, afterRun, Run, Served, allRuns}
+use Rattle.rules.specs.Claims.{Every}
+use Rattle.forward.specs.Forward.{forwardAnswer, checkForwardAnswer}
+use Rattle.forward.specs.Claims.{mostSteps, stepsIn, Resumed, paidIn}
+
+-- SET r0, 70; always to instruction v; GOX on r0; order v
+abbrev pub plain : ℕ
+plain = packOf 1 0 0 0 0 70
+
+abbrev pub goto : ℕ → ℕ
+goto v = packOf 10 0 0 0 0 v
+
+abbrev pub gox : ℕ
+gox = packOf 11 0 0 0 0 0
+
+abbrev pub order : ℕ → ℕ
+order v = packOf 12 0 0 0 0 v
+
+abbrev pub layout : Layout
+layout = layoutOf 64 8 15 0 16 1 16 32
+
+-- words: none; a jump to n; to itself; back; back, where nothing leads; GOX; and what comes before 18, at higher places
+-- lists: of words of the class; a jump to its own bundle; the lowest of two; and what comes before 18
+pub record Answers : Type 0 where
+  pub none : forwardAnswer [] ≡ answer 0 0
+  pub end : forwardAnswer (goto 1 ∷ []) ≡ answer 0 0
+  pub self : forwardAnswer (plain ∷ goto 1 ∷ []) ≡ answer 18 1
+  pub back : forwardAnswer (plain ∷ plain ∷ goto 1 ∷ goto 4 ∷ gox ∷ []) ≡ answer 18 2
+  pub unreached : forwardAnswer (goto 2 ∷ goto 0 ∷ plain ∷ []) ≡ answer 18 1
+  pub indirect : forwardAnswer (goto 2 ∷ gox ∷ []) ≡ answer 18 1
+  pub last : forwardAnswer (gox ∷ plain ∷ goto 4 ∷ []) ≡ answer 8 2
+  pub grade : forwardAnswer (gox ∷ plain ∷ order 16 ∷ []) ≡ answer 4 2
+  pub long : forwardAnswer (replicate 1024 gox) ≡ answer 5 0
+  pub list : checkForwardAnswer layout (commandsOf layout (plain ∷ goto 2 ∷ [])) ≡ answer 0 0
+  pub listSelf : checkForwardAnswer layout (commandsOf layout (plain ∷ goto 1 ∷ [])) ≡ answer 18 1
+  pub listLowest : checkForwardAnswer layout (commandsOf layout (plain ∷ gox ∷ goto 1 ∷ [])) ≡ answer 18 1
+  pub listLayout : checkForwardAnswer (layoutOf 64 8 15 0 16 1 16 33) (commandsOf layout (gox ∷ [])) ≡ answer 7 0
+  pub listCount : checkForwardAnswer layout (gox ∷ []) ≡ answer 12 0
+  pub listBase : checkForwardAnswer layout (commandsOf layout (gox ∷ plain ∷ plain ∷ plain ∷ [])) ≡ answer 13 0
+  pub listShape : checkForwardAnswer layout (set (commandsOf layout (gox ∷ [])) 7 1) ≡ answer 11 1
+
+-- two orders and a SET: N is 4
+abbrev pub code : List ℕ
+code = order 0 ∷ order 2 ∷ plain ∷ []
+
+abbrev pub commands : List ℕ
+commands = commandsOf layout code
+
+abbrev pub policy : Policy
+policy = policyOf 1 0 (replicate 16 0) []
+
+abbrev pub memory : List ℕ
+memory = replicate 64 0
+
+-- a log of one pair, one reading
+abbrev pub given : List ℕ → Given
+given mem = record { memory = mem; budget = 100; readings = 1800 ∷ []; log = 0 ∷ 0 ∷ [] }
+
+abbrev pub firstRun : Given
+firstRun = given (installMemory layout policy memory)
+
+abbrev pub secondRun : Given
+secondRun = given (afterRun layout commands (atFirst layout policy memory) firstRun .memory)
+
+abbrev pub runs : List Given
+runs = firstRun ∷ secondRun ∷ []
+
+pub record Reaches : Type 0 where
+  pub forward : forwardAnswer code ≡ answer 0 0
+  pub served : Served layout policy commands memory runs
+  pub resumed : Every (Resumed layout) runs
+  pub paid : mostSteps 4 ≤ paidIn (allRuns layout policy commands memory runs)
+  pub answers : map (λ (r : Run). r .ran .outcome .answer) (allRuns layout policy commands memory runs) ≡ runAnswer LogFull 7 1 0 ∷ runAnswer Done 6 1 0 ∷ []
+  pub reached : stepsIn (allRuns layout policy commands memory runs) ≡ mostSteps 4
