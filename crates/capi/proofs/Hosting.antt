@@ -20,6 +20,7 @@ use Rattle.preview.proofs.Laws.{Previewed}
 use Rattle.befores.specs.declared.Made.{Made}
 use Rattle.befores.specs.Befores.{makeOf}
 use Rattle.befores.proofs.Policies.{place-most}
+use Rattle.forward.specs.Forward.{checkForwardAnswer}
 use Rattle.capi.specs.Hosts.{runFor}
 
 -- ---- the parts
@@ -53,6 +54,9 @@ module _ (xs : List ℕ) (l : Layout) (e : l ≡ layoutFrom xs) where
 
   pub checked : (ws ns : List ℕ) (a : Answer) → a ≡ checkAnswer l ws → ns ≡ answerTo a → ns ≡ answerTo (checkAnswer (layoutFrom xs) ws)
   checked ws ns a p r = r ∙ ap answerTo (p ∙ ap (λ (k : Layout). checkAnswer k ws) e)
+
+  pub checked-forward : (ws ns : List ℕ) (a : Answer) → a ≡ checkForwardAnswer l ws → ns ≡ answerTo a → ns ≡ answerTo (checkForwardAnswer (layoutFrom xs) ws)
+  checked-forward ws ns a p r = r ∙ ap answerTo (p ∙ ap (λ (k : Layout). checkForwardAnswer k ws) e)
 
   pub installed : (pol : Policy) (mem left ms ns : List ℕ) (i : Installed) → i ≡ installOf l pol mem → left ≡ installMemory l pol mem → ms ≡ machineTo (i .machine) → ns ≡ answerTo (i .answer)
       → (ns ≡ answerTo (installAnswer (layoutFrom xs) pol mem)) × ((ms ≡ machineTo (installMachine (layoutFrom xs) pol mem)) × (left ≡ installMemory (layoutFrom xs) pol mem))

@@ -17,6 +17,7 @@ ghost use Rattle.rules.specs.Machines.{installAnswer, installMachine, installMe
 ghost use Rattle.rules.specs.Loading.{loadAnswer, loadMachine, loadCommands, loadMemory};
 ghost use Rattle.hosts.specs.Numbers.{layoutFrom, machineTo, answerTo, runAnswerTo, recordAfter};
 ghost use Rattle.befores.specs.Befores.{makeOf, makeTable};
+ghost use Rattle.forward.specs.Forward.{forwardAnswer, checkForwardAnswer};
 ghost use Rattle.capi.specs.Hosts.{runFor, yesOrNo, madeTo};
 
 // ---- answers as numbers
@@ -90,6 +91,22 @@ pub extern "C" fn hemdroas_check(layout: &[u32; 16], commands: &[u64], answer: &
     ensures { λ _. ⌜ now (answer .exit) ≡ answerTo (checkAnswer (layoutFrom (now (layout .entry))) (now (commands .entry))) ⌝ }
 {
     *answer = answer_of(checker::check(layout_of(layout), commands));
+}
+
+// Checks that a routine's words are of the class that always finishes.
+#[no_mangle]
+pub extern "C" fn hemdroas_forward(words: &[u64], answer: &mut [u32; 2])
+    ensures { λ _. ⌜ now (answer .exit) ≡ answerTo (forwardAnswer (now (words .entry))) ⌝ }
+{
+    *answer = answer_of(forward::forward(words));
+}
+
+// Checks a list of commands, and that it is of that class.
+#[no_mangle]
+pub extern "C" fn hemdroas_check_forward(layout: &[u32; 8], commands: &[u64], answer: &mut [u32; 2])
+    ensures { λ _. ⌜ now (answer .exit) ≡ answerTo (checkForwardAnswer (layoutFrom (now (layout .entry))) (now (commands .entry))) ⌝ }
+{
+    *answer = answer_of(forward::check_forward(layout_of(layout), commands));
 }
 
 // Whether four bytes of a policy's table, as one word, are right: 1 for yes, 0 for no.

@@ -52,11 +52,11 @@ widen : {m r m′ r′ : ℕ} {a : Answer} → m ≤ m′ → r ≤ r′ → Bou
 widen h k b = record { number = b .number; place = omega (arith, b .place); taken = λ z. omega (arith, b .taken z) }
 
 -- at place 0
-at-start : (m r x : ℕ) → x < 2 ^ 8 → Bounded m r (answer x 0)
+pub at-start : (m r x : ℕ) → x < 2 ^ 8 → Bounded m r (answer x 0)
 at-start m r x h = record { number = h; place = omega arith; taken = λ _. omega arith }
 
 -- the first answer or the second
-or-else : (m r : ℕ) (a b : Answer) → a .number < 2 ^ 8 → a .place ≤ m → (a .number ≡ 0 → Bounded m r b) → Bounded m r (orElse a b)
+pub or-else : (m r : ℕ) (a b : Answer) → a .number < 2 ^ 8 → a .place ≤ m → (a .number ≡ 0 → Bounded m r b) → Bounded m r (orElse a b)
 or-else m r a b h p q =
     cond-ind (Bounded m r) (eqb (a .number) 0) (λ e. q (eqb-true _ _ e))
     (λ e. record { number = h; place = p; taken = λ z. absurd (eqb-false _ _ e z) })
@@ -67,7 +67,7 @@ room-bound m r k h =
     cond-ind (Bounded m r) (ltb r k) (λ _. at-start _ _ _ (lit< tt)) (λ f. record { number = lit< tt; place = h; taken = λ _. ltb-false _ _ f })
 
 -- a refusal among the words, or what follows them
-first-bound : (judge : ℕ → ℕ) → ((w : ℕ) → judge w < 2 ^ 8)
+pub first-bound : (judge : ℕ → ℕ) → ((w : ℕ) → judge w < 2 ^ 8)
     → (ws : List ℕ) (i m r : ℕ) (z : Answer) → i + length ws ≤ m → Bounded m r z → Bounded m r (firstRefused judge ws i z)
 unfolding firstRefused
 first-bound judge s [] i m r z h b = b
@@ -139,7 +139,7 @@ write-bound ws room =
 
 -- ---- rewriting and checking
 
-judge-at-small : (n w : ℕ) → judgeAt n w < 2 ^ 8
+pub judge-at-small : (n w : ℕ) → judgeAt n w < 2 ^ 8
 unfolding judgeAt
 judge-at-small n w =
     unless-ind (λ (x : ℕ). x < 2 ^ 8) (eqb (judgeWord w) 0) (λ _. judge-small _ _)
