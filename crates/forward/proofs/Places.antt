@@ -7,7 +7,7 @@ use lib.Dec.{lit<, ltb}
 use lib.ListN.{length}
 use Rattle.rules.specs.declared.Layout.{Layout}
 use Rattle.rules.specs.declared.Instr.{Instr}
-use Rattle.rules.specs.Names.{mostInstructions, bundleLength}
+use Rattle.rules.specs.Names.{mostInstructions, bundleLength, answer}
 use Rattle.rules.specs.Words.{judgeAt, routine}
 use Rattle.rules.specs.Bundles.{bundleAt, checkAnswer}
 use Rattle.rules.proofs.Bools.{cond-ind}
@@ -28,8 +28,8 @@ unfolding forwardAnswer
 forward-bound ws =
     cond-ind (Bounded mostInstructions 0) (ltb mostInstructions (length ws)) (λ _. at-start _ _ _ (lit< tt))
     (λ e. let n : length ws ≤ mostInstructions = ltb-false _ _ e in
-    first-bound (judgeAt (length ws)) (judge-at-small (length ws)) ws 0 mostInstructions 0 _ (omega arith)
-    (scan-bound (routine ws) 0 (length ws) mostInstructions (omega arith)))
+    let b = first-bound (judgeAt (length ws)) (judge-at-small (length ws)) ws 0 mostInstructions 0 (answer 0 0) (omega arith) (at-start _ _ _ (lit< tt)) in
+    or-else mostInstructions 0 _ _ (b .number) (b .place) (λ _. scan-bound (routine ws) 0 (length ws) mostInstructions (omega arith)))
 
 pub check-forward-bound : (lay : Layout) (ws : List ℕ) → Bounded mostInstructions 0 (checkForwardAnswer lay ws)
 unfolding checkForwardAnswer

@@ -116,9 +116,17 @@ module _ (ws : List ℕ) where
   unfolding forwardAnswer
   oversize h = rw (lt-ltb _ _ h)
 
-  pub judged : length ws ≤ mostInstructions → (z a : Answer) → z ≡ forwardFrom (routine ws) 0 (length ws) → a ≡ firstRefused (judgeAt (length ws)) ws 0 z → a ≡ forwardAnswer ws
-  unfolding forwardAnswer
-  judged h z a ez ea = ea ∙ rw (ez, le-ltb mostInstructions (length ws) h)
+  module _ (h : length ws ≤ mostInstructions) (z a : Answer) (ez : z ≡ answer (numberOf Taken) 0) (ea : a ≡ firstRefused (judgeAt (length ws)) ws 0 z) where
+    is-judged : firstRefused (judgeAt (length ws)) ws 0 (answer (numberOf Taken) 0) ≡ a
+    is-judged = sym (ea ∙ ap (firstRefused (judgeAt (length ws)) ws 0) ez)
+
+    pub judge-refused : (a .number ≡ 0 → ⊥) → a ≡ forwardAnswer ws
+    unfolding forwardAnswer
+    judge-refused f = rw (le-ltb mostInstructions (length ws) h, is-judged) (rw (ne-eqb (a .number) 0 f))
+
+    pub judge-taken : a .number ≡ 0 → (b : Answer) → b ≡ forwardFrom (routine ws) 0 (length ws) → b ≡ forwardAnswer ws
+    unfolding forwardAnswer
+    judge-taken e b eb = rw (le-ltb mostInstructions (length ws) h, is-judged) (rw (eq-eqb (a .number) 0 e) eb)
 
 module _ (lay : Layout) (ws : List ℕ) (a : Answer) (ea : a ≡ checkAnswer lay ws) where
   pub check-refused : (a .number ≡ 0 → ⊥) → a ≡ checkForwardAnswer lay ws

@@ -32,7 +32,7 @@ forwardFrom is h (suc m) = cond (forwardAt h (is h)) (forwardFrom is (h + 1) m) 
 unfoldable pub forwardAnswer : List ℕ → Answer
 forwardAnswer ws =
     first ((ltb mostInstructions (length ws), refusal Oversize 0) ∷ [])
-    (firstRefused (judgeAt (length ws)) ws 0 (forwardFrom (routine ws) 0 (length ws)))
+    (orElse (firstRefused (judgeAt (length ws)) ws 0 (answer (numberOf Taken) 0)) (forwardFrom (routine ws) 0 (length ws)))
 
 -- the check of command lists: 'after all the checker's refusals'
 unfoldable pub checkForwardAnswer : Layout → List ℕ → Answer

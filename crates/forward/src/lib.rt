@@ -106,7 +106,16 @@ pub fn forward(words: &[u64]) -> Answer
             place: 0,
         };
     }
-    judge_all(words, scan_words(words))
+    let taken = Answer {
+        number: Refusal::TAKEN,
+        place: 0,
+    };
+    let judged = judge_all(words, taken);
+    let refused = judged.number;
+    if refused != 0 {
+        return judged;
+    }
+    scan_words(words)
 }
 
 // Checks a list of commands: all the checker's refusals, then 18.
