@@ -34,9 +34,9 @@
  * 3 faulted, 4 strayed; any number above 4 counts as faulted.
  *
  * answer[2]: the number, then the place. Number 0 is success, and the place
- * then is the count of words, bytes or commands written (0 for check and
+ * then is the count of words, bytes or commands written (0 for the checks and
  * install). Any other number is a refusal, and the place is that of the
- * instruction (1 to 4, 8) or bundle (11) at fault, else 0:
+ * instruction (1 to 4, 8, 18) or bundle (11, 18) at fault, else 0:
  *   1 short weight     bytes end early
  *   2 foreign matter   a field that should be absent or zero, a stray bit
  *   3 unknown variety  kind above 12
@@ -53,6 +53,7 @@
  *  14 bad landings     landings not strictly rising, or one above 1023
  *  17 bad pair         event above 15 or without its partner, or more than four
  *                      events named
+ *  18 not forward      a GOX, or a GOIF to its own or a lower instruction
  *
  * A refusal leaves every buffer as it was, and so a run's machine record; a
  * refused loading or installation yields a record of zeros with status 3. A
@@ -81,6 +82,18 @@ void hemdroas_rewrite(const uint32_t layout[16], const uint64_t *words, size_t n
 
 /* Checks that n commands, run under this layout, keep to sandbox and policy. */
 void hemdroas_check  (const uint32_t layout[16], const uint64_t *commands, size_t n, uint32_t answer[2]);
+
+/* Checks that n words are a routine that always finishes: it has no GOX, and
+ * every GOIF goes to a higher instruction than its own. 18, at the lowest
+ * instruction that breaks this, comes last, after 5, 3, 2, 4 and 8. Rewritten
+ * into N bundles and run as installed, such a routine ends or stops within
+ * 4 * (N - 1) + 1 steps over all its runs, if each pause is resumed with two
+ * log cells and a reading and the budgets suffice. */
+void hemdroas_forward(const uint64_t *words, size_t n, uint32_t answer[2]);
+
+/* Checks n commands as hemdroas_check does, then that they are those of such a
+ * routine: 18, at the lowest bundle that breaks this, comes last. */
+void hemdroas_check_forward(const uint32_t layout[8], const uint64_t *commands, size_t n, uint32_t answer[2]);
 
 /* 1 if states is 1 to 16 and each of the word's four bytes is below states or
  * 255, else 0: the test that installing makes of the policy's table, four

@@ -4,6 +4,7 @@ use mathlib.Core.Path.{_≡_, refl, sym, _∙_, ap, subst}
 use mathlib.Core.Bool.{Bool, cond}
 use mathlib.Core.List.{List}
 use native.Mathlib.Omega.{arith}
+use lib.Dec.{lit<}
 use lib.ListN.{length}
 use Rattle.rules.specs.declared.Layout.{Layout}
 use Rattle.rules.specs.declared.Machine.{Machine}
@@ -20,7 +21,8 @@ use Rattle.preview.proofs.Laws.{Previewed}
 use Rattle.befores.specs.declared.Made.{Made}
 use Rattle.befores.specs.Befores.{makeOf}
 use Rattle.befores.proofs.Policies.{place-most}
-use Rattle.forward.specs.Forward.{checkForwardAnswer}
+use Rattle.forward.specs.Forward.{forwardAnswer, checkForwardAnswer}
+use Rattle.forward.proofs.Places.{forward-bound, check-forward-bound}
 use Rattle.capi.specs.Hosts.{runFor}
 
 -- ---- the parts
@@ -28,6 +30,13 @@ use Rattle.capi.specs.Hosts.{runFor}
 -- a place has 32 bits
 pub narrow : {m r : ℕ} (a b : Answer) → a ≡ b → Bounded m r b → m < 2 ^ 32 → a .place < 2 ^ 32
 narrow a b e h k = subst (λ (x : Answer). x .place < 2 ^ 32) (sym e) (omega (arith, h .place, k))
+
+-- so have those of the two checks of the class
+pub narrow-forward : (ws : List ℕ) (a : Answer) → a ≡ forwardAnswer ws → a .place < 2 ^ 32
+narrow-forward ws a e = narrow a (forwardAnswer ws) e (forward-bound ws) (lit< tt)
+
+pub narrow-check-forward : (l : Layout) (ws : List ℕ) (a : Answer) → a ≡ checkForwardAnswer l ws → a .place < 2 ^ 32
+narrow-check-forward l ws a e = narrow a (checkForwardAnswer l ws) e (check-forward-bound l ws) (lit< tt)
 
 -- so has a made policy's
 pub narrow-made : (ps : List ℕ) (room : ℕ) (m : Made) → m ≡ makeOf ps room → m .answer .place < 2 ^ 32
@@ -44,6 +53,10 @@ counts l ws mem rd log mem′ log′ budget m o q h =
 pub ran-as : (l : Layout) (ws mem rd log log′ : List ℕ) (budget : ℕ) (m : Machine) (o : Outcome) → Previewed l ws m mem budget rd log o log′
     → ranOf o (runOf l ws m mem budget rd log .mem) log′ ≡ runOf l ws m mem budget rd log
 ran-as l ws mem rd log log′ budget m o q = λ i. ranOf (q .0 i) (runOf l ws m mem budget rd log .mem) (q .1 .1 i)
+
+-- the answer of the check of words
+pub forward-is : (ws ns : List ℕ) (a : Answer) → a ≡ forwardAnswer ws → ns ≡ answerTo a → ns ≡ answerTo (forwardAnswer ws)
+forward-is ws ns a p r = r ∙ ap answerTo p
 
 -- what a part answers and leaves under the layout of a host's numbers
 module _ (xs : List ℕ) (l : Layout) (e : l ≡ layoutFrom xs) where
