@@ -13,6 +13,8 @@ pub mod model;
 pub mod names;
 #[cfg(feature = "native")]
 pub mod native;
+#[cfg(feature = "native")]
+pub mod native_forward;
 mod types;
 
 pub use types::{

@@ -105,7 +105,7 @@ extern "C" {
     );
 }
 
-fn answer([number, place]: [u32; 2]) -> Answer {
+pub(crate) fn answer([number, place]: [u32; 2]) -> Answer {
     if number == 0 {
         return Answer::Taken(place);
     }

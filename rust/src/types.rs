@@ -209,11 +209,14 @@ pub enum Refusal {
     /// 17: a pair with an event above 15 or without its partner, or more than
     /// four named events.
     BadPair,
+    /// 18: a GOX, or a GOIF to its own or a lower instruction, in a routine or
+    /// list that is to finish always.
+    NotForward,
 }
 
 impl Refusal {
     /// Every refusal with its number and its word.
-    pub const TABLE: [(Refusal, u32, &'static str); 15] = [
+    pub const TABLE: [(Refusal, u32, &'static str); 16] = [
         (Refusal::Short, 1, "short weight"),
         (Refusal::Foreign, 2, "foreign matter"),
         (Refusal::UnknownKind, 3, "unknown variety"),
@@ -229,6 +232,7 @@ impl Refusal {
         (Refusal::BadBase, 13, "bad base"),
         (Refusal::BadLandings, 14, "bad landing list"),
         (Refusal::BadPair, 17, "bad pair"),
+        (Refusal::NotForward, 18, "not forward"),
     ];
 
     fn row(self) -> (Refusal, u32, &'static str) {

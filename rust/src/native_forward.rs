@@ -1,0 +1,41 @@
+//! Safe wrappers of the library's checks of the class that always finishes.
+
+use crate::native::answer;
+use crate::{Answer, Layout, LayoutArray};
+
+extern "C" {
+    fn hemdroas_forward(words: *const u64, n: usize, answer: *mut [u32; 2]);
+    fn hemdroas_check_forward(
+        layout: *const LayoutArray,
+        commands: *const u64,
+        n: usize,
+        answer: *mut [u32; 2],
+    );
+}
+
+// In each call below, the pointers come from live slices and arrays of the
+// lengths given beside them.
+
+/// Checks that a routine's words have no GOX and no GOIF to its own or a lower
+/// instruction.
+pub fn forward(words: &[u64]) -> Answer {
+    let mut pair = [0; 2];
+    unsafe {
+        hemdroas_forward(words.as_ptr(), words.len(), &mut pair);
+    }
+    answer(pair)
+}
+
+/// Checks a command list, and the same of its bundles.
+pub fn check_forward(layout: &Layout, commands: &[u64]) -> Answer {
+    let mut pair = [0; 2];
+    unsafe {
+        hemdroas_check_forward(
+            &layout.to_array(),
+            commands.as_ptr(),
+            commands.len(),
+            &mut pair,
+        );
+    }
+    answer(pair)
+}
