@@ -93,7 +93,7 @@ void hemdroas_forward(const uint64_t *words, size_t n, uint32_t answer[2]);
 
 /* Checks n commands as hemdroas_check does, then that they are those of such a
  * routine: 18, at the lowest bundle that breaks this, comes last. */
-void hemdroas_check_forward(const uint32_t layout[8], const uint64_t *commands, size_t n, uint32_t answer[2]);
+void hemdroas_check_forward(const uint32_t layout[16], const uint64_t *commands, size_t n, uint32_t answer[2]);
 
 /* 1 if states is 1 to 16 and each of the word's four bytes is below states or
  * 255, else 0: the test that installing makes of the policy's table, four

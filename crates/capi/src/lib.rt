@@ -103,7 +103,11 @@ pub extern "C" fn hemdroas_forward(words: &[u64], answer: &mut [u32; 2])
 
 // Checks a list of commands, and that it is of that class.
 #[no_mangle]
-pub extern "C" fn hemdroas_check_forward(layout: &[u32; 8], commands: &[u64], answer: &mut [u32; 2])
+pub extern "C" fn hemdroas_check_forward(
+    layout: &[u32; 16],
+    commands: &[u64],
+    answer: &mut [u32; 2],
+)
     ensures { λ _. ⌜ now (answer .exit) ≡ answerTo (checkForwardAnswer (layoutFrom (now (layout .entry))) (now (commands .entry))) ⌝ }
 {
     *answer = answer_of(forward::check_forward(layout_of(layout), commands));

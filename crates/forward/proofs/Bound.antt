@@ -151,16 +151,16 @@ pub record Ahead (base n t pc : ℕ) (st : Status) : Type 0 where
   pub lands : st ≡ Strayed → ⊥
 
 -- where a step leads that does not wait
-pub ahead-step : (rd : List ℕ) (base n t : ℕ) (s : State) (e : Effect) → base + bundleLength * (n - 1) < 2 ^ 32 → Goes e → s .status ≡ Running → base + t ≤ s .pc → s .pc ≤ base + bundleLength * (n - 1) → Leads (s .pc) (base + bundleLength * (n - 1)) e
-    → Ahead base n (t + 1) (applyOf rd e s .pc) (applyOf rd e s .status)
+pub ahead-step : (caps rd : List ℕ) (base n t : ℕ) (s : State) (e : Effect) → base + bundleLength * (n - 1) < 2 ^ 32 → Goes e → s .status ≡ Running → base + t ≤ s .pc → s .pc ≤ base + bundleLength * (n - 1) → Leads (s .pc) (base + bundleLength * (n - 1)) e
+    → Ahead base n (t + 1) (applyOf caps rd e s .pc) (applyOf caps rd e s .status)
 unfolding applyOf
-ahead-step rd base n t s (Go to) b g r l u d = record { most = omega arith; on = λ _. (omega (arith, d .0), d .1); lands = runs-on _ r }
-ahead-step rd base n t s (Put i x) b g r l u d = let e = on-by-one (s .pc) _ d b in record { most = omega arith; on = λ _. (omega arith, omega arith); lands = runs-on _ r }
-ahead-step rd base n t s (Cell i x) b g r l u d = let e = on-by-one (s .pc) _ d b in record { most = omega arith; on = λ _. (omega arith, omega arith); lands = runs-on _ r }
-ahead-step rd base n t s (Order v) b g r l u d = let e = on-by-one (s .pc) _ d b in record { most = omega arith; on = λ _. (omega arith, omega arith); lands = runs-on _ r }
-ahead-step rd base n t s (Probe v) b g r l u d = let e = on-by-one (s .pc) _ d b in record { most = omega arith; on = λ _. (omega arith, omega arith); lands = runs-on _ r }
-ahead-step rd base n t s (End st) b g r l u d = record { most = omega arith; on = λ e. absurd (d .0 e); lands = d .1 }
-ahead-step rd base n t s (Wait e) b g r l u d = absurd (g e refl)
+ahead-step caps rd base n t s (Go to) b g r l u d = record { most = omega arith; on = λ _. (omega (arith, d .0), d .1); lands = runs-on _ r }
+ahead-step caps rd base n t s (Put i x) b g r l u d = let e = on-by-one (s .pc) _ d b in record { most = omega arith; on = λ _. (omega arith, omega arith); lands = runs-on _ r }
+ahead-step caps rd base n t s (Cell i x) b g r l u d = let e = on-by-one (s .pc) _ d b in record { most = omega arith; on = λ _. (omega arith, omega arith); lands = runs-on _ r }
+ahead-step caps rd base n t s (Order v) b g r l u d = let e = on-by-one (s .pc) _ d b in record { most = omega arith; on = λ _. (omega arith, omega arith); lands = runs-on _ r }
+ahead-step caps rd base n t s (Probe v) b g r l u d = let e = on-by-one (s .pc) _ d b in record { most = omega arith; on = λ _. (omega arith, omega arith); lands = runs-on _ r }
+ahead-step caps rd base n t s (End st) b g r l u d = record { most = omega arith; on = λ e. absurd (d .0 e); lands = d .1 }
+ahead-step caps rd base n t s (Wait e) b g r l u d = absurd (g e refl)
 
 -- an address of the list, by bundle and position
 pub split : (base n pc : ℕ) → base ≤ pc → pc ≤ base + bundleLength * (n - 1) → 0 < n → ((pc - base) / bundleLength < n) × ((pc - base) % bundleLength < bundleLength) × (pc ≡ base + bundleLength * ((pc - base) / bundleLength) + (pc - base) % bundleLength)
@@ -205,7 +205,7 @@ module _ (lay : Layout) (ws : List ℕ) (n : ℕ) (is : ℕ → Instr) (room : l
       let o = a .on r in
       let z : t + k + 1 ≡ t + (k + 1) = omega arith in
       ahead-run rd t j (k + 1) (stepOf lay ws rd s)
-      (rw z at (ahead-step rd (lay .base) n (t + k) s (nextOf lay ws rd s) below-end g r (o .0) (o .1) (next-leads rd s (omega arith) (o .1)))))
+      (rw z at (ahead-step (lay .ceilings) rd (lay .base) n (t + k) s (nextOf lay ws rd s) below-end g r (o .0) (o .1) (next-leads rd s (omega arith) (o .1)))))
 
   abbrev Behind : ℕ → Machine → Type 0
   Behind t m = Ahead (lay .base) n t (m .pc) (m .status)

@@ -82,21 +82,21 @@ record Few (base size : ℕ) (s : State) : Type 0 where
 one-on : (base q pc : ℕ) → base ≤ pc → base + bundleLength * q ≤ pc → (pc - base) % bundleLength ≡ 3 → base + bundleLength * (q + 1) ≤ pc + 1
 one-on base q pc l h e = omega arith
 
-few-step : (rd : List ℕ) (base top size : ℕ) (s : State) (e : Effect) → top < 2 ^ 32 → Goes e → s .status ≡ Running → base ≤ s .pc → Few base size s → Leads (s .pc) top e → Fourth ((s .pc - base) % bundleLength) e → Few base size (applyOf rd e s)
+few-step : (caps rd : List ℕ) (base top size : ℕ) (s : State) (e : Effect) → top < 2 ^ 32 → Goes e → s .status ≡ Running → base ≤ s .pc → Few base size s → Leads (s .pc) top e → Fourth ((s .pc - base) % bundleLength) e → Few base size (applyOf caps rd e s)
 unfolding applyOf
-few-step rd base top size s (Go to) b g r l f d q = let x = f .pairs r in let y = f .used r in record { log = f .log; pairs = λ _. omega (arith, d .0); used = λ _. omega (arith, d .0) }
-few-step rd base top size s (Put i v) b g r l f d q =
+few-step caps rd base top size s (Go to) b g r l f d q = let x = f .pairs r in let y = f .used r in record { log = f .log; pairs = λ _. omega (arith, d .0); used = λ _. omega (arith, d .0) }
+few-step caps rd base top size s (Put i v) b g r l f d q =
     let x = f .pairs r in let y = f .used r in let e = on-by-one (s .pc) top d b in record { log = f .log; pairs = λ _. omega arith; used = λ _. omega arith }
-few-step rd base top size s (Cell i v) b g r l f d q =
+few-step caps rd base top size s (Cell i v) b g r l f d q =
     let x = f .pairs r in let y = f .used r in let e = on-by-one (s .pc) top d b in record { log = f .log; pairs = λ _. omega arith; used = λ _. omega arith }
-few-step rd base top size s (Order v) b g r l f d q =
+few-step caps rd base top size s (Order v) b g r l f d q =
     let x = one-on base (s .pairs) (s .pc) l (f .pairs r) q in let y = f .used r in let e = on-by-one (s .pc) top d b in
     record { log = f .log ∙ simp length-set; pairs = λ _. omega arith; used = λ _. omega arith }
-few-step rd base top size s (Probe v) b g r l f d q =
+few-step caps rd base top size s (Probe v) b g r l f d q =
     let x = one-on base (s .pairs) (s .pc) l (f .pairs r) q in let y = one-on base (s .used) (s .pc) l (f .used r) q in let e = on-by-one (s .pc) top d b in
     record { log = f .log ∙ simp length-set; pairs = λ _. omega arith; used = λ _. omega arith }
-few-step rd base top size s (End t) b g r l f d q = record { log = f .log; pairs = λ e. absurd (d .0 e); used = λ e. absurd (d .0 e) }
-few-step rd base top size s (Wait w) b g r l f d q = absurd (g w refl)
+few-step caps rd base top size s (End t) b g r l f d q = record { log = f .log; pairs = λ e. absurd (d .0 e); used = λ e. absurd (d .0 e) }
+few-step caps rd base top size s (Wait w) b g r l f d q = absurd (g w refl)
 
 -- before the last bundle there is room for one more
 room-for : (base n k u pc size left : ℕ) → base + bundleLength * k ≤ pc → base + bundleLength * u ≤ pc → pc < base + bundleLength * (n - 1) → 2 * (n - 1) ≤ size → n - 1 ≤ left → (2 ≤ size - 2 * k) × (1 ≤ left - u)
@@ -139,8 +139,8 @@ module _ (lay : Layout) (ws : List ℕ) (n : ℕ) (is : ℕ → Instr) (room : l
       let below = below-end lay ws n is room bs fw in
       let d = next-leads lay ws n is room bs fw rd s l (o .1) in
       never-pauses j (k + 1) (stepOf lay ws rd s)
-      (ahead-step rd (lay .base) n k s (nextOf lay ws rd s) below g r (o .0) (o .1) d)
-      (few-step rd (lay .base) top size s (nextOf lay ws rd s) below g r l f d (next-fourth s l (o .1))))
+      (ahead-step (lay .ceilings) rd (lay .base) n k s (nextOf lay ws rd s) below g r (o .0) (o .1) d)
+      (few-step (lay .ceilings) rd (lay .base) top size s (nextOf lay ws rd s) below g r l f d (next-fourth s l (o .1))))
 
 -- ---- a further run of a list
 module _ (lay : Layout) (ws : List ℕ) where

@@ -6,7 +6,7 @@ use lib.ListN.{set, replicate}
 use Rattle.rules.specs.declared.Layout.{Layout}
 use Rattle.rules.specs.declared.Ending.the-variants.{Done, LogFull}
 use Rattle.rules.specs.Names.{answer}
-use Rattle.rules.specs.Layouts.{layoutOf}
+use Rattle.rules.specs.Layouts.{layoutOf, noLimits}
 use Rattle.rules.specs.Policies.{Policy, policyOf}
 use Rattle.rules.specs.Words.{packOf}
 use Rattle.rules.specs.Bundles.{commandsOf}
@@ -30,7 +30,7 @@ abbrev pub order : ℕ → ℕ
 order v = packOf 12 0 0 0 0 v
 
 abbrev pub layout : Layout
-layout = layoutOf 64 8 15 0 16 1 16 32
+layout = layoutOf 64 8 15 0 16 1 16 32 noLimits
 
 -- words: none; a jump to n; to itself; back; back, where nothing leads; GOX; and what comes before 18, at higher places
 -- lists: of words of the class; a jump to its own bundle; the lowest of two; and what comes before 18
@@ -47,7 +47,7 @@ pub record Answers : Type 0 where
   pub list : checkForwardAnswer layout (commandsOf layout (plain ∷ goto 2 ∷ [])) ≡ answer 0 0
   pub listSelf : checkForwardAnswer layout (commandsOf layout (plain ∷ goto 1 ∷ [])) ≡ answer 18 1
   pub listLowest : checkForwardAnswer layout (commandsOf layout (plain ∷ gox ∷ goto 1 ∷ [])) ≡ answer 18 1
-  pub listLayout : checkForwardAnswer (layoutOf 64 8 15 0 16 1 16 33) (commandsOf layout (gox ∷ [])) ≡ answer 7 0
+  pub listLayout : checkForwardAnswer (layoutOf 64 8 15 0 16 1 16 33 noLimits) (commandsOf layout (gox ∷ [])) ≡ answer 7 0
   pub listCount : checkForwardAnswer layout (gox ∷ []) ≡ answer 12 0
   pub listBase : checkForwardAnswer layout (commandsOf layout (gox ∷ plain ∷ plain ∷ plain ∷ [])) ≡ answer 13 0
   pub listShape : checkForwardAnswer layout (set (commandsOf layout (gox ∷ [])) 7 1) ≡ answer 11 1
