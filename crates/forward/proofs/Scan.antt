@@ -4,7 +4,7 @@ use mathlib.Core.Bool.{Bool, true, false, not}
 use mathlib.Core.List.{List}
 use Prim.Native.Nat.{ℕ, suc, _+_, _-_, _*_, _/_, _<_, _≤_}
 use native.Mathlib.Omega.{arith}
-use borrow.Author.Tests.{eq-eqb, ne-eqb, lt-ltb, le-ltb, eqb-true}
+use borrow.Author.Tests.{ne-eqb, le-ltb, eqb-true}
 use lib.Dec.{eqb, ltb}
 use lib.ListN.{length, getD}
 use Rattle.rules.specs.declared.Layout.{Layout}
@@ -17,6 +17,7 @@ use Rattle.rules.specs.Words.{kindOf, vOf, judgeAt, firstRefused, instrOf, rout
 use Rattle.rules.specs.Bundles.{readOff, bundleAt, checkAnswer}
 use Rattle.rules.proofs.Bools.{cond-ind}
 use Rattle.forward.specs.Forward.{forwardAt, forwardFrom, forwardAnswer, checkForwardAnswer, forwardWord}
+use Rattle.forward.proofs.Laws.{breaks-here, goes-past, judged, words-long, words-refused, words-taken, list-refused, list-passed}
 
 -- a jump, by its instruction
 pub jump-at : (h a b c v : ℕ) (i : Instr) → i ≡ GOIF a b c v → ltb h v ≡ forwardAt h i
@@ -30,12 +31,10 @@ module _ (is : ℕ → Instr) (n h : ℕ) (a : Answer) (ea : a ≡ forwardFrom i
     left = omega arith
 
     scan-more : p ≡ true → a ≡ forwardFrom is (h + 1) (n - (h + 1))
-    unfolding forwardFrom
-    scan-more e = ea ∙ rw (left, ← ep, e)
+    scan-more e = ea ∙ ap (forwardFrom is h) left ∙ goes-past is h _ (sym ep ∙ e)
 
     scan-stop : p ≡ false → refusal NotForward h ≡ a
-    unfolding forwardFrom
-    scan-stop e = sym (ea ∙ rw (left, ← ep, e))
+    scan-stop e = sym (ea ∙ ap (forwardFrom is h) left ∙ breaks-here is h _ (sym ep ∙ e))
 
   scan-done : n ≤ h → answer (numberOf Taken) 0 ≡ a
   unfolding forwardFrom
@@ -113,26 +112,21 @@ module _ (lay : Layout) (ws : List ℕ) (h : ℕ) (a : Answer) (ea : a ≡ forwa
 -- ---- the whole
 module _ (ws : List ℕ) where
   pub oversize : mostInstructions < length ws → refusal Oversize 0 ≡ forwardAnswer ws
-  unfolding forwardAnswer
-  oversize h = rw (lt-ltb _ _ h)
+  oversize h = sym (words-long ws h)
 
   module _ (h : length ws ≤ mostInstructions) (z a : Answer) (ez : z ≡ answer (numberOf Taken) 0) (ea : a ≡ firstRefused (judgeAt (length ws)) ws 0 z) where
-    is-judged : firstRefused (judgeAt (length ws)) ws 0 (answer (numberOf Taken) 0) ≡ a
-    is-judged = sym (ea ∙ ap (firstRefused (judgeAt (length ws)) ws 0) ez)
+    is-judged : a ≡ judged ws
+    is-judged = ea ∙ ap (firstRefused (judgeAt (length ws)) ws 0) ez
 
     pub judge-refused : (a .number ≡ 0 → ⊥) → a ≡ forwardAnswer ws
-    unfolding forwardAnswer
-    judge-refused f = rw (le-ltb mostInstructions (length ws) h, is-judged) (rw (ne-eqb (a .number) 0 f))
+    judge-refused f = is-judged ∙ sym (words-refused ws h (λ e. f (ap (λ (x : Answer). x .number) is-judged ∙ e)))
 
     pub judge-taken : a .number ≡ 0 → (b : Answer) → b ≡ forwardFrom (routine ws) 0 (length ws) → b ≡ forwardAnswer ws
-    unfolding forwardAnswer
-    judge-taken e b eb = rw (le-ltb mostInstructions (length ws) h, is-judged) (rw (eq-eqb (a .number) 0 e) eb)
+    judge-taken e b eb = eb ∙ sym (words-taken ws h (sym (ap (λ (x : Answer). x .number) is-judged) ∙ e))
 
 module _ (lay : Layout) (ws : List ℕ) (a : Answer) (ea : a ≡ checkAnswer lay ws) where
   pub check-refused : (a .number ≡ 0 → ⊥) → a ≡ checkForwardAnswer lay ws
-  unfolding checkForwardAnswer
-  check-refused f = rw (← ea) (rw (ne-eqb (a .number) 0 f))
+  check-refused f = ea ∙ sym (list-refused lay ws (λ e. f (ap (λ (x : Answer). x .number) ea ∙ e)))
 
   pub check-passed : a .number ≡ 0 → (b : Answer) → b ≡ forwardFrom (bundleAt lay ws) 0 (length ws / bundleLength) → b ≡ checkForwardAnswer lay ws
-  unfolding checkForwardAnswer
-  check-passed z b eb = rw (← ea) (rw (eq-eqb (a .number) 0 z) eb)
+  check-passed z b eb = eb ∙ sym (list-passed lay ws (sym (ap (λ (x : Answer). x .number) ea) ∙ z))

@@ -1,0 +1,63 @@
+-- What the two checks answer, law by law: which refusal comes first, and the lowest place.
+use mathlib.Core.Path.{_≡_, _∙_, ap}
+use mathlib.Core.Bool.{Bool, true, false, cond}
+use mathlib.Core.List.{List}
+use Prim.Native.Nat.{ℕ, suc, _+_, _/_, _<_, _≤_}
+use borrow.Author.Tests.{eq-eqb, ne-eqb, lt-ltb, le-ltb}
+use lib.ListN.{length}
+use Rattle.rules.specs.declared.Layout.{Layout}
+use Rattle.rules.specs.declared.Answer.{Answer}
+use Rattle.rules.specs.declared.Instr.{Instr}
+use Rattle.rules.specs.declared.Refusal.the-variants.{Taken, Oversize, NotForward}
+use Rattle.rules.specs.Names.{mostInstructions, bundleLength, numberOf, answer, refusal, orElse}
+use Rattle.rules.specs.Words.{judgeAt, firstRefused, routine}
+use Rattle.rules.specs.Bundles.{bundleAt, checkAnswer}
+use Rattle.forward.specs.Forward.{forwardAt, forwardFrom, forwardAnswer, checkForwardAnswer}
+
+-- ---- of two answers, the first if it refuses
+or-first : (a b : Answer) → (a .number ≡ 0 → ⊥) → orElse a b ≡ a
+or-first a b f = ap (λ (t : Bool). cond t b a) (ne-eqb (a .number) 0 f)
+
+or-second : (a b : Answer) → a .number ≡ 0 → orElse a b ≡ b
+or-second a b z = ap (λ (t : Bool). cond t b a) (eq-eqb (a .number) 0 z)
+
+-- ---- instructions in order: the first that breaks the class is answered
+module _ (is : ℕ → Instr) (h m : ℕ) where
+  pub breaks-here : forwardAt h (is h) ≡ false → forwardFrom is h (suc m) ≡ refusal NotForward h
+  unfolding forwardFrom
+  breaks-here e = ap (λ (t : Bool). cond t (forwardFrom is (h + 1) m) (refusal NotForward h)) e
+
+  pub goes-past : forwardAt h (is h) ≡ true → forwardFrom is h (suc m) ≡ forwardFrom is (h + 1) m
+  unfolding forwardFrom
+  goes-past e = ap (λ (t : Bool). cond t (forwardFrom is (h + 1) m) (refusal NotForward h)) e
+
+-- ---- guest words: 5, the words' own refusals, the class
+module _ (ws : List ℕ) where
+  abbrev pub judged : Answer
+  judged = firstRefused (judgeAt (length ws)) ws 0 (answer (numberOf Taken) 0)
+
+  abbrev among : Bool → Answer
+  among t = cond t (refusal Oversize 0) (orElse judged (forwardFrom (routine ws) 0 (length ws)))
+
+  pub words-long : mostInstructions < length ws → forwardAnswer ws ≡ refusal Oversize 0
+  unfolding forwardAnswer
+  words-long l = ap among (lt-ltb mostInstructions (length ws) l)
+
+  module _ (l : length ws ≤ mostInstructions) where
+    pub words-refused : (judged .number ≡ 0 → ⊥) → forwardAnswer ws ≡ judged
+    unfolding forwardAnswer
+    words-refused f = ap among (le-ltb mostInstructions (length ws) l) ∙ or-first judged _ f
+
+    pub words-taken : judged .number ≡ 0 → forwardAnswer ws ≡ forwardFrom (routine ws) 0 (length ws)
+    unfolding forwardAnswer
+    words-taken z = ap among (le-ltb mostInstructions (length ws) l) ∙ or-second judged _ z
+
+-- ---- command lists: the checker's refusals, the class
+module _ (lay : Layout) (ws : List ℕ) where
+  pub list-refused : (checkAnswer lay ws .number ≡ 0 → ⊥) → checkForwardAnswer lay ws ≡ checkAnswer lay ws
+  unfolding checkForwardAnswer
+  list-refused f = or-first (checkAnswer lay ws) _ f
+
+  pub list-passed : checkAnswer lay ws .number ≡ 0 → checkForwardAnswer lay ws ≡ forwardFrom (bundleAt lay ws) 0 (length ws / bundleLength)
+  unfolding checkForwardAnswer
+  list-passed z = or-second (checkAnswer lay ws) _ z
