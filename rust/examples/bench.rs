@@ -11,7 +11,7 @@
 mod quick;
 
 use hemdroas::model::words::Fields;
-use hemdroas::model::{bundle_count, Instr};
+use hemdroas::model::{bundles, Instr};
 use hemdroas::names::{EVENTS, GUEST_REGISTERS, MOST_BUNDLES, MOST_INSTRUCTIONS};
 use hemdroas::{native, Answer, Ending, Layout, Machine, Policy, RunAnswer};
 use std::hint::black_box;
@@ -155,7 +155,7 @@ fn event_loop() -> Vec<u64> {
 }
 
 fn rewritten(words: &[u64]) -> Vec<u64> {
-    let mut list = vec![0; 4 * bundle_count(words.len())];
+    let mut list = vec![0; 4 * bundles(words.len())];
     let size = list.len() as u32;
     assert_eq!(
         quick::rewrite(&LAYOUT, words, &mut list),

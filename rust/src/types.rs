@@ -172,6 +172,17 @@ impl Record {
             status: Status::from_number(self.0[Record::STATUS]),
         }
     }
+
+    /// Runs the machine that this record stands for, and keeps what becomes of
+    /// it: a status above all comes back as faulted, unless the run is refused.
+    pub fn run(&mut self, run: impl FnOnce(&mut Machine) -> RunAnswer) -> RunAnswer {
+        let mut machine = self.to_machine();
+        let answer = run(&mut machine);
+        if answer.ending != Ending::Refused {
+            *self = machine.to_record();
+        }
+        answer
+    }
 }
 
 /// Why something was refused. It prints as the word of the rules' table.

@@ -1,9 +1,9 @@
 //! Rewriting instructions into bundles, and checking bundles.
 
-use super::layout::is_right;
+use super::layout::layout_right;
 use super::words::{
-    a, b, c, command, d, guest, instruction_refusal, kind, names_guest_registers, pack, v, A, B, C,
-    COMMAND_BITS, D, HIDDEN,
+    a, b, c, command, d, guest, instruction_refusal, kind, pack, v, A, B, C, D, GUEST_COMMAND_BITS,
+    HIDDEN, IN_RANGE_CONDITION, IN_RANGE_REGISTERS,
 };
 use hemdroas::names::{BUNDLE_LENGTH as BUNDLE, MOST_COMMANDS, MOST_INSTRUCTIONS};
 use hemdroas::{Answer, Layout, Refusal};
@@ -13,7 +13,7 @@ const HALT_BUNDLE: [u64; BUNDLE] = [command::HALT, NOP, NOP, NOP];
 
 /// The number of bundles of a routine of so many instructions: the smallest
 /// power of two greater than it, so that the last is always HALT.
-pub fn bundle_count(instructions: usize) -> usize {
+pub fn bundles(instructions: usize) -> usize {
     (instructions + 1).next_power_of_two()
 }
 
@@ -92,10 +92,10 @@ impl Fences {
         let &[first, second, third, fourth] = bundle;
         let kind = kind(first);
         let alone = second == NOP && third == NOP && fourth == NOP;
-        let plain = || first & !COMMAND_BITS[kind as usize] == 0 && names_guest_registers(first);
-        // The same word but for fields of guest registers and conditions.
+        let plain = || first & !GUEST_COMMAND_BITS[kind as usize] == 0;
+        // The same word but for guest registers and a condition in some fields.
         let like = |word: u64, fields: u64, same: u64| {
-            word & !fields == same && names_guest_registers(word & fields) && c(word & fields) <= 3
+            word & !(fields & (IN_RANGE_REGISTERS | IN_RANGE_CONDITION)) == same
         };
         match kind {
             command::HALT => *bundle == HALT_BUNDLE,
@@ -132,7 +132,7 @@ impl Fences {
 
 /// Rewrites a routine's words into commands that keep to the layout.
 pub fn rewrite(layout: &Layout, words: &[u64], commands: &mut [u64]) -> Answer {
-    if !is_right(layout) {
+    if !layout_right(layout) {
         return Answer::refused(Refusal::BadLayout, 0);
     }
     if words.len() > MOST_INSTRUCTIONS {
@@ -146,7 +146,7 @@ pub fn rewrite(layout: &Layout, words: &[u64], commands: &mut [u64]) -> Answer {
             return Answer::refused(Refusal::BadLanding, place);
         }
     }
-    let size = BUNDLE * bundle_count(words.len());
+    let size = BUNDLE * bundles(words.len());
     if !(layout.base as usize).is_multiple_of(size) {
         return Answer::refused(Refusal::BadBase, 0);
     }
@@ -166,7 +166,7 @@ pub fn rewrite(layout: &Layout, words: &[u64], commands: &mut [u64]) -> Answer {
 
 /// Checks a command list, from whatever producer.
 pub fn check(layout: &Layout, commands: &[u64]) -> Answer {
-    if !is_right(layout) {
+    if !layout_right(layout) {
         return Answer::refused(Refusal::BadLayout, 0);
     }
     let size = commands.len();

@@ -11,7 +11,7 @@ fn apart(x: (u64, u64), y: (u64, u64)) -> bool {
 
 /// Whether a layout is right. Sums are taken in 64 bits, where they cannot
 /// wrap.
-pub fn is_right(layout: &Layout) -> bool {
+pub fn layout_right(layout: &Layout) -> bool {
     let &Layout {
         size,
         low,

@@ -24,7 +24,7 @@ impl Pairs {
     fn of(events: &[u8]) -> Result<Pairs, Refused> {
         let named: BTreeSet<u8> = events.iter().copied().collect();
         let above = named.iter().any(|&event| u32::from(event) >= EVENTS);
-        let partnerless = events.len() % 2 != 0;
+        let partnerless = !events.len().is_multiple_of(2);
         if above || partnerless || named.len() > MOST_NAMED {
             return refuse(Refusal::BadPair);
         }

@@ -1,7 +1,7 @@
 //! Checking command lists, from whatever producer.
 
 use super::commands::Command::{self, *};
-use super::layout::{is_base_of, is_bundle_count, is_right};
+use super::layout::{base_right, count_right, layout_right};
 use super::outputs::{answer, refuse, Refused};
 use super::rewrite::{address, pch, pcl, Bundle, HALT};
 use crate::names::{BUNDLE_LENGTH, GUEST_REGISTERS, HIDDEN};
@@ -38,7 +38,7 @@ fn has_shape(layout: &Layout, bundles: usize, bundle: Bundle) -> bool {
         [GoIf { a, b, c: _, v }, Nop, Nop, Nop] =>
             guests(&[a, b]) && (0..bundles).any(|g| u64::from(v) == address(layout, g)),
         // SHL 8,d,2; ANDI 8,8,PCH; ORI 8,8,PCL; GOXR through 8 with the guest's a, b, c.
-        [Shl { d: HIDDEN, a: d, v: 2 }, AndI { d: HIDDEN, a: HIDDEN, v: and }, OrI { d: HIDDEN, a: HIDDEN, v: or }, GoXR { d: HIDDEN, a, b, c: _ }] =>
+        [Shl { d: HIDDEN, a: d, v: 2 }, AndI { d: HIDDEN, a: HIDDEN, v: and }, OrI { d: HIDDEN, a: HIDDEN, v: or }, GoReg { d: HIDDEN, a, b, c: _ }] =>
             guests(&[d, a, b]) && and == pch(layout, bundles) && or == pcl(layout),
         // LOOK 8,n; STOPIF 8; KEEP 8; EVENT n, one n throughout.
         [Look { d: HIDDEN, v: look }, StopIf { d: HIDDEN }, Keep { d: HIDDEN }, Event { v: event }] =>
@@ -51,14 +51,14 @@ fn has_shape(layout: &Layout, bundles: usize, bundle: Bundle) -> bool {
 /// whose bundles all have these shapes and whose last is HALT.' 'Checking: 7,
 /// 12, 13, 11.' 'The lowest place comes first.'
 fn checked(layout: &Layout, commands: &[u64]) -> Result<(), Refused> {
-    if !is_right(layout) {
+    if !layout_right(layout) {
         return refuse(Refusal::BadLayout);
     }
     let bundles = commands.len() / BUNDLE_LENGTH;
-    if commands.len() % BUNDLE_LENGTH != 0 || !is_bundle_count(bundles) {
+    if !commands.len().is_multiple_of(BUNDLE_LENGTH) || !count_right(bundles) {
         return refuse(Refusal::BadCount);
     }
-    if !is_base_of(layout, commands.len()) {
+    if !base_right(layout, commands.len()) {
         return refuse(Refusal::BadBase);
     }
     for (place, words) in commands.chunks(BUNDLE_LENGTH).enumerate() {

@@ -1,9 +1,9 @@
 //! Installing a policy and a list of landings.
 
-use super::layout::is_lent_right;
+use super::layout::lent_right;
 use super::outputs::{answer, refuse, Refused};
 use crate::names::{CELL_BITS, EVENTS, LANDING_CELLS, MOST_BUNDLES, MOST_STATES, NO_ARROW};
-use crate::{Answer, Layout, Machine, Policy, Record, Refusal};
+use crate::{Answer, Layout, Machine, Policy, Refusal};
 
 /// 'Byte 16 × s + n is the state after event n in state s, or 255 for no
 /// arrow.'
@@ -48,7 +48,7 @@ fn judge(
     landings: &[u32],
     memory: &[u32],
 ) -> Result<(), Refused> {
-    if !is_lent_right(layout, memory) {
+    if !lent_right(layout, memory) {
         return refuse(Refusal::BadLayout);
     }
     if is_bad_policy(layout, policy) {
@@ -95,17 +95,4 @@ pub fn install(
         }
     };
     (answer(judged.map(|()| 0)), machine)
-}
-
-/// [`install`] into a record of the C interface.
-pub fn install_record(
-    layout: &Layout,
-    policy: &Policy,
-    landings: &[u32],
-    memory: &mut [u32],
-    record: &mut Record,
-) -> Answer {
-    let (answer, machine) = install(layout, policy, landings, memory);
-    *record = machine.to_record();
-    answer
 }

@@ -30,7 +30,7 @@ fn share_an_address(x: &Range<u64>, y: &Range<u64>) -> bool {
 /// P + 16 × S ≤ U; sandbox, state cell and table cells share no address.'
 /// Request [1]: 'only if' the landing cells 'lie below U and meet no other
 /// region'.
-pub fn is_right(layout: &Layout) -> bool {
+pub fn layout_right(layout: &Layout) -> bool {
     let Layout {
         size,
         low,
@@ -57,8 +57,8 @@ pub fn is_right(layout: &Layout) -> bool {
 }
 
 /// '7: not right, or a lent memory's length not U.'
-pub fn is_lent_right(layout: &Layout, memory: &[u32]) -> bool {
-    is_right(layout) && memory.len() == layout.size as usize
+pub fn lent_right(layout: &Layout, memory: &[u32]) -> bool {
+    layout_right(layout) && memory.len() == layout.size as usize
 }
 
 /// 'The mask of an address e is (e AND SH) OR SL.'
@@ -67,7 +67,7 @@ pub fn mask(layout: &Layout, address: u32) -> u32 {
 }
 
 /// 'N is the smallest power of two greater than n.'
-pub fn bundle_count(instructions: usize) -> usize {
+pub fn bundles(instructions: usize) -> usize {
     let mut powers = (0..).map(|power| 1 << power);
     powers
         .find(|&power: &usize| power > instructions)
@@ -76,11 +76,11 @@ pub fn bundle_count(instructions: usize) -> usize {
 
 /// Whether a list of so many bundles can be: 'N a power of two from 1 to
 /// 1,024'.
-pub fn is_bundle_count(bundles: usize) -> bool {
+pub fn count_right(bundles: usize) -> bool {
     (0..=10).any(|power| bundles == 1 << power)
 }
 
 /// 'B must be a multiple of 4N.'
-pub fn is_base_of(layout: &Layout, commands: usize) -> bool {
-    layout.base as usize % commands == 0
+pub fn base_right(layout: &Layout, commands: usize) -> bool {
+    (layout.base as usize).is_multiple_of(commands)
 }

@@ -2,7 +2,7 @@
 
 use super::{check, install, read, rewrite};
 use crate::names::{MOST_COMMANDS, MOST_INSTRUCTIONS};
-use crate::{Answer, Layout, Machine, Policy, Record};
+use crate::{Answer, Layout, Machine, Policy};
 
 /// 'The first reject of reading, rewriting, checking, installing, or 0', with
 /// the commands at the start of the list; a refusal leaves list and memory as
@@ -37,19 +37,4 @@ pub fn load(
     }
     commands[..list.len()].copy_from_slice(list);
     (rewritten, machine)
-}
-
-/// [`load`] into a record of the C interface.
-pub fn load_record(
-    layout: &Layout,
-    policy: &Policy,
-    landings: &[u32],
-    bytes: &[u8],
-    commands: &mut [u64],
-    memory: &mut [u32],
-    record: &mut Record,
-) -> Answer {
-    let (answer, machine) = load(layout, policy, landings, bytes, commands, memory);
-    *record = machine.to_record();
-    answer
 }

@@ -2,7 +2,7 @@
 
 use super::commands::Command;
 use super::instructions::{judge_in_routine, Instr};
-use super::layout::{bundle_count, is_base_of, is_right};
+use super::layout::{base_right, bundles, layout_right};
 use super::outputs::{deliver, refuse, room_for, Refused};
 use crate::names::{BUNDLE_LENGTH, HIDDEN, MOST_INSTRUCTIONS};
 use crate::{Answer, Layout, Refusal};
@@ -78,7 +78,7 @@ fn bundle(layout: &Layout, bundles: usize, instr: Instr) -> Bundle {
             Command::Shl { d: HIDDEN, a: d, v: 2 },
             Command::AndI { d: HIDDEN, a: HIDDEN, v: pch(layout, bundles) },
             Command::OrI { d: HIDDEN, a: HIDDEN, v: pcl(layout) },
-            Command::GoXR { d: HIDDEN, a, b, c },
+            Command::GoReg { d: HIDDEN, a, b, c },
         ],
         // 'LOOK 8,n; STOPIF 8; KEEP 8; EVENT n, one n throughout'
         Instr::Event { v } => [
@@ -93,7 +93,7 @@ fn bundle(layout: &Layout, bundles: usize, instr: Instr) -> Bundle {
 /// 'Rewriting: 7; 5; per word 3, 2, 4, 8; 13; 9.' 'Instructions n to N − 1 are
 /// HALT.'
 fn rewritten(layout: &Layout, words: &[u64], room: usize) -> Result<Vec<u64>, Refused> {
-    if !is_right(layout) {
+    if !layout_right(layout) {
         return refuse(Refusal::BadLayout);
     }
     let n = words.len();
@@ -107,9 +107,9 @@ fn rewritten(layout: &Layout, words: &[u64], room: usize) -> Result<Vec<u64>, Re
             Err(refusal) => return Err((refusal, place)),
         }
     }
-    let bundles = bundle_count(n);
+    let bundles = bundles(n);
     let size = BUNDLE_LENGTH * bundles;
-    if !is_base_of(layout, size) {
+    if !base_right(layout, size) {
         return refuse(Refusal::BadBase);
     }
     room_for(size, room)?;

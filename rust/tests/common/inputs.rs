@@ -2,7 +2,7 @@
 
 use super::Rng;
 use hemdroas::model::words::Fields;
-use hemdroas::model::{self, bundle_count, is_right, Command, Instr};
+use hemdroas::model::{self, bundles, layout_right, Command, Instr};
 use hemdroas::names::{
     BUNDLE_LENGTH, EVENTS, GUEST_REGISTERS, HIDDEN, LANDING_CELLS, MOST_BUNDLES, MOST_CELLS,
     MOST_INSTRUCTIONS, MOST_STATES, NO_ARROW, REGISTERS,
@@ -137,7 +137,8 @@ pub fn layout_of_states(rng: &mut Rng, bundles: usize, states: u32) -> Layout {
             rng.between(least, most)
         };
         let low = rng.below(size / sandbox) * sandbox;
-        let mut regions = vec![low..low + sandbox];
+        let sandbox_cells = low..low + sandbox;
+        let mut regions = Vec::from([sandbox_cells]);
         let (Some(table), Some(landings), Some(cell)) = (
             place(rng, size, table, &mut regions),
             place(rng, size, landings, &mut regions),
@@ -155,7 +156,7 @@ pub fn layout_of_states(rng: &mut Rng, bundles: usize, states: u32) -> Layout {
             base,
             landings,
         };
-        assert!(is_right(&layout), "{layout:?}");
+        assert!(layout_right(&layout), "{layout:?}");
         return layout;
     }
 }
@@ -205,6 +206,17 @@ pub fn altered_layout(rng: &mut Rng, layout: &Layout) -> Layout {
         };
     }
     Layout::from_array(array)
+}
+
+/// Whether a cell is neither protected nor in the sandbox.
+pub fn is_free(layout: &Layout, cell: u32) -> bool {
+    let sandbox = layout.low..=layout.high;
+    let table = layout.table..layout.table + EVENTS * layout.states;
+    let landings = layout.landings..layout.landings + LANDING_CELLS;
+    !sandbox.contains(&cell)
+        && !table.contains(&cell)
+        && !landings.contains(&cell)
+        && cell != layout.cell
 }
 
 /// A record with any numbers, the status too.
@@ -382,7 +394,7 @@ pub fn bytes_of(words: &[u64]) -> Vec<u8> {
 
 /// The commands of a right routine.
 pub fn rewritten(layout: &Layout, words: &[u64]) -> Vec<u64> {
-    let mut list = vec![0; BUNDLE_LENGTH * bundle_count(words.len())];
+    let mut list = vec![0; BUNDLE_LENGTH * bundles(words.len())];
     let size = list.len() as u32;
     let answer = model::rewrite(layout, words, &mut list);
     assert_eq!(answer, Answer::Taken(size));
@@ -565,7 +577,7 @@ pub fn shaped_bundle(rng: &mut Rng, layout: &Layout, bundles: usize) -> [u64; BU
             Shl { d: HIDDEN, a: d, v: 2 },
             AndI { d: HIDDEN, a: HIDDEN, v: at(4 * bundles - 1) },
             OrI { d: HIDDEN, a: HIDDEN, v: at(0) },
-            GoXR { d: HIDDEN, a, b, c },
+            GoReg { d: HIDDEN, a, b, c },
         ],
         _ => [
             Look { d: HIDDEN, v: event },
@@ -589,7 +601,7 @@ pub fn shaped_list(rng: &mut Rng, layout: &Layout, bundles: usize) -> Vec<u64> {
 /// A right layout and a routine that fits under it.
 pub fn layout_and_routine(rng: &mut Rng) -> (Layout, Vec<u64>) {
     let n = length(rng);
-    let layout = right_layout(rng, bundle_count(n));
+    let layout = right_layout(rng, bundles(n));
     let words = routine(rng, &layout, n);
     (layout, words)
 }

@@ -15,7 +15,7 @@ use hemdroas::{Answer, Ending, Record};
 /// and run.
 fn at_base(tally: &mut Tally, rng: &mut Rng, bundles: usize, base: u32) {
     let size = 4 * bundles as u32;
-    let fits = base % size == 0;
+    let fits = base.is_multiple_of(size);
     let refusal = if fits { 0 } else { 13 };
     let mut layout = right_layout(rng, bundles);
     layout.base = base;

@@ -19,23 +19,21 @@ pub fn install(
     record: Record,
 ) -> (Answer, Record) {
     let before = memory.clone();
-    let mut expected = record;
-    let answer = model::install_record(layout, policy, landings, memory, &mut expected);
+    let (answer, machine) = model::install(layout, policy, landings, memory);
     let input = || format!("{policy:?} and {landings:?} under {layout:?}");
 
     let (mut cells, mut given) = (before.clone(), record);
     let theirs = native::install_record(layout, policy, landings, &mut cells, &mut given);
     assert_eq!(theirs, answer, "installing {}", input());
-    assert_eq!(given, expected, "record of {}", input());
+    assert_eq!(given, machine.to_record(), "record of {}", input());
     assert_eq!(cells, *memory, "memory of {}", input());
 
     let mut cells = before;
-    let (theirs, machine) = quick::install(layout, policy, landings, &mut cells);
-    let given = machine.to_record();
-    let agrees = (theirs, given, &cells) == (answer, expected, memory);
-    assert!(agrees, "the baseline installing {}", input());
+    let theirs = quick::install(layout, policy, landings, &mut cells);
+    let expected = ((answer, machine), &*memory);
+    assert_eq!((theirs, &cells), expected, "the baseline, {}", input());
     tally.count("install", answer.number());
-    (answer, expected)
+    (answer, given)
 }
 
 /// What is installed where, and in how many cells.

@@ -117,7 +117,7 @@ fn jumps() {
         let length = rng.between(1, 12);
         let at = rng.below(length);
         let mut list = vec![Command::Nop.word(); length];
-        list[at] = Command::GoXR { d, a, b, c }.word();
+        list[at] = Command::GoReg { d, a, b, c }.word();
 
         let mut record = Record([0; Record::LENGTH]);
         for register in &mut record.0[..REGISTERS] {

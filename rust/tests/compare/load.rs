@@ -5,7 +5,7 @@ use crate::common::inputs::{
 };
 use crate::common::{cases, Tally};
 use crate::install::{some_installation, Installation};
-use hemdroas::model::{self, bundle_count};
+use hemdroas::model::{self, bundles};
 use hemdroas::names::MOST_INSTRUCTIONS;
 use hemdroas::{native, Answer, Layout, Policy, Record};
 
@@ -29,35 +29,34 @@ pub fn load(
     bytes: &[u8],
     lent: &Lent,
 ) -> Answer {
-    let load = |load: Load, mut lent: Lent| {
-        let Lent {
-            commands,
-            memory,
-            record,
-        } = &mut lent;
-        let answer = load(layout, policy, landings, bytes, commands, memory, record);
-        (answer, lent)
-    };
-    let (answer, left) = load(model::load_record, lent.clone());
-    let (given, theirs) = load(native::load_record, lent.clone());
+    let mut left = lent.clone();
+    let (commands, memory) = (&mut left.commands, &mut left.memory);
+    let (answer, machine) = model::load(layout, policy, landings, bytes, commands, memory);
+    left.record = machine.to_record();
+
+    let mut theirs = lent.clone();
+    let Lent {
+        commands,
+        memory,
+        record,
+    } = &mut theirs;
+    let given = native::load_record(layout, policy, landings, bytes, commands, memory, record);
     let input = || format!("{bytes:02x?}, {policy:?} and {landings:?} under {layout:?}");
     assert_eq!(given, answer, "loading {}", input());
     assert_eq!(theirs, left, "what was lent to the load of {}", input());
-    if answer.number() == 7 && model::is_right(layout) {
+    if answer.number() == 7 && model::layout_right(layout) {
         tally.note("loads refused for the memory alone", 1);
     }
     tally.count("load", answer.number());
     answer
 }
 
-type Load = fn(&Layout, &Policy, &[u32], &[u8], &mut [u64], &mut [u32], &mut Record) -> Answer;
-
 #[test]
 fn loading() {
     let (mut tally, mut rng) = Tally::new("loading", 8);
     for _ in 0..cases(30_000) {
         let bytes = some_bytes(&mut rng);
-        let bundles = bundle_count(announced(&bytes).min(MOST_INSTRUCTIONS));
+        let bundles = bundles(announced(&bytes).min(MOST_INSTRUCTIONS));
         let mut layout = right_layout(&mut rng, bundles);
         if rng.chance(10) {
             layout.base = base_for(&mut rng, 1);

@@ -4,7 +4,7 @@
 //!
 //! Each part has a file: the comparison of its function, which other parts call
 //! too, and its cases. It asks that every number that the function can answer
-//! has been seen.
+//! has been seen. Isolation by running stands beside them.
 
 #[path = "../common/mod.rs"]
 mod common;
@@ -15,6 +15,7 @@ mod bases;
 mod befores;
 mod check;
 mod install;
+mod isolation;
 mod landings;
 mod layouts;
 mod load;

@@ -5,7 +5,7 @@ use crate::common::inputs::{altered_layout, damaged_routine, length, output, rig
 use crate::common::{cases, Tally};
 use crate::quick;
 use crate::write::each_bit_of_an_instruction;
-use hemdroas::model::{self, bundle_count};
+use hemdroas::model::{self, bundles};
 use hemdroas::{native, Answer, Layout};
 
 const NUMBERS: [u32; 9] = [0, 2, 3, 4, 5, 7, 8, 9, 13];
@@ -40,14 +40,14 @@ fn rewriting() {
     }
     for _ in 0..cases(20_000) {
         let n = length(&mut rng);
-        let mut layout = right_layout(&mut rng, bundle_count(n));
+        let mut layout = right_layout(&mut rng, bundles(n));
         let words = damaged_routine(&mut rng, &layout, n);
         match rng.below(12) {
             0 => layout = altered_layout(&mut rng, &layout),
             1 => layout.base ^= 1 << rng.below(13),
             _ => {}
         }
-        let room = room(&mut rng, 4 * bundle_count(n));
+        let room = room(&mut rng, 4 * bundles(n));
         let commands = output(&mut rng, room);
         let (answer, commands) = rewrite(&mut tally, &layout, &words, &commands);
         if let Answer::Taken(size) = answer {

@@ -2,15 +2,15 @@
 
 use crate::check::check;
 use crate::common::inputs::{
-    altered_layout, any_command, any_record, damage_word, landings, layout_and_routine, number,
-    policy, rewritten, right_layout, shaped_list,
+    altered_layout, any_command, any_record, damage_word, is_free, landings, layout_and_routine,
+    number, policy, rewritten, right_layout, shaped_list,
 };
 use crate::common::{cases, Rng, Tally};
 use crate::install::install;
 use crate::quick;
 use hemdroas::model::{self, Command};
-use hemdroas::names::{EVENTS, LANDING_CELLS, MOST_CELLS, REGISTERS};
-use hemdroas::{native, Answer, Ending, Layout, Record, RunAnswer};
+use hemdroas::names::{EVENTS, MOST_CELLS, REGISTERS};
+use hemdroas::{native, Answer, Ending, Layout, Machine, Record, RunAnswer};
 
 const NUMBERS: [u32; 8] = [7, 20, 21, 22, 23, 24, 25, 26];
 
@@ -22,33 +22,7 @@ pub struct Lent {
     pub log: Vec<u32>,
 }
 
-type Run = fn(&Layout, &[u64], &mut Record, &mut [u32], u32, &[u32], &mut [u32]) -> RunAnswer;
-
-/// The baseline's run, on a record.
-fn quick_run(
-    layout: &Layout,
-    commands: &[u64],
-    record: &mut Record,
-    memory: &mut [u32],
-    budget: u32,
-    readings: &[u32],
-    log: &mut [u32],
-) -> RunAnswer {
-    let mut machine = record.to_machine();
-    let answer = quick::run(
-        layout,
-        commands,
-        &mut machine,
-        memory,
-        budget,
-        readings,
-        log,
-    );
-    if answer.ending != Ending::Refused {
-        *record = machine.to_record();
-    }
-    answer
-}
+type Run = fn(&Layout, &[u64], &mut Machine, &mut [u32], u32, &[u32], &mut [u32]) -> RunAnswer;
 
 /// Runs, and before that previews, what is lent. A preview is 'equal to a run
 /// on a copy of memory and record'; 'the real memory and record remain
@@ -61,25 +35,32 @@ pub fn run(
     budget: u32,
     readings: &[u32],
 ) -> RunAnswer {
-    let run = |run: Run, mut lent: Lent| {
-        let Lent {
-            record,
-            memory,
-            log,
-        } = &mut lent;
-        let answer = run(layout, commands, record, memory, budget, readings, log);
+    let run_copy = |run: Run| {
+        let mut lent = lent.clone();
+        let (memory, log) = (&mut lent.memory, &mut lent.log);
+        let answer = lent
+            .record
+            .run(|machine| run(layout, commands, machine, memory, budget, readings, log));
         (answer, lent)
     };
-    let (answer, left) = run(model::run_record, lent.clone());
-    for other in [native::run_record, quick_run] {
-        let (given, theirs) = run(other, lent.clone());
-        let input = || {
-            let record = lent.record;
-            format!("{commands:x?} from {record:?} under {layout:?}, {budget}, {readings:?}")
-        };
-        assert_eq!(given, answer, "running {}", input());
-        assert_eq!(theirs, left, "what was lent to {}", input());
-    }
+    let input = || {
+        let record = lent.record;
+        format!("{commands:x?} from {record:?} under {layout:?}, {budget}, {readings:?}")
+    };
+    let (answer, left) = run_copy(model::run);
+    let (given, theirs) = run_copy(quick::run);
+    assert_eq!(given, answer, "the baseline running {}", input());
+    assert_eq!(theirs, left, "what the baseline was lent for {}", input());
+
+    let mut theirs = lent.clone();
+    let Lent {
+        record,
+        memory,
+        log,
+    } = &mut theirs;
+    let given = native::run_record(layout, commands, record, memory, budget, readings, log);
+    assert_eq!(given, answer, "running {}", input());
+    assert_eq!(theirs, left, "what was lent to {}", input());
 
     let mut seen = lent.clone();
     let mut after = Record([0xc0ff_ee00; Record::LENGTH]);
@@ -93,7 +74,7 @@ pub fn run(
         &mut seen.log,
         &mut after,
     );
-    assert_eq!(given, answer, "previewing {commands:x?} under {layout:?}");
+    assert_eq!(given, answer, "previewing {}", input());
     assert_eq!((after, &seen.log), (left.record, &left.log), "previewed");
     assert_eq!(seen.record, lent.record, "a preview keeps the record");
     assert_eq!(seen.memory, lent.memory, "a preview keeps the memory");
@@ -320,17 +301,6 @@ fn long_memories(tally: &mut Tally, rng: &mut Rng) {
         assert_eq!(answer.ending == Ending::Refused, long);
         tally.note("memories of more than 4,096 cells", u64::from(long));
     }
-}
-
-/// Whether a cell is neither protected nor in the sandbox.
-fn is_free(layout: &Layout, cell: u32) -> bool {
-    let sandbox = layout.low..=layout.high;
-    let table = layout.table..layout.table + EVENTS * layout.states;
-    let landings = layout.landings..layout.landings + LANDING_CELLS;
-    !sandbox.contains(&cell)
-        && !table.contains(&cell)
-        && !landings.contains(&cell)
-        && cell != layout.cell
 }
 
 /// Passed lists, installed and run several times, with the host writing free

@@ -1,10 +1,10 @@
 //! The sample tray and the `trial` sample of the rules, on the model.
 
-mod common;
-
-use common::inputs::{all_landings, trial_policy, SomePolicy, SAMPLE, TRIAL, TRIAL_READINGS};
+use crate::common::inputs::{
+    all_landings, trial_policy, SomePolicy, SAMPLE, TRIAL, TRIAL_READINGS,
+};
 use hemdroas::model::{
-    bundle_count, check, install, is_right, mask, read, rewrite, run, write, Command, Instr,
+    bundles, check, install, layout_right, mask, read, rewrite, run, write, Command, Instr,
 };
 use hemdroas::names::{HIDDEN, REGISTERS};
 use hemdroas::{Answer, Ending, Layout, Machine, Refusal, RunAnswer};
@@ -12,8 +12,8 @@ use hemdroas::{Answer, Ending, Layout, Machine, Refusal, RunAnswer};
 fn sandbox(low: u32, high: u32) -> Layout {
     Layout {
         size: 1024,
-        low: low,
-        high: high,
+        low,
+        high,
         cell: 0,
         table: 16,
         states: 1,
@@ -44,8 +44,8 @@ fn a_sandbox_is_one_aligned_power_of_two() {
         size: 64,
         ..sandbox(8, 15)
     };
-    assert!(is_right(&fitting));
-    assert!(!is_right(&Layout {
+    assert!(layout_right(&fitting));
+    assert!(!layout_right(&Layout {
         high: 13,
         ..fitting
     }));
@@ -63,7 +63,7 @@ fn a_layout_is_right_up_to_each_of_its_bounds() {
         base: 0,
         landings: 17,
     };
-    assert!(is_right(&right));
+    assert!(layout_right(&right));
     let wrong = [
         Layout { size: 49, ..right },
         Layout {
@@ -111,14 +111,14 @@ fn a_layout_is_right_up_to_each_of_its_bounds() {
         },
     ];
     for layout in wrong {
-        assert!(!is_right(&layout), "{layout:?}");
+        assert!(!layout_right(&layout), "{layout:?}");
     }
     // No code base makes a layout wrong, an odd one neither.
     for base in [1, 65_532, 65_535, 65_536, 65_537, u32::MAX - 3, u32::MAX] {
-        assert!(is_right(&Layout { base, ..right }));
+        assert!(layout_right(&Layout { base, ..right }));
     }
     // The largest of all.
-    assert!(is_right(&Layout {
+    assert!(layout_right(&Layout {
         size: 4096,
         low: 2048,
         high: 4095,
@@ -139,7 +139,7 @@ fn perform(
     budget: u32,
 ) -> ([u32; REGISTERS], u32, RunAnswer) {
     let words: Vec<u64> = routine.iter().map(|instr| instr.word()).collect();
-    let mut commands = vec![0; 4 * bundle_count(words.len())];
+    let mut commands = vec![0; 4 * bundles(words.len())];
     assert_eq!(
         rewrite(layout, &words, &mut commands),
         Answer::Taken(commands.len() as u32)
@@ -279,7 +279,7 @@ fn a_field_that_is_zero_is_absent() {
 
 #[test]
 fn bundles_are_the_smallest_power_of_two_above() {
-    assert_eq!([0, 255, 256, 1023].map(bundle_count), [1, 256, 512, 1024]);
+    assert_eq!([0, 255, 256, 1023].map(bundles), [1, 256, 512, 1024]);
     let mut commands = [7; 5];
     assert_eq!(
         rewrite(&sandbox(256, 511), &[], &mut commands),

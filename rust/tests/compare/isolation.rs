@@ -3,42 +3,15 @@
 //! as installed, the state cell follows the policy, and nothing that the list
 //! does depends on the free cells or on what the logs held before.
 
-mod common;
-
-use common::inputs::{
-    altered_layout, any_command, damage_word, landings, layout_and_routine, policy, shaped_bundle,
-    shaped_list, SomePolicy,
+use crate::common::inputs::{
+    altered_layout, any_command, damage_word, is_free, landings, layout_and_routine, policy,
+    shaped_bundle, shaped_list, SomePolicy,
 };
-use common::{cases, say, seed, Rng};
-use hemdroas::model::{bundle_count, Command};
+use crate::common::{cases, say, seed, Rng};
+use hemdroas::model::{bundles, Command};
 use hemdroas::names::{CELL_BITS, EVENTS, LANDING_CELLS, NO_ARROW};
 use hemdroas::native::{check, install, rewrite, run};
 use hemdroas::{Answer, Ending, Layout, Machine, RunAnswer, Status};
-
-#[derive(PartialEq, Eq, Clone, Copy)]
-enum Zone {
-    Sandbox,
-    State,
-    Table,
-    Landings,
-    Free,
-}
-
-fn zone(layout: &Layout, cell: usize) -> Zone {
-    let cell = cell as u32;
-    let table = layout.table..layout.table + EVENTS * layout.states;
-    if (layout.low..=layout.high).contains(&cell) {
-        Zone::Sandbox
-    } else if cell == layout.cell {
-        Zone::State
-    } else if table.contains(&cell) {
-        Zone::Table
-    } else if (layout.landings..layout.landings + LANDING_CELLS).contains(&cell) {
-        Zone::Landings
-    } else {
-        Zone::Free
-    }
-}
 
 /// What one run is given; budgets, readings and log lengths are the same in
 /// both worlds.
@@ -117,14 +90,10 @@ fn world(
         );
         let written = 2 * answer.pairs as usize;
         assert_eq!(log[written..], old[written..], "the log past its pairs");
-        for (cell, (&is, &was)) in memory.iter().zip(&canaries).enumerate() {
-            if matches!(
-                zone(layout, cell),
-                Zone::Free | Zone::Table | Zone::Landings
-            ) {
-                assert_eq!(is, was, "cell {cell} under {layout:?}, list {list:x?}");
-            }
-        }
+        // All but sandbox and state cell is as it was.
+        canaries[inside.clone()].copy_from_slice(&memory[inside.clone()]);
+        canaries[layout.cell as usize] = memory[layout.cell as usize];
+        assert_eq!(memory, canaries, "under {layout:?}, list {list:x?}");
         assert_ne!(answer.ending, Ending::Fault, "a passed list never faults");
 
         // The recorded events are allowed, and the state cell is where they
@@ -162,10 +131,10 @@ fn world(
 
         // The host writes free cells, in each world others.
         for _ in 0..rng.below(8) {
-            let cell = rng.below(layout.size as usize);
-            if zone(layout, cell) == Zone::Free {
-                memory[cell] = rng.word();
-                canaries[cell] = memory[cell];
+            let cell = rng.under(layout.size);
+            if is_free(layout, cell) {
+                memory[cell as usize] = rng.word();
+                canaries[cell as usize] = memory[cell as usize];
             }
         }
     }
@@ -231,7 +200,7 @@ impl Tally {
 }
 
 fn rewritten(layout: &Layout, words: &[u64]) -> Vec<u64> {
-    let mut list = vec![0; 4 * bundle_count(words.len())];
+    let mut list = vec![0; 4 * bundles(words.len())];
     let size = list.len() as u32;
     assert_eq!(rewrite(layout, words, &mut list), Answer::Taken(size));
     list
@@ -264,7 +233,7 @@ fn whatever_layout_is_taken_isolates() {
             continue;
         }
         tried += 1;
-        let mut list = vec![0; 4 * bundle_count(words.len())];
+        let mut list = vec![0; 4 * bundles(words.len())];
         if rewrite(&layout, &words, &mut list).is_taken() {
             taken += 1;
             assert_eq!(check(&layout, &list), Answer::Taken(0));
@@ -315,7 +284,7 @@ fn mutated_lists_that_pass_are_isolated() {
         let mut list = if rng.chance(70) {
             rewritten(&layout, &words)
         } else {
-            shaped_list(&mut rng, &layout, bundle_count(words.len()))
+            shaped_list(&mut rng, &layout, bundles(words.len()))
         };
         let original = list.clone();
         for _ in 0..60 {

@@ -1,10 +1,8 @@
 //! The guest rule against rewriting, checking, installing and running, on the
 //! model: they agree at each first command of a bundle and at every end.
 
-mod common;
-
-use common::inputs::{landings, layout_and_routine, policy, rewritten};
-use common::{cases, say, seed, Rng};
+use crate::common::inputs::{landings, layout_and_routine, policy, rewritten};
+use crate::common::{cases, say, seed, Rng};
 use hemdroas::model::{check, install, run, Guest};
 use hemdroas::names::{BUNDLE_LENGTH, GUEST_REGISTERS};
 use hemdroas::{Answer, Ending, Layout, Machine, Status};
@@ -40,7 +38,7 @@ impl World<'_> {
                 self.records.push((log[0], log[1]));
             }
             let at = (self.machine.pc - self.layout.base) as usize;
-            if answer.ending != Ending::Spent || at % BUNDLE_LENGTH == 0 {
+            if answer.ending != Ending::Spent || at.is_multiple_of(BUNDLE_LENGTH) {
                 return;
             }
         }

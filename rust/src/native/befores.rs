@@ -1,0 +1,37 @@
+//! Policies from pairs of events.
+
+use super::answer;
+use crate::Made;
+
+#[rustfmt::skip]
+extern "C" {
+    fn hemdroas_befores(pairs: *const u8, n: usize, table: *mut u8, room: usize, made: *mut [u32; 4]);
+}
+
+fn made([number, place, states, never]: [u32; 4]) -> Made {
+    match u16::try_from(never) {
+        Ok(never) => Made {
+            answer: answer([number, place]),
+            states,
+            never,
+        },
+        Err(_) => panic!("the library answered {never}, which is no map of 16 events"),
+    }
+}
+
+/// Makes the policy of pairs of events, each first before its second: its table
+/// at the start of the one lent, its states, of which 0 is the start, and the
+/// events that it never allows.
+pub fn befores(pairs: &[u8], table: &mut [u8]) -> Made {
+    let mut four = [0; 4];
+    unsafe {
+        hemdroas_befores(
+            pairs.as_ptr(),
+            pairs.len(),
+            table.as_mut_ptr(),
+            table.len(),
+            &mut four,
+        );
+    }
+    made(four)
+}

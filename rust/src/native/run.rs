@@ -1,0 +1,114 @@
+//! Running, and looking ahead.
+
+use super::run_answer;
+use crate::{Layout, LayoutArray, Machine, Record, RunAnswer};
+
+#[rustfmt::skip]
+extern "C" {
+    fn hemdroas_run(layout: *const LayoutArray, commands: *const u64, n: usize, machine: *mut [u32; Record::LENGTH],
+                    memory: *mut u32, cells: usize, budget: u32, readings: *const u32, r: usize,
+                    log: *mut u32, g: usize, answer: *mut [u32; 4]);
+    fn hemdroas_preview(layout: *const LayoutArray, commands: *const u64, n: usize, machine: *const [u32; Record::LENGTH],
+                        memory: *const u32, cells: usize, budget: u32, readings: *const u32, r: usize,
+                        log: *mut u32, g: usize, after: *mut [u32; Record::LENGTH], answer: *mut [u32; 4]);
+}
+
+/// Runs a machine until it ends, pauses or has used up its budget of steps.
+pub fn run(
+    layout: &Layout,
+    commands: &[u64],
+    machine: &mut Machine,
+    memory: &mut [u32],
+    budget: u32,
+    readings: &[u32],
+    log: &mut [u32],
+) -> RunAnswer {
+    let mut record = machine.to_record();
+    let answer = run_record(layout, commands, &mut record, memory, budget, readings, log);
+    *machine = record.to_machine();
+    answer
+}
+
+/// [`run`] on a record of the C interface, whose status may be any number:
+/// one above all counts as faulted and comes back as 3, unless the run is refused.
+pub fn run_record(
+    layout: &Layout,
+    commands: &[u64],
+    record: &mut Record,
+    memory: &mut [u32],
+    budget: u32,
+    readings: &[u32],
+    log: &mut [u32],
+) -> RunAnswer {
+    let mut four = [0; 4];
+    unsafe {
+        hemdroas_run(
+            &layout.to_array(),
+            commands.as_ptr(),
+            commands.len(),
+            &mut record.0,
+            memory.as_mut_ptr(),
+            memory.len(),
+            budget,
+            readings.as_ptr(),
+            readings.len(),
+            log.as_mut_ptr(),
+            log.len(),
+            &mut four,
+        );
+    }
+    run_answer(four)
+}
+
+/// What [`run`] would answer and write to the log, and the machine that it
+/// would leave; machine and memory stay as they are.
+pub fn preview(
+    layout: &Layout,
+    commands: &[u64],
+    machine: &Machine,
+    memory: &[u32],
+    budget: u32,
+    readings: &[u32],
+    log: &mut [u32],
+) -> (RunAnswer, Machine) {
+    let record = machine.to_record();
+    let mut after = record;
+    let answer = preview_record(
+        layout, commands, &record, memory, budget, readings, log, &mut after,
+    );
+    (answer, after.to_machine())
+}
+
+/// [`preview`] with records of the C interface: `after` becomes what
+/// [`run_record`] would make of `record`.
+#[allow(clippy::too_many_arguments)]
+pub fn preview_record(
+    layout: &Layout,
+    commands: &[u64],
+    record: &Record,
+    memory: &[u32],
+    budget: u32,
+    readings: &[u32],
+    log: &mut [u32],
+    after: &mut Record,
+) -> RunAnswer {
+    let mut four = [0; 4];
+    unsafe {
+        hemdroas_preview(
+            &layout.to_array(),
+            commands.as_ptr(),
+            commands.len(),
+            &record.0,
+            memory.as_ptr(),
+            memory.len(),
+            budget,
+            readings.as_ptr(),
+            readings.len(),
+            log.as_mut_ptr(),
+            log.len(),
+            &mut after.0,
+            &mut four,
+        );
+    }
+    run_answer(four)
+}
