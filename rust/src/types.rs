@@ -185,89 +185,104 @@ impl Record {
     }
 }
 
-/// Why something was refused. It prints as the word of the rules' table.
-#[derive(Clone, Copy, Debug, PartialEq, Eq)]
-pub enum Refusal {
+/// The cases of a table of the rules, each with its number and its word.
+macro_rules! table {
+    ($(#[$about:meta])* $name:ident: $($(#[$when:meta])* $case:ident = $number:literal $word:literal,)*) => {
+        $(#[$about])*
+        #[derive(Clone, Copy, Debug, PartialEq, Eq)]
+        pub enum $name {
+            $($(#[$when])* $case = $number,)*
+        }
+
+        impl $name {
+            /// Every case, in the order of their numbers.
+            pub const ALL: &'static [$name] = &[$($name::$case,)*];
+
+            /// The number of the table.
+            pub fn number(self) -> u32 {
+                self as u32
+            }
+
+            /// The case of a number, if there is one.
+            pub fn from_number(number: u32) -> Option<Self> {
+                $name::ALL.iter().copied().find(|case| case.number() == number)
+            }
+        }
+
+        impl fmt::Display for $name {
+            fn fmt(&self, f: &mut fmt::Formatter<'_>) -> fmt::Result {
+                f.write_str(match self {
+                    $($name::$case => $word,)*
+                })
+            }
+        }
+    };
+}
+
+table! {
+    /// Why something was refused. It prints as the word of the rules' table.
+    Refusal:
     /// 1: bytes end early.
-    Short,
+    Short = 1 "short weight",
     /// 2: a map of 64 or more, a present field that is 0 or not the kind's, or
     /// a stray bit in a word.
-    Foreign,
+    Foreign = 2 "foreign matter",
     /// 3: a kind above 12.
-    UnknownKind,
+    UnknownKind = 3 "unknown variety",
     /// 4: a register, condition, shift or event out of its range.
-    OffRange,
+    OffRange = 4 "off grade",
     /// 5: more than 1,023 instructions.
-    Oversize,
+    Oversize = 5 "oversize",
     /// 6: bytes after the last instruction.
-    Trailing,
+    Trailing = 6 "overweight",
     /// 7: a layout that is not right, or a memory of another length.
-    BadLayout,
+    BadLayout = 7 "bad layout",
     /// 8: a jump behind the end of the routine.
-    BadLanding,
+    BadLanding = 8 "bad landing",
     /// 9: the output is too short.
-    SmallOutput,
+    SmallOutput = 9 "small hopper",
     /// 10: a policy that cannot be installed.
-    BadPolicy,
+    BadPolicy = 10 "bad policy",
     /// 11: a bundle of no allowed shape, or a last one that is not HALT.
-    BadBundle,
+    BadBundle = 11 "bad bundle",
     /// 12: not the commands of 1, 2, 4, ... 1,024 bundles.
-    BadCount,
+    BadCount = 12 "bad count",
     /// 13: a code base that is no multiple of the list's length.
-    BadBase,
+    BadBase = 13 "bad base",
     /// 14: landings that do not rise strictly, or one above 1,023.
-    BadLandings,
+    BadLandings = 14 "bad landing list",
+    /// 15: a policy that would have more than 16 states.
+    TooManyStates = 15 "too many states",
+    /// 16: a drawing with no start, a state count outside 1 to 16, the wrong
+    /// length, or a bit at or above the state count.
+    BadDrawing = 16 "bad drawing",
     /// 17: a pair with an event above 15 or without its partner, or more than
     /// four named events.
-    BadPair,
-    /// 18: a GOX, or a GOIF to its own or a lower instruction, in a routine or
-    /// list that is to finish always.
-    NotForward,
+    BadPair = 17 "bad pair",
+    /// 18: a GOX, or a GOIF to its own or a lower instruction.
+    NotForward = 18 "not forward",
 }
 
-impl Refusal {
-    /// Every refusal with its number and its word.
-    pub const TABLE: [(Refusal, u32, &'static str); 16] = [
-        (Refusal::Short, 1, "short weight"),
-        (Refusal::Foreign, 2, "foreign matter"),
-        (Refusal::UnknownKind, 3, "unknown variety"),
-        (Refusal::OffRange, 4, "off grade"),
-        (Refusal::Oversize, 5, "oversize"),
-        (Refusal::Trailing, 6, "overweight"),
-        (Refusal::BadLayout, 7, "bad layout"),
-        (Refusal::BadLanding, 8, "bad landing"),
-        (Refusal::SmallOutput, 9, "small hopper"),
-        (Refusal::BadPolicy, 10, "bad policy"),
-        (Refusal::BadBundle, 11, "bad bundle"),
-        (Refusal::BadCount, 12, "bad count"),
-        (Refusal::BadBase, 13, "bad base"),
-        (Refusal::BadLandings, 14, "bad landing list"),
-        (Refusal::BadPair, 17, "bad pair"),
-        (Refusal::NotForward, 18, "not forward"),
-    ];
-
-    fn row(self) -> (Refusal, u32, &'static str) {
-        let mut rows = Refusal::TABLE.into_iter();
-        rows.find(|row| row.0 == self)
-            .expect("each refusal has its row")
-    }
-
-    /// The number of the table.
-    pub fn number(self) -> u32 {
-        self.row().1
-    }
-
-    /// The refusal of a number, if there is one.
-    pub fn from_number(number: u32) -> Option<Self> {
-        let mut rows = Refusal::TABLE.into_iter();
-        rows.find(|row| row.1 == number).map(|row| row.0)
-    }
-}
-
-impl fmt::Display for Refusal {
-    fn fmt(&self, f: &mut fmt::Formatter<'_>) -> fmt::Result {
-        f.write_str(self.row().2)
-    }
+table! {
+    /// How a run came back. It prints as the word of the rules' table.
+    Ending:
+    /// 7: the run was refused, for its layout or its memory's length.
+    Refused = 7 "bad layout",
+    /// 20: the routine ended.
+    Done = 20 "ended",
+    /// 21: the policy had no arrow, and the routine was stopped.
+    NoArrow = 21 "no arrow",
+    /// 22: the machine faulted.
+    Fault = 22 "fault",
+    /// 23: the next event has no room in the log. The machine can go on.
+    LogFull = 23 "log full",
+    /// 24: the next event has no reading. The machine can go on.
+    Silent = 24 "probe silent",
+    /// 25: the budget is used up. The machine can go on.
+    Spent = 25 "spent",
+    /// 26: a jump through a register to no landing, and the routine was
+    /// stopped.
+    NoLanding = 26 "no landing",
 }
 
 /// The answer of every operation but running.
@@ -320,65 +335,6 @@ pub struct Made {
     pub states: u32,
     /// Bit e is set if no allowed word holds event e.
     pub never: u16,
-}
-
-/// How a run came back. It prints as the word of the rules' table.
-#[derive(Clone, Copy, Debug, PartialEq, Eq)]
-pub enum Ending {
-    /// 7: the run was refused, for its layout or its memory's length.
-    Refused,
-    /// 20: the routine ended.
-    Done,
-    /// 21: the policy had no arrow, and the routine was stopped.
-    NoArrow,
-    /// 22: the machine faulted.
-    Fault,
-    /// 23: the next event has no room in the log. The machine can go on.
-    LogFull,
-    /// 24: the next event has no reading. The machine can go on.
-    Silent,
-    /// 25: the budget is used up. The machine can go on.
-    Spent,
-    /// 26: a jump through a register to no landing, and the routine was
-    /// stopped.
-    NoLanding,
-}
-
-impl Ending {
-    /// Every ending with its number and its word.
-    pub const TABLE: [(Ending, u32, &'static str); 8] = [
-        (Ending::Refused, 7, "bad layout"),
-        (Ending::Done, 20, "ended"),
-        (Ending::NoArrow, 21, "no arrow"),
-        (Ending::Fault, 22, "fault"),
-        (Ending::LogFull, 23, "log full"),
-        (Ending::Silent, 24, "probe silent"),
-        (Ending::Spent, 25, "spent"),
-        (Ending::NoLanding, 26, "no landing"),
-    ];
-
-    fn row(self) -> (Ending, u32, &'static str) {
-        let mut rows = Ending::TABLE.into_iter();
-        rows.find(|row| row.0 == self)
-            .expect("each ending has its row")
-    }
-
-    /// The number of the table.
-    pub fn number(self) -> u32 {
-        self.row().1
-    }
-
-    /// The ending of a number, if there is one.
-    pub fn from_number(number: u32) -> Option<Self> {
-        let mut rows = Ending::TABLE.into_iter();
-        rows.find(|row| row.1 == number).map(|row| row.0)
-    }
-}
-
-impl fmt::Display for Ending {
-    fn fmt(&self, f: &mut fmt::Formatter<'_>) -> fmt::Result {
-        f.write_str(self.row().2)
-    }
 }
 
 /// The answer of a run. A refused run has three zeros beside its ending.

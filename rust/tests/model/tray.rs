@@ -387,3 +387,28 @@ fn a_refused_installation_yields_a_faulted_machine() {
     assert_eq!(memory, [5; 1024]);
     assert_eq!(machine, Machine::REFUSED);
 }
+
+#[test]
+fn refusals_and_endings_print_as_the_words_of_the_tables() {
+    let printed = |number: u32| match Refusal::from_number(number) {
+        Some(refusal) => refusal.to_string(),
+        None => Ending::from_number(number).map_or(String::new(), |ending| ending.to_string()),
+    };
+    assert_eq!(printed(1), "short weight");
+    assert_eq!(printed(4), "off grade");
+    assert_eq!(printed(9), "small hopper");
+    assert_eq!(printed(14), "bad landing list");
+    assert_eq!(printed(20), "ended");
+    assert_eq!(printed(24), "probe silent");
+    assert_eq!(printed(26), "no landing");
+    for number in Refusal::ALL.iter().map(|refusal| refusal.number()) {
+        assert_eq!(
+            Refusal::from_number(number).map(Refusal::number),
+            Some(number)
+        );
+    }
+    assert_eq!(
+        (Refusal::from_number(0), Ending::from_number(19)),
+        (None, None)
+    );
+}
