@@ -10,7 +10,7 @@ use common::inputs::{
 };
 use common::{cases, Rng, Tally};
 use hemdroas::model::words::fields;
-use hemdroas::model::{self, bundle_count, most_steps, Instr};
+use hemdroas::model::{self, most_steps, Instr};
 use hemdroas::names::{BUNDLE_LENGTH, MOST_INSTRUCTIONS};
 use hemdroas::{native, native_forward, Answer, Ending, Layout, Machine, Refusal, Status};
 
@@ -109,7 +109,7 @@ fn words_of_the_class() {
     }
     for _ in 0..cases(20_000) {
         let n = length(&mut rng);
-        let layout = right_layout(&mut rng, bundle_count(n));
+        let layout = right_layout(&mut rng, model::bundles(n));
         let mut words = if rng.chance(30) {
             damaged_routine(&mut rng, &layout, n)
         } else {
@@ -204,7 +204,7 @@ impl Loaded {
         let policy = policy(rng, layout.states, arrows);
         let landings = landings(rng);
         let bytes = bytes_of(words);
-        let mut commands = vec![0; BUNDLE_LENGTH * bundle_count(words.len())];
+        let mut commands = vec![0; BUNDLE_LENGTH * model::bundles(words.len())];
         let mut memory = rng.cells(layout.size as usize);
         let (answer, machine) = native::load(
             &layout,
@@ -274,7 +274,7 @@ fn some_routine(rng: &mut Rng) -> (Layout, Vec<u64>) {
     } else {
         length(rng)
     };
-    let layout = right_layout(rng, bundle_count(n));
+    let layout = right_layout(rng, model::bundles(n));
     let words = if rng.chance(20) {
         // No jump and no HALT: nothing is left out.
         let straight = Instr::Event { v: rng.under(8) }.word();
@@ -293,7 +293,7 @@ fn resumed_until_over() {
     let (mut tally, mut rng) = Tally::new("routines of the class, resumed", 23);
     for _ in 0..cases(6_000) {
         let (layout, words) = some_routine(&mut rng);
-        let most = most_steps(bundle_count(words.len()));
+        let most = most_steps(model::bundles(words.len()));
         let arrows = rng.pick(&[60, 100, 100]);
         let mut loaded = Loaded::new(&mut rng, &words, layout, arrows);
         assert_eq!(forward(&mut tally, &words), Answer::Taken(0));
@@ -348,7 +348,7 @@ fn over_at_once() {
     let (mut tally, mut rng) = Tally::new("routines of the class, at once", 24);
     for _ in 0..cases(4_000) {
         let (layout, words) = some_routine(&mut rng);
-        let bundles = bundle_count(words.len());
+        let bundles = model::bundles(words.len());
         let most = most_steps(bundles);
         let mut loaded = Loaded::new(&mut rng, &words, layout, 90);
         let mut steps = 0;

@@ -21,7 +21,7 @@ fn is_forward(place: usize, instr: Instr) -> bool {
 /// and only a GOX has a GOXR.
 fn is_forward_command(layout: &Layout, place: usize, word: u64) -> bool {
     match Command::of_word(word) {
-        Some(Command::GoXR { .. }) => false,
+        Some(Command::GoReg { .. }) => false,
         Some(Command::GoIf { v, .. }) => u64::from(v) > address(layout, place),
         _ => true,
     }
