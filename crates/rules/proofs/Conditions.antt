@@ -224,7 +224,7 @@ policy-facts lay pol e =
     record { states = eqb-true _ _ (t₀ .0); size = eqb-true _ _ (t₀ .1); start = ltb-true _ _ (t₁ .1); entries = t₂ .1 }
 
 -- an entry that is no 255 is a state
-entry : (s : ℕ) (bs : List ℕ) → entriesRight s bs ≡ true → (i : ℕ) → (getD bs i noArrow ≡ noArrow → ⊥) → getD bs i noArrow < s
+pub entry : (s : ℕ) (bs : List ℕ) → entriesRight s bs ≡ true → (i : ℕ) → (getD bs i noArrow ≡ noArrow → ⊥) → getD bs i noArrow < s
 entry s [] t i f = absurd (f refl)
 entry s (b ∷ bs) t zero f = ⊎-elim (λ l. ltb-true b s l) (λ e. absurd (f (eqb-true b noArrow e))) (either _ _ (both _ _ t .0))
 entry s (b ∷ bs) t (suc i) f = entry s bs (both (entryRight s b) (entriesRight s bs) t .1) i f
@@ -326,7 +326,7 @@ taken-of lay code room =
     record { right = r; most = ltb-false _ _ m; each = takes-each (judgeAt n) code 0 _ e; base = b }))) e))
 
 -- a jump below m is one below n
-grown : (m n : ℕ) (i : Instr) → m ≤ n → Valid m i → Valid n i
+pub grown : (m n : ℕ) (i : Instr) → m ≤ n → Valid m i → Valid n i
 grown m n HALT h v = tt
 grown m n (PLAIN k d a b x) h v = v
 grown m n (LOAD d a) h v = v

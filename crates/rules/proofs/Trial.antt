@@ -23,7 +23,7 @@ use Rattle.rules.proofs.Bools.{no}
 use Rattle.rules.proofs.Isolation.{isolation}
 
 -- a store to a free cell
-free-set : (mem : List ℕ) (i x : ℕ) → (inBox layout i || protected layout i) ≡ false → Matches layout (set mem i x) mem
+pub free-set : (mem : List ℕ) (i x : ℕ) → (inBox layout i || protected layout i) ≡ false → Matches layout (set mem i x) mem
 free-set mem i x f j s = getD-set-other mem i j x 0 (λ e. no (sym f ∙ ap (λ (k : ℕ). inBox layout k || protected layout k) (sym e) ∙ s))
 
 passed : checkAnswer layout commands .number ≡ 0

@@ -50,7 +50,7 @@ record Twin (lay : Layout) (s t : State) : Type 0 where
   logged : (i : ℕ) → i < 2 * s .pairs → getD (s .log) i 0 ≡ getD (t .log) i 0
 
 -- the same store into two lists of one length
-set-alike : (l l′ : List ℕ) (a i v : ℕ) → length l ≡ length l′ → ((i ≡ a → ⊥) → getD l i 0 ≡ getD l′ i 0) → getD (set l a v) i 0 ≡ getD (set l′ a v) i 0
+pub set-alike : (l l′ : List ℕ) (a i v : ℕ) → length l ≡ length l′ → ((i ≡ a → ⊥) → getD l i 0 ≡ getD l′ i 0) → getD (set l a v) i 0 ≡ getD (set l′ a v) i 0
 set-alike l l′ a i v n k =
     ⊎-elim
     (λ e.
@@ -68,7 +68,7 @@ set-alike l l′ a i v n k =
     getD-set-other l a i v 0 q ∙ k q ∙ sym (getD-set-other l′ a i v 0 q))
     (cases (eqb i a))
 
-pair-alike : (log log′ : List ℕ) (n e x i : ℕ) → length log ≡ length log′ → ((j : ℕ) → j < 2 * n → getD log j 0 ≡ getD log′ j 0) → i < 2 * (n + 1) → getD (withPair log n e x) i 0 ≡ getD (withPair log′ n e x) i 0
+pub pair-alike : (log log′ : List ℕ) (n e x i : ℕ) → length log ≡ length log′ → ((j : ℕ) → j < 2 * n → getD log j 0 ≡ getD log′ j 0) → i < 2 * (n + 1) → getD (withPair log n e x) i 0 ≡ getD (withPair log′ n e x) i 0
 pair-alike log log′ n e x i l h m =
     set-alike (set log (2 * n) e) (set log′ (2 * n) e) (2 * n + 1) i x (simp length-set l)
     (λ p. set-alike log log′ (2 * n) i e l (λ q. h i (omega arith)))
@@ -159,7 +159,7 @@ next-alike lay ws rd s mem log t f =
     rw (← t .long) (effect-alike lay (fetchOf ws (lay .base) (s .pc)) (s .regs) (s .mem) mem (s .pc) _ _ (t .size) (t .seen) f)
 
 -- ---- runs
-pairs-alike : (log log′ : List ℕ) (k : ℕ) → ((i : ℕ) → i < 2 * k → getD log i 0 ≡ getD log′ i 0) → pairsOf log k ≡ pairsOf log′ k
+pub pairs-alike : (log log′ : List ℕ) (k : ℕ) → ((i : ℕ) → i < 2 * k → getD log i 0 ≡ getD log′ i 0) → pairsOf log k ≡ pairsOf log′ k
 pairs-alike log log′ zero h = refl
 pairs-alike log log′ (suc k) h =
     let a = h (2 * k) (omega arith) in
