@@ -1,8 +1,18 @@
-// Cells of 32 bits: their arithmetic, and one cell set in a slice of them.
+// Cells of 32 bits: their arithmetic, and one cell read or set in a slice of them.
 pub mod arith;
 
 ghost use mathlib.Core.Path.{_≡_};
-ghost use lib.ListN.{set};
+ghost use lib.ListN.{getD, set};
+
+// A cell; 0 where there is none.
+pub fn peek(cells: &[u32], at: usize) -> u32
+    ensures { λ r. ⌜ r ≡ getD (now (cells .entry)) at 0 ⌝ }
+{
+    if at < cells.len() {
+        return cells[at];
+    }
+    0
+}
 
 // A cell set; nothing where there is none.
 pub fn poke(cells: &mut [u32], at: usize, x: u32)

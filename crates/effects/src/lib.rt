@@ -131,7 +131,7 @@ fn in_room(free: usize, e: Effect) -> Effect
 }
 
 // An event, or the pause before it: a silent probe comes before a full log.
-fn event(v: u32, free: usize, left: usize) -> Effect
+pub fn event(v: u32, free: usize, left: usize) -> Effect
     ensures { λ r. ⌜ r ≡ eventEffect v free left ⌝ }
 {
     if v < Policy::ORDERS {
