@@ -1,0 +1,43 @@
+-- A sample on the claims' premises: the routine of document 01's trial, in two runs of the engine with a refused one between.
+use Prim.Native.Nat.{ℕ}
+use mathlib.Core.Path.{_≡_}
+use mathlib.Core.List.{List, [], _∷_, map}
+use lib.ListN.{getD, set}
+use Rattle.rules.specs.declared.Answer.{Answer}
+use Rattle.rules.specs.Names.{answer}
+use Rattle.rules.specs.Words.{packOf}
+use Rattle.rules.specs.Machines.{installMemory}
+use Rattle.rules.specs.Guests.{pairOf}
+use Rattle.rules.specs.Runs.{Given}
+use Rattle.rules.specs.Sample.{layout, policy, code, memory, given, runs as machineRuns}
+use Rattle.engine_rules.specs.Engines.{refusalOf}
+use Rattle.engine_rules.specs.Claims.{atFirst, afterRun, after, Served, Beside, Run, allRuns, recordedIn}
+
+-- two instructions; a memory too short; a thousand, before which the host wrote x to the free cell 600
+abbrev pub firstRun : ℕ → Given
+firstRun x = given (installMemory layout policy (memory x)) 2 x
+
+abbrev pub left : ℕ → List ℕ
+left x = afterRun layout code (atFirst layout policy (memory x)) (firstRun x) .memory
+
+abbrev pub runs : ℕ → List Given
+runs x = firstRun x ∷ given [] 2 x ∷ given (set (left x) 600 x) 1000 x ∷ []
+
+abbrev pub answersIn : List Run → List Answer
+answersIn rs = map (λ r. r .ran .outcome .answer) rs
+
+abbrev pub countsIn : List Run → List ℕ
+countsIn rs = map (λ r. r .ran .outcome .steps) rs
+
+-- whatever x free cells and logs held, the runs are on the premise, beside the machine's runs of the same routine; four instructions in all,
+-- and the last run stops where gas has no arrow
+pub record SampleHolds : Type 0 where
+  pub served : (x : ℕ) → Served layout policy code (memory x) (runs x)
+  pub beside : (x y : ℕ) → Beside layout policy code (memory x) 32 (machineRuns x) (runs x)
+  pub answers : (x : ℕ) → answersIn (allRuns layout policy code (memory x) (runs x)) ≡ answer 25 0 ∷ answer 7 0 ∷ answer 21 0 ∷ []
+  pub counted : (x : ℕ) → countsIn (allRuns layout policy code (memory x) (runs x)) ≡ 2 ∷ 0 ∷ 2 ∷ []
+  pub recorded : (x : ℕ) → recordedIn (allRuns layout policy code (memory x) (runs x)) ≡ pairOf 0 70 ∷ pairOf 2 70 ∷ []
+  pub state : (x : ℕ) → getD (after layout policy code (memory x) (runs x) .memory) (layout .cell) 0 ≡ 1
+  -- a kind above 12 in the second word, and a landing beyond
+  pub unknown : refusalOf layout (packOf 1 0 0 0 0 70 ∷ packOf 13 0 0 0 0 0 ∷ []) (memory 0) ≡ answer 3 1
+  pub landing : refusalOf layout (packOf 10 0 0 0 0 2 ∷ []) (memory 0) ≡ answer 8 0

@@ -1,0 +1,37 @@
+// The types of request 5's engine, which runs guest words directly under the guest rule; its definitions and claims are in specs/.
+use rules::Answer;
+use rules::Status;
+ghost use mathlib.Core.Path.{_≡_};
+ghost use Rattle.engine_rules.specs.Engines.{engineFirst};
+
+// The engine's record: r0 to r7, the index of the next instruction, the status.
+pub struct Engine {
+    pub regs: [u32; 8],
+    pub at: u32,
+    pub status: Status,
+}
+
+impl Engine {
+    pub const REGISTERS: usize = 8;
+
+    // The record at first: zeros and running.
+    pub fn new() -> Engine
+        ensures { λ r. ⌜ r ≡ engineFirst ⌝ }
+    {
+        Engine {
+            regs: [0; 8],
+            at: 0,
+            status: Status::Running,
+        }
+    }
+}
+
+// What a run of the engine answers and the record that it leaves: a refusal's number and place, or the ending's number;
+// the instructions counted, the pairs recorded and the readings used.
+pub struct EngineOutcome {
+    pub engine: Engine,
+    pub answer: Answer,
+    pub steps: u32,
+    pub pairs: usize,
+    pub used: usize,
+}
