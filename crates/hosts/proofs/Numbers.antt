@@ -14,7 +14,7 @@ use Rattle.hosts.specs.Numbers.{numbersFrom, statusFrom, machineFrom, ma
 
 -- ---- arrays
 
-spelt : (n i : ℕ) (xs : List ℕ) → i + n ≤ length xs → take n (drop i xs) ≡ numbersFrom n i xs
+pub spelt : (n i : ℕ) (xs : List ℕ) → i + n ≤ length xs → take n (drop i xs) ≡ numbersFrom n i xs
 spelt zero i xs h = refl
 spelt (suc n) i xs h = ap (take (suc n)) (drop-cons xs i 0 (omega arith)) ∙ ap (λ (r : List ℕ). getD xs i 0 ∷ r) (spelt n (suc i) xs (omega arith))
 

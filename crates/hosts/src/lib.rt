@@ -30,7 +30,7 @@ pub fn layout_of(xs: &[u32; 16]) -> Layout
 }
 
 // A status; any number above 4 counts as faulted.
-fn status_of(x: u32) -> Status
+pub fn status_of(x: u32) -> Status
     ensures { λ r. ⌜ r ≡ statusFrom x ⌝ }
 {
     match x {
@@ -42,7 +42,7 @@ fn status_of(x: u32) -> Status
     }
 }
 
-fn status_number(t: Status) -> u32
+pub fn status_number(t: Status) -> u32
     ensures { λ r. ⌜ r ≡ statusNumber t ⌝ }
 {
     match t {

@@ -1,0 +1,76 @@
+// The engine for a C host: its record and answer as numbers.
+use engine_rules::Engine;
+use hosts::layout_of;
+use hosts::status_number;
+use hosts::status_of;
+use rules::Answer;
+ghost use mathlib.Core.Path.{_≡_};
+ghost use mathlib.Core.List.{[], _∷_};
+ghost use Prim.Native.Nat.{_<_, _^_};
+ghost use Rattle.capi_engine.specs.Records.{engineFrom, engineTo, runFor, recordAfter as recordAfterOf, answerTo};
+
+// A record's engine.
+fn engine_of(xs: [u32; 10]) -> Engine
+    ensures { λ r. ⌜ r ≡ engineFrom xs ⌝ }
+{
+    let regs = [xs[0], xs[1], xs[2], xs[3], xs[4], xs[5], xs[6], xs[7]];
+    let status = status_of(xs[9]);
+    Engine {
+        regs,
+        at: xs[8],
+        status,
+    }
+}
+
+// An engine's record.
+fn record_of(m: Engine) -> [u32; 10]
+    ensures { λ r. ⌜ r ≡ engineTo m ⌝ }
+{
+    let r = m.regs;
+    let t = m.status;
+    let status = status_number(t);
+    [r[0], r[1], r[2], r[3], r[4], r[5], r[6], r[7], m.at, status]
+}
+
+// The record after a run. One that is not running keeps its numbers: so a status that stands for none comes back as it was.
+fn record_after(m: Engine, xs: [u32; 10]) -> [u32; 10]
+    ensures { λ r. ⌜ r ≡ recordAfterOf xs m ⌝ }
+{
+    let status = xs[9];
+    if status == 0 {
+        return record_of(m);
+    }
+    xs
+}
+
+fn answer_of(a: Answer, steps: u32, pairs: usize, used: usize) -> [u32; 5]
+    requires { ⌜ (a .place < 2 ^ 32) × (pairs < 2 ^ 32) × (used < 2 ^ 32) ⌝ }
+    ensures { λ r. ⌜ r ≡ a .number ∷ a .place ∷ steps ∷ pairs ∷ used ∷ [] ⌝ }
+{
+    [a.number as u32, a.place as u32, steps, pairs as u32, used as u32]
+}
+
+// Runs guest words as they are written.
+#[no_mangle]
+pub extern "C" fn hemdroas_engine(
+    layout: &[u32; 8],
+    words: &[u64],
+    engine: &mut [u32; 10],
+    memory: &mut [u32],
+    budget: u32,
+    readings: &[u32],
+    log: &mut [u32],
+    answer: &mut [u32; 5],
+)
+    ensures answer { λ _. ⌜ now (answer .exit) ≡ answerTo (runFor (now (layout .entry)) (now (words .entry)) (now (engine .entry)) (now (memory .entry)) budget (now (readings .entry)) (now (log .entry)) .outcome) ⌝ }
+    ensures engine { λ _. ⌜ now (engine .exit) ≡ recordAfterOf (now (engine .entry)) (runFor (now (layout .entry)) (now (words .entry)) (now (engine .entry)) (now (memory .entry)) budget (now (readings .entry)) (now (log .entry)) .outcome .engine) ⌝ }
+    ensures memory { λ _. ⌜ now (memory .exit) ≡ runFor (now (layout .entry)) (now (words .entry)) (now (engine .entry)) (now (memory .entry)) budget (now (readings .entry)) (now (log .entry)) .mem ⌝ }
+    ensures log { λ _. ⌜ now (log .exit) ≡ runFor (now (layout .entry)) (now (words .entry)) (now (engine .entry)) (now (memory .entry)) budget (now (readings .entry)) (now (log .entry)) .log ⌝ }
+{
+    let lay = layout_of(layout);
+    let given = *engine;
+    let m = engine_of(given);
+    let out = engine::run(lay, words, m, memory, budget, readings, log);
+    *engine = record_after(out.engine, given);
+    *answer = answer_of(out.answer, out.steps, out.pairs, out.used);
+}
