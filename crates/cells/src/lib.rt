@@ -8,10 +8,10 @@ ghost use lib.ListN.{getD, set};
 pub fn peek(cells: &[u32], at: usize) -> u32
     ensures { λ r. ⌜ r ≡ getD (now (cells .entry)) at 0 ⌝ }
 {
-    if at < cells.len() {
-        return cells[at];
+    if at >= cells.len() {
+        return 0;
     }
-    0
+    cells[at]
 }
 
 // A cell set; nothing where there is none.

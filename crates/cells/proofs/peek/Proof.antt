@@ -10,7 +10,7 @@ pub peek-spec : {M : Type 1} → statement M
 peek-spec =
     tie.close
     (tie.spec
+    (λ c. sym (List·getD-eq-default (now (c .before .args .cells)) 0 {n = c .before .args .at} (omega arith)))
     (λ c. search needs)
     (λ c. search needs)
-    (λ c. search needs)
-    (λ c. sym (List·getD-eq-default (now (c .before .args .cells)) 0 {n = c .before .args .at} (omega arith))))
+    (λ c. search needs))
