@@ -1,9 +1,17 @@
 #!/usr/bin/env bash
-# ns a step of the proved machine beside the same rules in C: bench/run.sh [ROUNDS]
+# ns a step of the proved machine beside the same rules in C, then ns an instruction of the proved engine beside the
+# same engine in C and Rust, the machine, and, where lua5.4 is installed, the same turn in Lua: bench/run.sh [ROUNDS]
 set -euo pipefail
 cd "$(dirname "$0")/.."
 rt staticlib capi > /dev/null
+rt staticlib capi_engine > /dev/null
 mkdir -p target/bench
 for o in O2 O3; do gcc -$o -DRUN=run_$o -c bench/machine.c -o target/bench/machine_$o.o; done
 gcc -O2 -Wall -Wextra -Iinclude bench/main.c target/bench/machine_O2.o target/bench/machine_O3.o target/staticlib/libcapi.a -o target/bench/bench
-exec target/bench/bench "$@"
+for o in O2 O3; do gcc -$o -DRUN=engine_$o -c bench/engine.c -o target/bench/engine_$o.o; done
+rustc -O -C panic=abort bench/engine.rs -o target/bench/libengine_rust.a
+gcc -O2 -Wall -Wextra -Iinclude bench/engines.c target/bench/engine_O2.o target/bench/engine_O3.o target/bench/libengine_rust.a \
+    target/staticlib/libcapi_engine.a target/staticlib/libcapi.a -o target/bench/engines
+target/bench/bench "$@"
+target/bench/engines "$@"
+if command -v lua5.4 > /dev/null; then lua5.4 bench/turn.lua; fi

@@ -10,7 +10,7 @@
  *
  * Buffers. Each pointer comes with the number of its elements, and no call
  * reaches past it. The buffers of one call must not overlap, nor overlap the
- * layout, machine, after, answer or made arrays, which are apart from each
+ * layout, machine, engine, after, answer or made arrays, which are apart from each
  * other too. No call keeps a pointer. A pointer to an empty buffer is not
  * followed, but must not be null.
  *
@@ -143,6 +143,23 @@ void hemdroas_run    (const uint32_t layout[16], const uint64_t *commands, size_
  * 17 KB of stack. */
 void hemdroas_preview(const uint32_t layout[16], const uint64_t *commands, size_t n, const uint32_t machine[11], const uint32_t *memory, size_t cells,
                       uint32_t budget, const uint32_t *readings, size_t r, uint32_t *log, size_t g, uint32_t after[11], uint32_t answer[4]);
+
+/* Runs a routine's n words as they are written, without commands: the guest
+ * rule, one instruction after another, under the layout, policy and landings
+ * that hemdroas_install or hemdroas_load left in memory. Words are judged once,
+ * before the first instruction. Log and readings are as for hemdroas_run.
+ *
+ * engine[10]: r0 to r7, the index of the next instruction, status. At first all
+ * zeros. Status is as in machine; a record that is not running comes back as it
+ * was, with any number above 4 too.
+ *
+ * answer[5]: ending, place, instructions done, pairs logged, readings used. The
+ * ending is one of hemdroas_run's, with place 0, or a refusal as rewriting has
+ * it, 7, 5, then for the first word at fault 3, 2, 4 or 8 with its place, and
+ * three zeros; a refusal changes nothing. A run of budget 1 shows one
+ * instruction. */
+void hemdroas_engine (const uint32_t layout[8], const uint64_t *words, size_t n, uint32_t engine[10], uint32_t *memory, size_t cells,
+                      uint32_t budget, const uint32_t *readings, size_t r, uint32_t *log, size_t g, uint32_t answer[5]);
 
 /* Makes the policy of a list of n / 2 pairs of events, pairs[2 * i] before
  * pairs[2 * i + 1]: the second has an arrow only once the first has been

@@ -47,7 +47,13 @@ fn answer_of(a: Answer, steps: u32, pairs: usize, used: usize) -> [u32; 5]
     requires { ⌜ (a .place < 2 ^ 32) × (pairs < 2 ^ 32) × (used < 2 ^ 32) ⌝ }
     ensures { λ r. ⌜ r ≡ a .number ∷ a .place ∷ steps ∷ pairs ∷ used ∷ [] ⌝ }
 {
-    [a.number as u32, a.place as u32, steps, pairs as u32, used as u32]
+    [
+        a.number as u32,
+        a.place as u32,
+        steps,
+        pairs as u32,
+        used as u32,
+    ]
 }
 
 // Runs guest words as they are written.

@@ -38,13 +38,13 @@ fn send(
     ensures { λ r. ⌜ r ≡ sendOf v (viewOf (now (regs .entry)) at (now (memory .entry)) (layout .cell) (layout .table) (layout .base) (layout .landings) free left) ⌝ }
 {
     let i = entry(layout, v, memory);
-    if i < memory.len() {
-        if memory[i] == Policy::NO_ARROW {
-            return Effect::End(Status::Stopped);
-        }
-        return effects::event(v, free, left);
+    if i >= memory.len() {
+        return Effect::End(Status::Faulted);
     }
-    Effect::End(Status::Faulted)
+    if cells::peek(memory, i) == Policy::NO_ARROW {
+        return Effect::End(Status::Stopped);
+    }
+    effects::event(v, free, left)
 }
 
 // A jump if the condition holds, else on to the next instruction.

@@ -8,9 +8,8 @@ send-spec =
     tie.close
     (tie.spec
     (λ c κs. search needs)
-    (λ c. search needs)
-    (λ c. search needs)
+    (λ c. search (faults, needs))
+    (λ c κs. search needs)
     (λ c. search (stops, needs))
     (λ c κs. search needs)
-    (λ c. search (sends, c .before .if2 .left, needs))
-    (λ c. search (faults, needs)))
+    (λ c. search (sends, c .before .if2 .left, needs)))

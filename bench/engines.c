@@ -1,0 +1,129 @@
+/*
+ * ns an instruction of the proved engine, of engine.c and of engine.rs, and of
+ * the proved machine on the same routine, one beside the other in one run,
+ * medians of interleaved rounds. Every round also compares what they leave.
+ */
+#include "hemdroas.h"
+
+#include <stdio.h>
+#include <stdlib.h>
+#include <string.h>
+#include <time.h>
+
+enum { REGISTERS = 8, RECORD = REGISTERS + 2, MACHINE = REGISTERS + 3 };
+
+typedef void Run(const uint32_t layout[8], const uint64_t *, size_t, uint32_t engine[RECORD], uint32_t *, size_t, uint32_t,
+                 const uint32_t *, size_t, uint32_t *, size_t, uint32_t answer[5]);
+Run engine_O2, engine_O3, engine_rust;
+enum { KINDS = 4, MOST_ROUNDS = 1001 };
+static Run *const RUNS[KINDS] = {hemdroas_engine, engine_O2, engine_O3, engine_rust};
+
+enum { U = 1024, SL = 256, SH = 511, M = 0, P = 16, S = 2, B = 4096, Q = 64, LOG = 800000, READINGS = 400000, WORDS = 16, COMMANDS = 128 };
+static const uint32_t layout[8] = {U, SL, SH, M, P, S, B, Q};
+
+/* The word of an instruction. */
+static uint64_t word(uint64_t k, uint64_t d, uint64_t a, uint64_t b, uint64_t c, uint64_t v) {
+    return k | d << 8 | a << 12 | b << 16 | c << 20 | v << 32;
+}
+
+static uint64_t code[WORDS], commands[COMMANDS];
+static size_t length;
+static uint32_t record[KINDS][RECORD], answer[KINDS][5], memory[KINDS + 1][U], logs[KINDS + 1][LOG], readings[READINGS];
+static double times[KINDS + 1][MOST_ROUNDS], ratios[KINDS][MOST_ROUNDS];
+
+static double now(void) {
+    struct timespec t;
+    clock_gettime(CLOCK_MONOTONIC, &t);
+    return t.tv_sec * 1e9 + t.tv_nsec;
+}
+static int order(const void *a, const void *b) {
+    double x = *(const double *)a, y = *(const double *)b;
+    return x < y ? -1 : x > y;
+}
+static double median(double *x, int n) {
+    qsort(x, n, sizeof *x, order);
+    return x[n / 2];
+}
+
+static void same(const char *name, size_t cells) {
+    for (int i = 1; i < KINDS; i++)
+        if (memcmp(record[0], record[i], sizeof record[0]) || memcmp(answer[0], answer[i], sizeof answer[0])
+            || memcmp(memory[0], memory[i], sizeof memory[0]) || memcmp(logs[0], logs[i], cells * sizeof logs[0][0])) {
+            printf("%s: the proved engine and engine %d differ\n", name, i);
+            exit(1);
+        }
+}
+
+/* All cells 0, but every instruction is a landing: in state 0 every event leads to state 0. */
+static void fresh(int i) {
+    memset(memory[i], 0, sizeof memory[i]);
+    memset(memory[i] + Q, 255, 32 * sizeof memory[i][0]);
+}
+
+/* The machine on the same routine, ns an instruction of the engine's; r0 on, sandbox and log must come out the same. */
+static double machine(const char *name, size_t cells, size_t count) {
+    uint32_t end[MACHINE] = {0}, ran[4], made[2];
+    fresh(KINDS);
+    end[MACHINE - 2] = B;
+    hemdroas_rewrite(layout, code, length, commands, COMMANDS, made);
+    double t = now();
+    hemdroas_run(layout, commands, made[1], end, memory[KINDS], U, 4000000000u, readings, count, logs[KINDS], cells, ran);
+    t = now() - t;
+    if (made[0] || ran[0] != answer[0][0] || memcmp(end, record[0], REGISTERS * sizeof end[0])
+        || memcmp(memory[KINDS], memory[0], sizeof memory[0]) || memcmp(logs[KINDS], logs[0], cells * sizeof logs[0][0])) {
+        printf("%s: engine and machine differ\n", name);
+        exit(1);
+    }
+    return t / (double)answer[0][2];
+}
+
+static void measure(const char *name, int turn, size_t cells, size_t count, int rounds) {
+    for (int q = 0; q < rounds; q++) {
+        for (int i = 0; i < KINDS; i++) {
+            int j = (i + q) % KINDS;
+            fresh(j);
+            memset(record[j], 0, sizeof record[j]);
+            double t = now();
+            RUNS[j](layout, code, length, record[j], memory[j], U, 4000000000u, readings, count, logs[j], cells, answer[j]);
+            times[j][q] = (now() - t) / (double)answer[j][2];
+        }
+        same(name, cells);
+        times[KINDS][q] = machine(name, cells, count);
+        for (int i = 1; i < KINDS; i++) ratios[i][q] = times[0][q] / times[i][q];
+    }
+    double proved = median(times[0], rounds), by_machine = median(times[KINDS], rounds);
+    printf("%-8s %8u instructions, ending %u | ns each: proved %.2f, gcc -O2 %.2f, -O3 %.2f, rustc %.2f | ratio %.2f, %.2f, %.2f | a turn %.1f ns, the machine %.1f\n",
+           name, answer[0][2], answer[0][0], proved, median(times[1], rounds), median(times[2], rounds), median(times[3], rounds),
+           median(ratios[1], rounds), median(ratios[2], rounds), median(ratios[3], rounds), turn * proved, turn * by_machine);
+}
+
+/* r1 counts from 0 to 100,000 by r2 = 1; the turn starts at instruction 3 and ends with the jump at `last`; HALT follows. */
+static void counted(int last) {
+    memset(code, 0, sizeof code);
+    length = last + 1;
+    code[0] = word(1, 2, 0, 0, 0, 1), code[1] = word(1, 3, 0, 0, 0, 100000), code[2] = word(1, 6, 0, 0, 0, 3 + 16 * 7);
+    code[last - 1] = word(3, 1, 1, 2, 0, 0);
+    code[last] = word(10, 0, 1, 3, 2, 3);
+}
+
+int main(int argc, char **argv) {
+    int rounds = argc > 1 ? atoi(argv[1]) : 101;
+    if (rounds < 1 || rounds > MOST_ROUNDS) rounds = 101;
+    for (uint32_t i = 0; i < READINGS; i++) readings[i] = i * 2654435761u;
+
+    /* a store, a load and two adds in each turn */
+    counted(7);
+    code[3] = word(9, 0, 1, 1, 0, 0), code[4] = word(8, 4, 1, 0, 0, 0), code[5] = word(3, 5, 5, 4, 0, 0);
+    measure("arith", 5, 64, 0, rounds);
+
+    /* an order and a reading in each turn */
+    counted(6);
+    code[3] = word(12, 0, 0, 0, 0, 1), code[4] = word(12, 0, 0, 0, 0, 9);
+    measure("events", 4, LOG, READINGS, rounds);
+
+    /* each turn goes back by a GOX through r6 */
+    counted(4);
+    code[4] = word(11, 6, 1, 3, 2, 0);
+    measure("gox", 2, 64, 0, rounds);
+    return 0;
+}
