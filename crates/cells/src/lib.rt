@@ -1,5 +1,6 @@
-// Cells of 32 bits: their arithmetic, and one cell read or set in a slice of them.
+// Cells of 32 bits: their arithmetic, one cell read or set in a slice of them, and the pairs of a log.
 pub mod arith;
+pub mod pairs;
 
 ghost use mathlib.Core.Path.{_≡_};
 ghost use lib.ListN.{getD, set};

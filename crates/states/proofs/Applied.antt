@@ -1,8 +1,6 @@
 -- Each effect applied, in plain variables.
-use Prim.Native.Nat.{ℕ, _+_, _*_, _<_, _≤_}
-use mathlib.Core.Path.{_≡_, sym}
-use native.Mathlib.Omega.{arith}
-use native.Mathlib.Nat.{min-eq-left, min-eq-right}
+use Prim.Native.Nat.{ℕ, _+_}
+use mathlib.Core.Path.{_≡_}
 use mathlib.Core.List.{List}
 use lib.ListN.{getD, set}
 use Rattle.rules.specs.declared.Status.{Status}
@@ -47,15 +45,3 @@ module _ (caps rd regs mem log : List ℕ) (at r : Point) (e : Effect) where
 pub waits : (caps rd regs mem log : List ℕ) (at : Point) (e : Effect) (t : Ending) → e ≡ Wait t → stateAt regs at mem log ≡ applyOf caps rd e (stateAt regs at mem log)
 unfolding applyOf
 waits caps rd regs mem log at e t p = rw p
-
--- a pair set cell by cell
-pub paired : (log log₁ log₂ : List ℕ) (n v x : ℕ) → log₁ ≡ set log (2 * n) v → log₂ ≡ set log₁ (2 * n + 1) x → log₂ ≡ withPair log n v x
-paired log log₁ log₂ n v x p q = rw (q, p)
-
--- the smaller of a value and its ceiling
-module _ (caps : List ℕ) (v x most : ℕ) (e : most ≡ getD caps v 0) where
-  pub below : x < most → x ≡ limited caps v x
-  below h = rw (← e) (sym (min-eq-left (omega arith)))
-
-  pub above : most ≤ x → most ≡ limited caps v x
-  above h = rw (← e) (sym (min-eq-right h))

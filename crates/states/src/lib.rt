@@ -6,7 +6,6 @@ ghost use mathlib.Core.Path.{_≡_};
 ghost use Prim.Native.Nat.{_+_, _<_, _^_};
 ghost use lib.ListN.{length, getD, set};
 ghost use Rattle.rules.specs.Names.{registers};
-ghost use Rattle.rules.specs.Layouts.{limited as limitedOf};
 ghost use Rattle.rules.specs.Machines.{onward as onwardOf, applyOf, withPair};
 ghost use Rattle.states.specs.Points.{pointOf, stateAt};
 
@@ -28,37 +27,6 @@ fn put(regs: &mut [u32; 9], i: usize, x: u32)
     if i < Machine::REGISTERS {
         regs[i] = x;
     }
-}
-
-// Pair n into the log.
-fn put_pair(log: &mut [u32], n: usize, e: u32, x: u32)
-    requires { ⌜ n < 2 ^ 62 ⌝ }
-    ensures { λ _. ⌜ now (log .exit) ≡ withPair (now (log .entry)) n e x ⌝ }
-{
-    let first = 2 * n;
-    cells::poke(log, first, e);
-    cells::poke(log, first + 1, x);
-}
-
-// A list's number at a place; 0 where there is none.
-fn at_or_0(list: &[u32], i: usize) -> u32
-    ensures { λ r. ⌜ r ≡ getD (now (list .entry)) i 0 ⌝ }
-{
-    if i < list.len() {
-        return list[i];
-    }
-    0
-}
-
-// What an order records: the smaller of its value and its ceiling.
-fn limited(ceilings: &[u32], v: u32, x: u32) -> u32
-    ensures { λ r. ⌜ r ≡ limitedOf (now (ceilings .entry)) v x ⌝ }
-{
-    let most = at_or_0(ceilings, v as usize);
-    if x < most {
-        return x;
-    }
-    most
 }
 
 // ---- the point after it
@@ -106,23 +74,14 @@ fn probed(mut at: Point) -> Point
 
 // ---- an effect
 
-// An order's value, limited, into the log.
-fn order(ceilings: &[u32], v: u32, x: u32, at: Point, log: &mut [u32])
-    requires { ⌜ at .pairs < 2 ^ 62 ⌝ }
-    ensures { λ _. ⌜ now (log .exit) ≡ withPair (now (log .entry)) (at .pairs) v (limitedOf (now (ceilings .entry)) v x) ⌝ }
-{
-    let y = limited(ceilings, v, x);
-    put_pair(log, at.pairs, v, y);
-}
-
 // A reading into register 0 and the log.
 fn probe(v: u32, regs: &mut [u32; 9], at: Point, readings: &[u32], log: &mut [u32])
     requires { ⌜ (at .pairs < 2 ^ 62) × (length (now regs) ≡ registers) ⌝ }
     ensures { λ _. ⌜ (now (regs .exit) ≡ set (now (regs .entry)) 0 (getD (now (readings .entry)) (at .used) 0)) × (now (log .exit) ≡ withPair (now (log .entry)) (at .pairs) v (getD (now (readings .entry)) (at .used) 0)) ⌝ }
 {
-    let x = at_or_0(readings, at.used);
+    let x = cells::peek(readings, at.used);
     put(regs, 0, x);
-    put_pair(log, at.pairs, v, x);
+    cells::pairs::put(log, at.pairs, v, x);
 }
 
 // The state after an effect.
@@ -150,7 +109,7 @@ pub fn apply(
             next
         }
         Effect::Order(v) => {
-            order(ceilings, v, regs[0], at, log);
+            cells::pairs::order(ceilings, v, regs[0], log, at.pairs);
             ordered(at)
         }
         Effect::Probe(v) => {

@@ -10,4 +10,4 @@ probe-spec =
     (λ c κs. search needs)
     (λ c κs. search needs)
     (λ c. search needs)
-    (λ c. let x = c .before .before .before .before .before .before .at-or-0 .ensures in (simp (c .before .before .before .before .put .ensures, x), simp (c .before .before .put-pair .ensures, x))))
+    (λ c. let x = c .before .before .before .before .before .before .peek .ensures in (simp (c .before .before .before .before .put .ensures, x), simp (c .before .before .put2 .ensures, x))))

@@ -1,7 +1,7 @@
 use borrow.Author.Needs.{needs}
-use Rattle.states.proofs.Applied.{below, above}
-use Rattle.states.proofs.limited.Statement.{statement}
-use Rattle.states.proofs.limited.Tie as tie
+use Rattle.cells.proofs.Pairing.{below, above}
+use Rattle.cells.proofs.pairs.limited.Statement.{statement}
+use Rattle.cells.proofs.pairs.limited.Tie as tie
 
 pub limited-spec : {M : Type 1} → statement M
 limited-spec =
