@@ -11,8 +11,8 @@ use Rattle.rules.specs.declared.Layout.{Layout}
 use Rattle.rules.specs.declared.Answer.{Answer}
 use Rattle.rules.specs.declared.Status.{Status}
 use Rattle.rules.specs.Names.{guestRegisters}
-use Rattle.hosts.specs.Numbers.{layoutFrom, statusFrom, statusNumber}
-use Rattle.hosts.proofs.Numbers.{cells, spelt}
+use Rattle.hosts.specs.Numbers.{numbersFrom, layoutFrom, statusFrom, statusNumber}
+use Rattle.hosts.proofs.Numbers.{spelt}
 use Rattle.engine_rules.specs.declared.Engine.{Engine}
 use Rattle.engine_rules.specs.declared.EngineOutcome.{EngineOutcome}
 use Rattle.engine_rules.specs.Engines.{engineOf, Ran, ranOf, outcomeOf, runOf, refusalOf}
@@ -22,15 +22,15 @@ use Rattle.capi_engine.specs.Records.{statusPlace, engineFrom, engineTo,
 
 -- ---- the record
 
-registers-of : (xs : List ℕ) → guestRegisters ≤ length xs → cells guestRegisters 0 xs ≡ take guestRegisters xs
+registers-of : (xs : List ℕ) → guestRegisters ≤ length xs → numbersFrom guestRegisters 0 xs ≡ take guestRegisters xs
 registers-of xs h = sym (spelt guestRegisters 0 xs h)
 
-pub engine-of : (xs : List ℕ) (t : Status) → length xs ≡ guestRegisters + 2 → t ≡ statusFrom (getD xs statusPlace 0) → engineOf (cells guestRegisters 0 xs) (getD xs guestRegisters 0) t ≡ engineFrom xs
+pub engine-of : (xs : List ℕ) (t : Status) → length xs ≡ guestRegisters + 2 → t ≡ statusFrom (getD xs statusPlace 0) → engineOf (numbersFrom guestRegisters 0 xs) (getD xs guestRegisters 0) t ≡ engineFrom xs
 engine-of xs t h e = rw (registers-of xs (omega arith), e)
 
-pub record-of : (m : Engine) (t : ℕ) → length (m .regs) ≡ guestRegisters → t ≡ statusNumber (m .status) → cells guestRegisters 0 (m .regs) ++ (m .at ∷ t ∷ []) ≡ engineTo m
+pub record-of : (m : Engine) (t : ℕ) → length (m .regs) ≡ guestRegisters → t ≡ statusNumber (m .status) → numbersFrom guestRegisters 0 (m .regs) ++ (m .at ∷ t ∷ []) ≡ engineTo m
 record-of m t h e =
-    ap (λ (k : ℕ). cells guestRegisters 0 (m .regs) ++ (m .at ∷ k ∷ [])) e
+    ap (λ (k : ℕ). numbersFrom guestRegisters 0 (m .regs) ++ (m .at ∷ k ∷ [])) e
     ∙ ap (λ (r : List ℕ). r ++ (m .at ∷ statusNumber (m .status) ∷ [])) (registers-of (m .regs) (omega arith) ∙ take-all guestRegisters (m .regs) (omega arith))
 
 pub goes-on : (xs r : List ℕ) (m : Engine) (t : ℕ) → t ≡ getD xs statusPlace 0 → t ≡ 0 → r ≡ engineTo m → r ≡ recordAfter xs m

@@ -59,7 +59,7 @@ fn answer_of(a: Answer, steps: u32, pairs: usize, used: usize) -> [u32; 5]
 // Runs guest words as they are written.
 #[no_mangle]
 pub extern "C" fn hemdroas_engine(
-    layout: &[u32; 8],
+    layout: &[u32; 16],
     words: &[u64],
     engine: &mut [u32; 10],
     memory: &mut [u32],

@@ -22,16 +22,6 @@ fn put(regs: &mut [u32; 8], i: usize, x: u32)
     }
 }
 
-// Pair n into the log.
-fn put_pair(log: &mut [u32], n: usize, e: u32, x: u32)
-    requires { ⌜ n < 2 ^ 62 ⌝ }
-    ensures { λ _. ⌜ now (log .exit) ≡ withPair (now (log .entry)) n e x ⌝ }
-{
-    let first = 2 * n;
-    cells::poke(log, first, e);
-    cells::poke(log, first + 1, x);
-}
-
 // The state cell moves with event v.
 fn keep(layout: Layout, v: u32, memory: &mut [u32])
     ensures { λ _. ⌜ now (memory .exit) ≡ set (now (memory .entry)) (layout .cell) (entryAt layout (now (memory .entry)) v) ⌝ }
@@ -88,7 +78,7 @@ fn probe(v: u32, regs: &mut [u32; 8], at: Point, readings: &[u32], log: &mut [u3
 {
     let x = cells::peek(readings, at.used);
     put(regs, 0, x);
-    put_pair(log, at.pairs, v, x);
+    cells::pairs::put(log, at.pairs, v, x);
 }
 
 // The state after an effect.
@@ -117,7 +107,7 @@ pub fn apply(
         }
         Effect::Order(v) => {
             keep(layout, v, memory);
-            put_pair(log, at.pairs, v, regs[0]);
+            cells::pairs::order(&layout.ceilings, v, regs[0], log, at.pairs);
             ordered(at)
         }
         Effect::Probe(v) => {
