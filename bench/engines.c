@@ -12,14 +12,15 @@
 
 enum { REGISTERS = 8, RECORD = REGISTERS + 2, MACHINE = REGISTERS + 3 };
 
-typedef void Run(const uint32_t layout[8], const uint64_t *, size_t, uint32_t engine[RECORD], uint32_t *, size_t, uint32_t,
+typedef void Run(const uint32_t layout[16], const uint64_t *, size_t, uint32_t engine[RECORD], uint32_t *, size_t, uint32_t,
                  const uint32_t *, size_t, uint32_t *, size_t, uint32_t answer[5]);
 Run engine_O2, engine_O3, engine_rust;
 enum { KINDS = 4, MOST_ROUNDS = 1001 };
 static Run *const RUNS[KINDS] = {hemdroas_engine, engine_O2, engine_O3, engine_rust};
 
 enum { U = 1024, SL = 256, SH = 511, M = 0, P = 16, S = 2, B = 4096, Q = 64, LOG = 800000, READINGS = 400000, WORDS = 16, COMMANDS = 128 };
-static const uint32_t layout[8] = {U, SL, SH, M, P, S, B, Q};
+/* The order of the benchmark, event 1, meets its ceiling halfway. */
+static const uint32_t layout[16] = {U, SL, SH, M, P, S, B, Q, 50000, 50000, 50000, 50000, 50000, 50000, 50000, 50000};
 
 /* The word of an instruction. */
 static uint64_t word(uint64_t k, uint64_t d, uint64_t a, uint64_t b, uint64_t c, uint64_t v) {

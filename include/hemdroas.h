@@ -158,7 +158,7 @@ void hemdroas_preview(const uint32_t layout[16], const uint64_t *commands, size_
  * it, 7, 5, then for the first word at fault 3, 2, 4 or 8 with its place, and
  * three zeros; a refusal changes nothing. A run of budget 1 shows one
  * instruction. */
-void hemdroas_engine (const uint32_t layout[8], const uint64_t *words, size_t n, uint32_t engine[10], uint32_t *memory, size_t cells,
+void hemdroas_engine (const uint32_t layout[16], const uint64_t *words, size_t n, uint32_t engine[10], uint32_t *memory, size_t cells,
                       uint32_t budget, const uint32_t *readings, size_t r, uint32_t *log, size_t g, uint32_t answer[5]);
 
 /* Makes the policy of a list of n / 2 pairs of events, pairs[2 * i] before
