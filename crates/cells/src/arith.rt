@@ -1,6 +1,7 @@
 // Arithmetic of 32-bit numbers: wrapping, two's complement, the conditions.
+use rules::Layout;
 ghost use mathlib.Core.Path.{_≡_};
-ghost use Prim.Native.Nat.{_≤_};
+ghost use Prim.Native.Nat.{min};
 ghost use lib.Bits.{bitAnd, bitOr};
 ghost use Rattle.rules.specs.Names.{topShift};
 ghost use Rattle.rules.specs.Signed.{twos, bitsOf, sarOf, lessOf};
@@ -30,10 +31,13 @@ pub fn or(x: u32, y: u32) -> u32
     x | y
 }
 
+// A shift by more than a cell's bits loses them all.
 pub fn shl(x: u32, v: u32) -> u32
-    requires { ⌜ v ≤ topShift ⌝ }
     ensures { λ r. ⌜ r ≡ shlOf x v ⌝ }
 {
+    if v >= Layout::CELL_BITS {
+        return 0;
+    }
     x << v
 }
 
@@ -55,12 +59,22 @@ fn to_bits(z: i32) -> u32
     if z >= 0 { z as u32 } else { !((!z) as u32) }
 }
 
+// A shift past a cell's last bit leaves the sign alone, as the shift to that bit does.
+fn to_last_bit(v: u32) -> u32
+    ensures { λ r. ⌜ r ≡ min v topShift ⌝ }
+{
+    if v < Layout::CELL_BITS {
+        return v;
+    }
+    Layout::CELL_BITS - 1
+}
+
 pub fn sar(x: u32, v: u32) -> u32
-    requires { ⌜ v ≤ topShift ⌝ }
     ensures { λ r. ⌜ r ≡ sarOf x v ⌝ }
 {
     let z = to_signed(x);
-    to_bits(z >> v)
+    let s = to_last_bit(v);
+    to_bits(z >> s)
 }
 
 fn less(x: u32, y: u32) -> bool
