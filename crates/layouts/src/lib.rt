@@ -22,13 +22,18 @@ pub fn right(l: Layout) -> bool
         return false;
     }
     let span = high - low + 1;
+    if u32::count_ones(span) != 1 {
+        return false;
+    }
+    // The sandbox has 2 to the width cells: SL is a multiple of them when it has no bit below the width.
+    let width = masks::width(l);
+    let aligned = (low >> width) << width == low;
     let end = table as u64 + Policy::EVENTS as u64 * states as u64;
     let landings_end = landings as u64 + Layout::LANDING_CELLS as u64;
     let in_range = (1 <= size)
         & (size <= Layout::MOST_CELLS)
         & (1 <= states)
         & (states <= Layout::MOST_STATES);
-    let box_right = (u32::count_ones(span) == 1) & (low % span == 0);
     let in_memory = (cell < size) & (end <= size as u64) & (landings_end <= size as u64);
     let apart = ((cell < low) | (high < cell))
         & ((cell < table) | (end <= cell as u64))
@@ -36,5 +41,5 @@ pub fn right(l: Layout) -> bool
         & ((cell < landings) | (landings_end <= cell as u64))
         & ((high < landings) | (landings_end <= low as u64))
         & ((end <= landings as u64) | (landings_end <= table as u64));
-    in_range & (box_right & (in_memory & apart))
+    in_range & (aligned & (in_memory & apart))
 }

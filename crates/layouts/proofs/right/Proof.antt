@@ -1,6 +1,6 @@
 use native.Mathlib.Omega.{arith}
 use borrow.Author.Needs.{needs}
-use Rattle.layouts.proofs.Boxes.{box-turned, box-out, right-rest}
+use Rattle.layouts.proofs.Boxes.{box-turned, box-out, box-uneven, width-in, right-rest}
 use Rattle.layouts.proofs.right.Statement.{statement}
 use Rattle.layouts.proofs.right.Tie as tie
 
@@ -11,6 +11,10 @@ right-spec =
     (λ c. search (box-turned, needs))
     (λ c. box-out (c .before .before .args .l) (omega arith) (omega arith))
     (λ c. search needs)
+    (λ c. box-uneven (c .before .before .before .args .l) (omega arith) (omega arith) (c .if3 .taken))
+    (λ c κs. search needs)
+    (λ c. omega (arith, c .width .ensures, width-in (c .before .before .before .before .args .l) (omega arith) (search needs) (c .before .if3 .left)))
+    (λ c. omega (arith, c .width .ensures, width-in (c .before .before .before .before .args .l) (omega arith) (search needs) (c .before .if3 .left)))
     (λ c. search needs)
     (λ c. search needs)
     (λ c. search needs)
@@ -27,5 +31,4 @@ right-spec =
     (λ c. search needs)
     (λ c. search needs)
     (λ c. search needs)
-    (λ c. search needs)
-    (λ c. search (right-rest, needs)))
+    (λ c. right-rest (c .before .before .before .before .args .l) (omega arith) (search needs) (c .before .if3 .left) _ (omega arith) (search needs) (search needs) (c .width .ensures)))
