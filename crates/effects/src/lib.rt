@@ -1,5 +1,6 @@
 // What the word at pc would do: a pure decision, applied by the machine.
 use rules::Bundle;
+use rules::Command;
 use rules::Effect;
 use rules::Ending;
 use rules::Layout;
@@ -8,14 +9,15 @@ use rules::Status;
 use words::arith;
 use words::command;
 ghost use mathlib.Core.Path.{_≡_};
-ghost use mathlib.Core.Bool.{true, cond};
-ghost use Prim.Native.Nat.{_+_, _*_};
+ghost use mathlib.Core.Bool.{cond};
+ghost use Prim.Native.Nat.{_+_, _*_, _<_};
 ghost use lib.ListN.{length, getD};
 ghost use lib.Dec.{ltb, eqb};
 ghost use Rattle.rules.specs.declared.Status.the-variants.{Stopped, Faulted, Strayed};
 ghost use Rattle.rules.specs.declared.Effect.the-variants.{Go, Put, Cell, End};
-ghost use Rattle.rules.specs.Names.{events, noArrow};
-ghost use Rattle.rules.specs.Commands.{isCommand, commandOf, holdsOf, fetchOf};
+ghost use Rattle.rules.specs.Names.{registers, events, noArrow};
+ghost use Rattle.rules.specs.Commands.{commandOf, plainOf, holdsOf, fetchOf};
+ghost use Rattle.effects.specs.Sounds.{Sound};
 ghost use Rattle.rules.specs.Machines.{onward, viewOf, landsAt, effectOf, eventEffect, ifRoom};
 
 // The next pc is formed only in the arms that need it, which keeps a register free across the match.
@@ -143,9 +145,36 @@ pub fn event(v: u32, free: usize, left: usize) -> Effect
     in_room(free, Effect::Probe(v))
 }
 
-// What a command would do. Single numbers, no range: so the match becomes one jump.
+// A register's number.
+fn reg(regs: &[u32; 9], i: u64) -> u32
+    requires { ⌜ i < registers ⌝ }
+    ensures { λ r. ⌜ r ≡ getD (now (regs .entry)) i 0 ⌝ }
+{
+    regs[i as usize]
+}
+
+// What a plain command puts.
+fn value(k: u64, x: u32, y: u32, v: u32) -> u32
+    ensures { λ r. ⌜ r ≡ plainOf k x y v ⌝ }
+{
+    match k {
+        2 => v,
+        3 => x,
+        4 => arith::add(x, y),
+        5 => arith::sub(x, y),
+        6 => arith::and(x, y),
+        7 => arith::or(x, y),
+        8 => arith::sar(x, v),
+        9 => arith::and(x, v),
+        10 => arith::or(x, v),
+        11 => arith::shl(x, v),
+        _ => 0,
+    }
+}
+
+// What a command would do.
 fn act(
-    w: u64,
+    c: Command,
     regs: &[u32; 9],
     pc: u32,
     cell: u32,
@@ -156,43 +185,37 @@ fn act(
     free: usize,
     left: usize,
 ) -> Effect
-    requires { ⌜ isCommand w ≡ true ⌝ }
-    ensures { λ r. ⌜ r ≡ effectOf (commandOf w) (viewOf (now (regs .entry)) pc (now (memory .entry)) cell table base landings free left) ⌝ }
+    requires { ⌜ Sound c ⌝ }
+    ensures { λ r. ⌜ r ≡ effectOf c (viewOf (now (regs .entry)) pc (now (memory .entry)) cell table base landings free left) ⌝ }
 {
-    let k = w % 256;
-    let d = ((w >> 8) % 16) as usize;
-    let a = ((w >> 12) % 16) as usize;
-    let b = ((w >> 16) % 16) as usize;
-    let c = (w >> 20) % 16;
-    let v = (w >> 32) as u32;
-    let x = regs[a];
-    let y = regs[b];
-    match k {
-        0 => Effect::Go(arith::add(pc, 1)),
-        1 => Effect::End(Status::Ended),
-        2 => Effect::Put(d, v),
-        3 => Effect::Put(d, x),
-        4 => Effect::Put(d, arith::add(x, y)),
-        5 => Effect::Put(d, arith::sub(x, y)),
-        6 => Effect::Put(d, arith::and(x, y)),
-        7 => Effect::Put(d, arith::or(x, y)),
-        8 => Effect::Put(d, arith::sar(x, v)),
-        9 => Effect::Put(d, arith::and(x, v)),
-        10 => Effect::Put(d, arith::or(x, v)),
-        11 => Effect::Put(d, arith::shl(x, v)),
-        12 => load(d, x, memory),
-        13 => store(x, y, memory),
-        14 => target(c, x, y, v, pc),
-        15 => jump(c, x, y, regs[d], pc, base, landings, memory),
-        16 => look(d, cell, table, v, memory),
-        17 => stop_if(regs[d], pc),
-        18 => store(cell, regs[d], memory),
-        19 => event(v, free, left),
-        _ => Effect::End(Status::Faulted),
+    match c {
+        Command::Nop => Effect::Go(arith::add(pc, 1)),
+        Command::Halt => Effect::End(Status::Ended),
+        Command::Plain(k, d, a, b, v) => {
+            Effect::Put(d as usize, value(k, reg(regs, a), reg(regs, b), v as u32))
+        }
+        Command::Load(d, a) => load(d as usize, reg(regs, a), memory),
+        Command::Store(a, b) => store(reg(regs, a), reg(regs, b), memory),
+        Command::GoIf(a, b, c, v) => { target(c, reg(regs, a), reg(regs, b), v as u32, pc) }
+        Command::GoReg(d, a, b, c) => jump(
+            c,
+            reg(regs, a),
+            reg(regs, b),
+            reg(regs, d),
+            pc,
+            base,
+            landings,
+            memory,
+        ),
+        Command::Look(d, v) => look(d as usize, cell, table, v as u32, memory),
+        Command::StopIf(d) => stop_if(reg(regs, d), pc),
+        Command::Keep(d) => store(cell, reg(regs, d), memory),
+        Command::Event(v) => event(v as u32, free, left),
+        Command::Stray => Effect::End(Status::Faulted),
     }
 }
 
-// What a word would do.
+// What a word would do: it goes through the decoder.
 fn decide(
     w: u64,
     regs: &[u32; 9],
@@ -207,10 +230,8 @@ fn decide(
 ) -> Effect
     ensures { λ r. ⌜ r ≡ effectOf (commandOf w) (viewOf (now (regs .entry)) pc (now (memory .entry)) cell table base landings free left) ⌝ }
 {
-    if command::is_command(w) {
-        return act(w, regs, pc, cell, table, base, landings, memory, free, left);
-    }
-    Effect::End(Status::Faulted)
+    let c = command::command(w);
+    act(c, regs, pc, cell, table, base, landings, memory, free, left)
 }
 
 // What the word at pc would do; the list stands at the base. A pc below it is far past the list's end.
