@@ -31,7 +31,8 @@
  * cell.
  *
  * machine[11]: r0 to r8, pc, status. Status is 0 running, 1 ended, 2 stopped,
- * 3 faulted, 4 strayed; any number above 4 counts as faulted.
+ * 3 faulted, 4 strayed. Any number above 4 counts as faulted: the run answers
+ * 22 with three zeros, and the record comes back as it was.
  *
  * answer[2]: the number, then the place. Number 0 is success, and the place
  * then is the count of words, bytes or commands written (0 for the checks and

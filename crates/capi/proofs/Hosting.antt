@@ -15,7 +15,7 @@ use Rattle.rules.specs.Policies.{Policy}
 use Rattle.rules.specs.Bundles.{rewriteAnswer, rewriteOutput, checkAnswer}
 use Rattle.rules.specs.Machines.{fits, installAnswer, installMachine, installMemory, installOf, Ran, ranOf, runOf}
 use Rattle.rules.specs.Loading.{loadAnswer, loadCommands, loadMemory, loadMachine, loadOf}
-use Rattle.hosts.specs.Numbers.{layoutFrom, machineFrom, machineTo, answerTo, runAnswerTo, recordAfter}
+use Rattle.hosts.specs.Numbers.{layoutFrom, machineFrom, machineTo, answerTo, runAnswerTo, statusKnown, recordAfter}
 use Rattle.rules.proofs.Counts.{Bounded, RunCounts, run-counts}
 use Rattle.preview.proofs.Laws.{Previewed}
 use Rattle.befores.specs.declared.Made.{Made}
@@ -99,22 +99,18 @@ module _ (xs : List ℕ) (l : Layout) (e : l ≡ layoutFrom xs) where
         q ∙ ap (λ (k : Layout). runOf k ws m mem budget rd log) e
         ∙ ap (λ (x : Machine). runOf (layoutFrom xs) ws x mem budget rd log) p
 
-    pub left : (ms′ ns : List ℕ) → ms′ ≡ cond (fits l mem) (machineTo (o .machine)) ms → ns ≡ runAnswerTo (o .answer)
-        → (ns ≡ runAnswerTo (runFor xs ws ms mem budget rd log .outcome .answer)) × ((ms′ ≡ recordAfter (layoutFrom xs) mem ms (runFor xs ws ms mem budget rd log))
+    pub left : (ms′ ns : List ℕ) → ms′ ≡ cond (statusKnown ms) (machineTo (o .machine)) ms → ns ≡ runAnswerTo (o .answer)
+        → (ns ≡ runAnswerTo (runFor xs ws ms mem budget rd log .outcome .answer)) × ((ms′ ≡ recordAfter ms (runFor xs ws ms mem budget rd log))
         × ((mem′ ≡ runFor xs ws ms mem budget rd log .mem) × (log′ ≡ runFor xs ws ms mem budget rd log .log)))
-    left ms′ ns t u =
-        let f : fits l mem ≡ fits (layoutFrom xs) mem = ap (λ (k : Layout). fits k mem) e in (
-          u ∙ ap (λ (x : Ran). runAnswerTo (x .outcome .answer)) ran,
-          (
-            t ∙ ap (λ (b : Bool). cond b (machineTo (o .machine)) ms) f ∙ ap (λ (x : Ran). recordAfter (layoutFrom xs) mem ms x) ran,
-            (ap (λ (x : Ran). x .mem) ran, ap (λ (x : Ran). x .log) ran),
-          ),
-        )
+    left ms′ ns t u = (
+      u ∙ ap (λ (x : Ran). runAnswerTo (x .outcome .answer)) ran,
+      (t ∙ ap (λ (x : Ran). recordAfter ms x) ran, (ap (λ (x : Ran). x .mem) ran, ap (λ (x : Ran). x .log) ran)),
+    )
 
   -- a preview leaves what a run would, but memory and record as they were
   pub looked : (ws ms mem rd log log′ : List ℕ) (budget : ℕ) (m : Machine) (o : Outcome) → m ≡ machineFrom ms → Previewed l ws m mem budget rd log o log′
-      → (ms′ ns : List ℕ) → ms′ ≡ cond (fits l mem) (machineTo (o .machine)) ms → ns ≡ runAnswerTo (o .answer)
-      → (ns ≡ runAnswerTo (runFor xs ws ms mem budget rd log .outcome .answer)) × ((ms′ ≡ recordAfter (layoutFrom xs) mem ms (runFor xs ws ms mem budget rd log))
+      → (ms′ ns : List ℕ) → ms′ ≡ cond (statusKnown ms) (machineTo (o .machine)) ms → ns ≡ runAnswerTo (o .answer)
+      → (ns ≡ runAnswerTo (runFor xs ws ms mem budget rd log .outcome .answer)) × ((ms′ ≡ recordAfter ms (runFor xs ws ms mem budget rd log))
       × ((ms ≡ ms) × ((mem ≡ mem) × (log′ ≡ runFor xs ws ms mem budget rd log .log))))
   looked ws ms mem rd log log′ budget m o p q ms′ ns t u =
       let h = left ws ms mem rd log _ log′ budget m o p (ran-as l ws mem rd log log′ budget m o q) ms′ ns t u in

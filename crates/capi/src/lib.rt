@@ -192,16 +192,15 @@ pub extern "C" fn hemdroas_run(
     answer: &mut [u32; 4],
 )
     ensures answer { λ _. ⌜ now (answer .exit) ≡ runAnswerTo (runFor (now (layout .entry)) (now (commands .entry)) (now (machine .entry)) (now (memory .entry)) budget (now (readings .entry)) (now (log .entry)) .outcome .answer) ⌝ }
-    ensures machine { λ _. ⌜ now (machine .exit) ≡ recordAfter (layoutFrom (now (layout .entry))) (now (memory .entry)) (now (machine .entry)) (runFor (now (layout .entry)) (now (commands .entry)) (now (machine .entry)) (now (memory .entry)) budget (now (readings .entry)) (now (log .entry))) ⌝ }
+    ensures machine { λ _. ⌜ now (machine .exit) ≡ recordAfter (now (machine .entry)) (runFor (now (layout .entry)) (now (commands .entry)) (now (machine .entry)) (now (memory .entry)) budget (now (readings .entry)) (now (log .entry))) ⌝ }
     ensures memory { λ _. ⌜ now (memory .exit) ≡ runFor (now (layout .entry)) (now (commands .entry)) (now (machine .entry)) (now (memory .entry)) budget (now (readings .entry)) (now (log .entry)) .mem ⌝ }
     ensures log { λ _. ⌜ now (log .exit) ≡ runFor (now (layout .entry)) (now (commands .entry)) (now (machine .entry)) (now (memory .entry)) budget (now (readings .entry)) (now (log .entry)) .log ⌝ }
 {
     let lay = layout_of(layout);
-    let cells = memory.len();
     let given = *machine;
     let m = machine_of(given);
     let out = machine::run_value(lay, commands, m, memory, budget, readings, log);
-    *machine = record_after(lay, cells, out.machine, given);
+    *machine = record_after(out.machine, given);
     *answer = run_answer_of(out.answer);
 }
 
@@ -219,7 +218,7 @@ pub extern "C" fn hemdroas_preview(
     answer: &mut [u32; 4],
 )
     ensures answer { λ _. ⌜ now (answer .exit) ≡ runAnswerTo (runFor (now (layout .entry)) (now (commands .entry)) (now (machine .entry)) (now (memory .entry)) budget (now (readings .entry)) (now (log .entry)) .outcome .answer) ⌝ }
-    ensures after { λ _. ⌜ now (after .exit) ≡ recordAfter (layoutFrom (now (layout .entry))) (now (memory .entry)) (now (machine .entry)) (runFor (now (layout .entry)) (now (commands .entry)) (now (machine .entry)) (now (memory .entry)) budget (now (readings .entry)) (now (log .entry))) ⌝ }
+    ensures after { λ _. ⌜ now (after .exit) ≡ recordAfter (now (machine .entry)) (runFor (now (layout .entry)) (now (commands .entry)) (now (machine .entry)) (now (memory .entry)) budget (now (readings .entry)) (now (log .entry))) ⌝ }
     ensures machine { λ _. ⌜ now (machine .exit) ≡ now (machine .entry) ⌝ }
     ensures memory { λ _. ⌜ now (memory .exit) ≡ now (memory .entry) ⌝ }
     ensures log { λ _. ⌜ now (log .exit) ≡ runFor (now (layout .entry)) (now (commands .entry)) (now (machine .entry)) (now (memory .entry)) budget (now (readings .entry)) (now (log .entry)) .log ⌝ }
@@ -228,7 +227,7 @@ pub extern "C" fn hemdroas_preview(
     let given = *machine;
     let m = machine_of(given);
     let out = preview::preview(lay, commands, m, memory, budget, readings, log);
-    *after = record_after(lay, memory.len(), out.machine, given);
+    *after = record_after(out.machine, given);
     *answer = run_answer_of(out.answer);
 }
 

@@ -1,9 +1,9 @@
 -- The numbers in which a C host holds layouts and records.
 use Prim.Native.Nat.{ℕ, zero, suc, _+_}
-use mathlib.Core.Bool.{cond}
+use mathlib.Core.Bool.{Bool, cond}
 use mathlib.Core.List.{List, [], _∷_, _++_}
 use lib.ListN.{getD, take}
-use lib.Dec.{eqb}
+use lib.Dec.{eqb, ltb}
 use Rattle.rules.specs.declared.Layout.{Layout}
 use Rattle.rules.specs.declared.Machine.{Machine}
 use Rattle.rules.specs.declared.Answer.{Answer}
@@ -12,7 +12,7 @@ use Rattle.rules.specs.declared.Status.{Status}
 use Rattle.rules.specs.declared.Status.the-variants.{Running, Ended, Stopped, Faulted, Strayed}
 use Rattle.rules.specs.Names.{orders, registers, endingNumber, first}
 use Rattle.rules.specs.Layouts.{layoutOf}
-use Rattle.rules.specs.Machines.{machineOf, fits, Ran}
+use Rattle.rules.specs.Machines.{machineOf, Ran}
 
 -- n numbers from place i on
 abbrev pub numbersFrom : ℕ → ℕ → List ℕ → List ℕ
@@ -24,6 +24,10 @@ unfoldable pub layoutFrom : List ℕ → Layout
 layoutFrom xs =
     layoutOf (getD xs 0 0) (getD xs 1 0) (getD xs 2 0) (getD xs 3 0) (getD xs 4 0) (getD xs 5 0) (getD xs 6 0) (getD xs 7 0)
     (numbersFrom orders 8 xs)
+
+-- there are five statuses
+abbrev pub statuses : ℕ
+statuses = 5
 
 -- 0 running, 1 ended, 2 stopped, 3 faulted, 4 strayed; any other number counts as faulted
 abbrev pub statusFrom : ℕ → Status
@@ -50,6 +54,10 @@ answerTo a = a .number ∷ a .place ∷ []
 abbrev pub runAnswerTo : RunAnswer → List ℕ
 runAnswerTo a = endingNumber (a .ending) ∷ a .steps ∷ a .pairs ∷ a .used ∷ []
 
--- the record after a run: a refused run leaves its numbers as they were
-abbrev pub recordAfter : Layout → List ℕ → List ℕ → Ran → List ℕ
-recordAfter lay mem xs r = cond (fits lay mem) (machineTo (r .outcome .machine)) xs
+-- whether a record's status number is a status
+abbrev pub statusKnown : List ℕ → Bool
+statusKnown xs = ltb (getD xs (registers + 1) 0) statuses
+
+-- the record after a run; one whose status number is no status comes back as it was
+abbrev pub recordAfter : List ℕ → Ran → List ℕ
+recordAfter xs r = cond (statusKnown xs) (machineTo (r .outcome .machine)) xs

@@ -2,12 +2,9 @@
 use rules::Layout;
 use rules::Machine;
 use rules::Status;
-use words::layout::right;
 ghost use mathlib.Core.Path.{_≡_};
-ghost use mathlib.Core.Bool.{_&&_, cond};
-ghost use lib.Dec.{eqb};
-ghost use Rattle.rules.specs.Layouts.{rightLayout};
-ghost use Rattle.hosts.specs.Numbers.{layoutFrom, statusFrom, statusNumber, machineFrom, machineTo};
+ghost use mathlib.Core.Bool.{cond};
+ghost use Rattle.hosts.specs.Numbers.{layoutFrom, statusFrom, statusNumber, machineFrom, machineTo, statusKnown};
 
 // A layout.
 pub fn layout_of(xs: &[u32; 16]) -> Layout
@@ -28,6 +25,8 @@ pub fn layout_of(xs: &[u32; 16]) -> Layout
         ceilings,
     )
 }
+
+const STATUSES: u32 = 5;
 
 // A status; any number above 4 counts as faulted.
 pub fn status_of(x: u32) -> Status
@@ -99,18 +98,11 @@ pub fn record_of(m: Machine) -> [u32; 11]
     ]
 }
 
-// Whether a run is not refused.
-fn memory_fits(layout: Layout, cells: usize) -> bool
-    ensures { λ r. ⌜ r ≡ (rightLayout layout && eqb cells (layout .size)) ⌝ }
+// The record after a run. One whose status number is no status was not run, and comes back as it was.
+pub fn record_after(m: Machine, xs: [u32; 11]) -> [u32; 11]
+    ensures { λ r. ⌜ r ≡ cond (statusKnown xs) (machineTo m) xs ⌝ }
 {
-    right(layout) & (cells == layout.size as usize)
-}
-
-// The record after a run over so many cells; a refused run leaves the numbers as they were.
-pub fn record_after(layout: Layout, cells: usize, m: Machine, xs: [u32; 11]) -> [u32; 11]
-    ensures { λ r. ⌜ r ≡ cond (rightLayout layout && eqb cells (layout .size)) (machineTo m) xs ⌝ }
-{
-    if memory_fits(layout, cells) {
+    if xs[10] < STATUSES {
         return record_of(m);
     }
     xs
