@@ -199,7 +199,7 @@ pub extern "C" fn hemdroas_run(
     let lay = layout_of(layout);
     let given = *machine;
     let m = machine_of(given);
-    let out = machine::run_value(lay, commands, m, memory, budget, readings, log);
+    let out = sandbox::run(lay, commands, m, memory, budget, readings, log);
     *machine = record_after(out.machine, given);
     *answer = run_answer_of(out.answer);
 }

@@ -1,4 +1,4 @@
-// What programs, the C interface and hosts share: loading, and the number of an ending.
+// What programs, the C interface and hosts share: loading, running and stepping, and the number of an ending.
 // Loading goes from a routine's bytes to an installed machine and its commands: reading, rewriting,
 // checking and installing in one call. Whatever refuses, lent memory stays as it was, so the parts
 // work on lists of this crate's own and only a loaded routine's commands are copied out.
@@ -7,6 +7,7 @@ use rules::Ending;
 use rules::Installed;
 use rules::Layout;
 use rules::Machine;
+use rules::Outcome;
 use rules::Policy;
 use rules::Refusal;
 ghost use Prim.Native.Nat.{_≤_};
@@ -15,6 +16,7 @@ ghost use mathlib.Core.List.{_++_};
 ghost use lib.ListN.{length, drop};
 ghost use Rattle.rules.specs.Names.{mostCommands, endingNumber};
 ghost use Rattle.rules.specs.Policies.{policyOf};
+ghost use Rattle.rules.specs.Machines.{ranOf, runOf};
 ghost use Rattle.rules.specs.Loading.{loadOf, loadCommands, loadMemory};
 ghost use Rattle.sandbox.specs.Translating.{writtenAnswer, writtenOutput, inRoom, checkedAnswer, translateAnswer, Listed};
 
@@ -131,6 +133,35 @@ pub fn load(
         machine: m,
         answer: a,
     }
+}
+
+// A run of a loaded routine: the record stands in a local, is lent to the run and handed back.
+pub fn run(
+    layout: Layout,
+    commands: &[u64],
+    machine: Machine,
+    memory: &mut [u32],
+    budget: u32,
+    readings: &[u32],
+    log: &mut [u32],
+) -> Outcome
+    ensures { λ r. ⌜ ranOf r (now (memory .exit)) (now (log .exit)) ≡ runOf layout (now (commands .entry)) machine (now (memory .entry)) budget (now (readings .entry)) (now (log .entry)) ⌝ }
+{
+    lent::run_lent(layout, commands, machine, memory, budget, readings, log)
+}
+
+// One step of it.
+pub fn step(
+    layout: Layout,
+    commands: &[u64],
+    machine: Machine,
+    memory: &mut [u32],
+    readings: &[u32],
+    log: &mut [u32],
+) -> Outcome
+    ensures { λ r. ⌜ ranOf r (now (memory .exit)) (now (log .exit)) ≡ runOf layout (now (commands .entry)) machine (now (memory .entry)) 1 (now (readings .entry)) (now (log .entry)) ⌝ }
+{
+    machine::step_value(layout, commands, machine, memory, readings, log)
 }
 
 // Document 01's number of an ending.

@@ -8,7 +8,7 @@ run-answer-of-requires : tie.Need-run-answer-of-requires
 run-answer-of-requires c κs =
     let v = c .before .before .before .before .before in
     let s = v .before .before .before .before .before .before .before .before .before .before in
-    counts _ _ _ _ _ _ _ _ _ _ (v .run-value .ensures) (s .fits .budget .fits)
+    counts _ _ _ _ _ _ _ _ _ _ (v .run .ensures) (s .fits .budget .fits)
 
 returns : tie.Need-returns
 returns c =
@@ -16,7 +16,7 @@ returns c =
     let m = v .before .before .before in
     let l = m .before .before in
     let s = l .before .before .before .before .before in
-    left _ _ (l .layout-of .ensures) _ (now (s .args .machine)) _ _ _ _ _ _ _ _ (m .machine-of .ensures) (v .run-value .ensures) _ _ (c .before .record-after .ensures) (c .run-answer-of .ensures)
+    left _ _ (l .layout-of .ensures) _ (now (s .args .machine)) _ _ _ _ _ _ _ _ (m .machine-of .ensures) (v .run .ensures) _ _ (c .before .record-after .ensures) (c .run-answer-of .ensures)
 
 pub hemdroas-run-spec : {M : Type 1} → statement M
 hemdroas-run-spec =

@@ -12,19 +12,19 @@ use Rattle.trial.proofs.run.Statement.{statement}
 use Rattle.trial.proofs.run.Tie as tie
 use Rattle.trial.proofs.run.Reads as reads
 use Rattle.trial.proofs.run.Lts as lts
-use Rattle.lent.proofs.run_lent.Reads as run-lent-reads
+use Rattle.sandbox.proofs.run.Reads as run-reads
 use Rattle.sandbox.proofs.ending_number.Reads as ending-number-reads
 use Rattle.trial.proofs.print_end.Reads as print-end-reads
 use Rattle.trial.proofs.print_events.Reads as print-events-reads
 
-slice-aggregate-run-lent : tie.Need-slice-aggregate-run-lent
-slice-aggregate-run-lent c = search needs
+slice-aggregate-run : tie.Need-slice-aggregate-run
+slice-aggregate-run c = search needs
 
-slice-aggregate-run-lent-2 : tie.Need-slice-aggregate-run-lent-2
-slice-aggregate-run-lent-2 c = search needs
+slice-aggregate-run-2 : tie.Need-slice-aggregate-run-2
+slice-aggregate-run-2 c = search needs
 
-run-lent-requires : tie.Need-run-lent-requires
-run-lent-requires c κs = search needs
+run-requires : tie.Need-run-requires
+run-requires c κs = search needs
 
 slice-aggregate-print-events : tie.Need-slice-aggregate-print-events
 slice-aggregate-print-events c = search needs
@@ -34,7 +34,7 @@ within : (o : Outcome) (mem log : List ℕ) (r : Ran) (g rd : List ℕ) (n : ℕ
 within o mem log r g rd n e k = let c : RunCounts g rd n (ranOf o mem log) = rw e k in omega (arith, c .room, c .log)
 
 print-events-requires : tie.Need-print-events-requires
-print-events-requires c κs = within _ _ _ _ _ _ _ (c .before .before .before .run-lent .ensures) (run-counts _ _ _ _ _ _ _)
+print-events-requires c κs = within _ _ _ _ _ _ _ (c .before .before .before .run .ensures) (run-counts _ _ _ _ _ _ _)
 
 ending-number-requires : tie.Need-ending-number-requires
 ending-number-requires c κs = search needs
@@ -52,9 +52,9 @@ pub run-spec : {M : Type 1} → statement M
 run-spec =
     tie.close
     (tie.spec
-    slice-aggregate-run-lent
-    slice-aggregate-run-lent-2
-    run-lent-requires
+    slice-aggregate-run
+    slice-aggregate-run-2
+    run-requires
     slice-aggregate-print-events
     print-events-requires
     ending-number-requires
