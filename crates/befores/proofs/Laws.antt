@@ -8,16 +8,16 @@ use native.Mathlib.Nat.{mod-eq-of-lt}
 use lib.Bits.{bitAnd, bitOr, and-mask, mask-lt, or-lt}
 use lib.Count.{ones, ones-le}
 use lib.Dec.{eqb, leb, ltb}
-use lib.ListN.{length, getD, set, drop}
+use lib.ListN.{length, getD, drop}
 use borrow.Author.Tests.{ltb-true, eq-eqb, ne-eqb, lt-ltb, le-ltb, leb-true}
 use lib.Pow.{pow-lt, pow-pos, pow-mono}
 use Rattle.rules.specs.declared.Refusal.the-variants.{SmallOutput, BadPair}
 use Rattle.rules.specs.Names.{events, noArrow, answer, refusal}
 use Rattle.rules.proofs.Bools.{both}
 use Rattle.befores.specs.declared.Made.{Made}
-use Rattle.befores.specs.Maps.{every, some, mapOf, bit, build}
+use Rattle.policy_maps.specs.Maps.{every, some, mapOf, bit, build}
 use Rattle.befores.specs.Befores.{Fit, namedIn, named, knownIn, known, mostNamed, firstAt, pairsIn, place, firstsIn, statesOf, bytesOf, namedCount, arrowOf, entryOf, stuck, onOf, turnsOf, fullOf, neverOf, pairsRight, makeAnswer, madeWith, makeOf, makeTable}
-use Rattle.befores.proofs.Maps.{every-at, map-or, map-one, map-none, map-low, map-ones, bit-map, count-less, map-lt, length-build, build-more}
+use Rattle.policy_maps.proofs.Maps.{every-at, map-or, map-one, map-none, map-low, map-ones, bit-map, count-less, map-lt, length-build}
 
 pub known-none : (ps : List ℕ) → knownIn ps 0 ≡ true
 unfolding knownIn every
@@ -189,16 +189,6 @@ module _ (ps : List ℕ) (m : ℕ) (fit : Fit ps m) where
   turned s i e = rw e (turns-below i)
 
 -- ---- the table
-
-pub fill-none : (f : ℕ → ℕ) (t : List ℕ) → t ≡ build f 0 ++ drop 0 t
-unfolding build
-fill-none f t = refl
-
-pub fill-more : (f : ℕ → ℕ) (t₀ t : List ℕ) (i r : ℕ) → t ≡ build f i ++ drop i t₀ → i < length t₀ → r ≡ f i → set t i r ≡ build f (i + 1) ++ drop (i + 1) t₀
-fill-more f t₀ t i r e h g = rw (e, g) (build-more f t₀ i h)
-
-pub fill-done : (f : ℕ → ℕ) (t₀ t : List ℕ) (i n : ℕ) → t ≡ build f i ++ drop i t₀ → n ≤ i → i ≤ n → t ≡ build f n ++ drop n t₀
-fill-done f t₀ t i n e h k = let q : i ≡ n = omega arith in e ∙ ap (λ (j : ℕ). build f j ++ drop j t₀) q
 
 pub row-below : (ps : List ℕ) (i n : ℕ) → n ≡ bytesOf ps → i < n → i / events < statesOf ps
 row-below ps i n e h = omega arith

@@ -14,10 +14,10 @@ use borrow.Author.Tests.{ltb-true, ltb-false, leb-true, leb-false, eqb-true, eqb
 use Rattle.rules.specs.Names.{events, noArrow}
 use Rattle.rules.specs.Policies.{Policy, arrow, stateFrom, allowedFrom, allowed}
 use Rattle.rules.proofs.Bools.{no, cases, both, either, join}
-use Rattle.befores.specs.Maps.{count, mapOf, bit}
+use Rattle.policy_maps.specs.Maps.{count, mapOf, bit}
 use Rattle.befores.specs.Befores.{Fit, mostNamed, named, namedCount, pairsIn, firstAt, place, statesOf, firstsIn, arrowOf, stuck, onOf, turnsOf, fullOf, neverOf, madePolicy}
 use Rattle.befores.specs.Claims.{Unheard, NeverLaws, NeverAllowed}
-use Rattle.befores.proofs.Maps.{or-left, or-right, bit-or, bit-same, bit-zero, bit-map, bit-high, bit-kept, map-lt, count-le, count-sub-less}
+use Rattle.policy_maps.proofs.Maps.{or-left, or-right, bit-or, bit-same, bit-zero, bit-map, bit-high, bit-kept, map-lt, count-le, count-sub-less}
 use Rattle.befores.proofs.Laws.{on-is, stuck-is, turns-below, place-less}
 use Rattle.befores.proofs.Policies.{fit-right, arrow-is, arrow-above}
 use Rattle.befores.proofs.Orders.{first-recorded, firsts-recorded, open-firsts, moves, moves-named, moves-unnamed, moves-below}

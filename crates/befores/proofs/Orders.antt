@@ -14,10 +14,10 @@ use borrow.Author.Tests.{ltb-true, ltb-false, eqb-true, eqb-false, eq-eqb, not-t
 use Rattle.rules.specs.Names.{events}
 use Rattle.rules.specs.Policies.{allowedFrom, allowed}
 use Rattle.rules.proofs.Bools.{no, cases, both, either, join}
-use Rattle.befores.specs.Maps.{mapOf, bit}
+use Rattle.policy_maps.specs.Maps.{mapOf, bit}
 use Rattle.befores.specs.Befores.{Fit, namedIn, named, namedCount, pairsIn, firstAt, secondAt, place, statesOf, firstsIn, arrowOf, stuck, onOf, madePolicy}
 use Rattle.befores.specs.Claims.{Among, AreEvents, OrderLaws, AllowedInOrder}
-use Rattle.befores.proofs.Maps.{or-left, or-right, every-at, every-all, some-at, count-less, bit-or, bit-same, bit-other, bit-zero}
+use Rattle.policy_maps.proofs.Maps.{or-left, or-right, every-at, every-all, some-at, count-less, bit-or, bit-same, bit-other, bit-zero}
 use Rattle.befores.proofs.Laws.{on-is, on-below, stuck-is}
 use Rattle.befores.proofs.Policies.{fit-right, arrow-is}
 

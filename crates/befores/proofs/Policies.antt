@@ -1,20 +1,21 @@
 -- The made policy: what is handed back and left, its arrows, and that it is right.
-use Prim.Native.Nat.{ℕ, zero, suc, _+_, _*_, _/_, _%_, _<_, _≤_}
-use mathlib.Core.Path.{_≡_, refl, sym, ap, ap₂, _∙_}
-use mathlib.Core.Bool.{Bool, true, false, _&&_, _||_, cond, and-assoc}
-use mathlib.Core.List.{List, [], _∷_, _++_}
+use Prim.Native.Nat.{ℕ, _+_, _*_, _/_, _%_, _<_, _≤_}
+use mathlib.Core.Path.{_≡_, refl, sym, ap₂, _∙_}
+use mathlib.Core.Bool.{Bool, true, false, _||_, cond}
+use mathlib.Core.List.{List}
 use native.Mathlib.Omega.{arith}
 use lib.Dec.{ltb}
-use lib.ListN.{length, take, drop}
+use lib.ListN.{length, drop}
 use lib.Seq.{take-at}
 use lib.Pow.{pow-pos}
 use borrow.Author.Tests.{eq-eqb, lt-ltb, le-ltb}
 use Rattle.rules.specs.Names.{events, mostStates, noArrow}
-use Rattle.rules.specs.Policies.{Policy, arrow, entryRight, entriesRight, rightPolicy}
-use Rattle.befores.specs.Maps.{mapOf, build}
+use Rattle.rules.specs.Policies.{Policy, arrow, entryRight, rightPolicy}
+use Rattle.policy_maps.specs.Maps.{mapOf}
 use Rattle.befores.specs.Befores.{Fit, named, namedCount, statesOf, bytesOf, arrowOf, entryOf, stuck, tableOf, madePolicy, pairsRight, makeAnswer, makeOf, makeTable}
 use Rattle.befores.specs.Claims.{Makes, TakenMakes, MadeRight}
-use Rattle.befores.proofs.Maps.{or-left, or-right, length-build, build-at}
+use Rattle.policy_maps.proofs.Tables.{entries-build}
+use Rattle.policy_maps.proofs.Maps.{or-left, or-right, length-build, build-at}
 use Rattle.befores.proofs.Laws.{fit-of, states-most, on-below}
 
 pub fit-right : (ps : List ℕ) → pairsRight ps ≡ true → Fit ps (mapOf (named ps) events)
@@ -71,17 +72,6 @@ entry-right ps m fit i h = go (stuck ps s e) refl (on-below ps m fit s e (omega 
     go : (b : Bool) → stuck ps s e ≡ b → cond b s (arrowOf ps s e) < statesOf ps → (ltb (arrowOf ps s e) (statesOf ps) || stuck ps s e) ≡ true
     go true t l = or-right (ltb (arrowOf ps s e) (statesOf ps)) (stuck ps s e) t
     go false t l = or-left (ltb (arrowOf ps s e) (statesOf ps)) (stuck ps s e) (lt-ltb (arrowOf ps s e) (statesOf ps) l)
-
-entries-append : (s : ℕ) (a b : List ℕ) → entriesRight s (a ++ b) ≡ (entriesRight s a && entriesRight s b)
-entries-append s [] b = refl
-entries-append s (x ∷ a) b = ap (λ (r : Bool). entryRight s x && r) (entries-append s a b) ∙ sym (and-assoc (entryRight s x) (entriesRight s a) (entriesRight s b))
-
-entries-build : (s : ℕ) (f : ℕ → ℕ) (n : ℕ) → ((i : ℕ) → i < n → entryRight s (f i) ≡ true) → entriesRight s (build f n) ≡ true
-unfolding build
-entries-build s f zero g = refl
-entries-build s f (suc n) g =
-    entries-append s (build f n) (f n ∷ [])
-    ∙ ap₂ _&&_ (entries-build s f n (λ i h. g i (omega arith))) (ap (λ (x : Bool). x && true) (g n (omega arith)))
 
 pub made-right : MadeRight
 unfolding rightPolicy

@@ -1,6 +1,6 @@
 -- The worked samples, by computation.
 use mathlib.Core.Path.{refl}
-use Rattle.befores.specs.Maps.{every, some, count, mapOf, bit, build}
+use Rattle.policy_maps.specs.Maps.{every, some, count, mapOf, bit, build}
 use Rattle.befores.specs.Befores.{namedIn, knownIn, pairsRight, firstsIn, arrowOf, turnsOf, makeAnswer, makeOf}
 use Rattle.befores.specs.Claims.{Worked}
 

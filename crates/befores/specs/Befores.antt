@@ -10,7 +10,7 @@ use Rattle.rules.specs.declared.Answer.{Answer}
 use Rattle.rules.specs.declared.Refusal.the-variants.{BadPair}
 use Rattle.rules.specs.Names.{events, noArrow, refusal, ifTaken, outputOf, roomFor, first}
 use Rattle.rules.specs.Policies.{Policy, policyOf}
-use Rattle.befores.specs.Maps.{every, some, count, mapOf, bit, build}
+use Rattle.policy_maps.specs.Maps.{every, some, count, mapOf, bit, build}
 use Rattle.befores.specs.declared.Made.{Made}
 
 -- 'more than four named events' are too many

@@ -7,7 +7,7 @@ use lib.ListN.{length, getD, take}
 use Rattle.rules.specs.declared.Layout.{Layout}
 use Rattle.rules.specs.Names.{events, answer}
 use Rattle.rules.specs.Policies.{allowed, rightPolicy}
-use Rattle.befores.specs.Maps.{bit}
+use Rattle.policy_maps.specs.Maps.{bit}
 use Rattle.befores.specs.Befores.{pairsIn, firstAt, secondAt, pairsRight, statesOf, tableOf, madePolicy, neverOf, makeAnswer, madeWith, makeOf, makeTable}
 
 -- what is handed back and left with answer 0 is the policy of which the other claims speak

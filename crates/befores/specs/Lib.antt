@@ -1,3 +1,2 @@
-pub mod Maps
 pub mod Befores
 pub mod Claims

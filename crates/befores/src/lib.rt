@@ -11,7 +11,7 @@ ghost use lib.Bits.{bitAnd};
 ghost use lib.Dec.{eqb};
 ghost use lib.Count.{ones};
 ghost use Rattle.rules.specs.Names.{events, answer};
-ghost use Rattle.befores.specs.Maps.{mapOf, bit, build};
+ghost use Rattle.policy_maps.specs.Maps.{mapOf, build};
 ghost use Rattle.befores.specs.Befores.{Fit, named, known, mostNamed, pairsIn, pairsRight, statesOf, firstsIn, arrowOf, entryOf, bytesOf, stuck, onOf, fullOf, neverOf, madeWith, makeOf, makeTable};
 
 // The most events that a list of pairs may name.
@@ -77,14 +77,6 @@ fn place(names: usize, e: usize) -> usize
     usize::count_ones(names & ((1 << e) - 1)) as usize
 }
 
-// Whether a bit of a map is set.
-fn bit_set(map: usize, k: usize) -> bool
-    requires { ⌜ k < events ⌝ }
-    ensures { λ r. ⌜ r ≡ bit map k ⌝ }
-{
-    (map >> k) % 2 == 1
-}
-
 // Whether all firsts of an event are recorded in a state.
 fn firsts_recorded(names: usize, pairs: &[u8], s: usize, e: usize) -> bool
     requires { ⌜ Fit (now pairs) names ⌝ }
@@ -93,7 +85,9 @@ fn firsts_recorded(names: usize, pairs: &[u8], s: usize, e: usize) -> bool
     let mut ok = true;
     let mut i: usize = 0;
     while i < pairs.len() / 2 {
-        ok = ok & ((index(pairs[2 * i + 1]) != e) | bit_set(s, place(names, index(pairs[2 * i]))));
+        ok = ok
+            & ((index(pairs[2 * i + 1]) != e)
+                | policy_maps::bit_set(s, place(names, index(pairs[2 * i]))));
         i = i + 1;
     }
     ok
@@ -104,7 +98,7 @@ fn arrow(names: usize, pairs: &[u8], s: usize, e: usize) -> usize
     requires { ⌜ Fit (now pairs) names × (s < statesOf (now pairs)) × (e < events) ⌝ }
     ensures { λ r. ⌜ (r ≡ arrowOf (now (pairs .entry)) s e) × (r < 256) ⌝ }
 {
-    if !bit_set(names, e) {
+    if !policy_maps::bit_set(names, e) {
         return s;
     }
     if firsts_recorded(names, pairs, s, e) {

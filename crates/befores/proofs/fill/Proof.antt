@@ -5,9 +5,10 @@ use native.Mathlib.Omega.{arith}
 use denote.Ref.{now}
 use borrow.Author.Needs.{needs}
 use lib.ListN.{length, drop}
-use Rattle.befores.specs.Maps.{build}
+use Rattle.policy_maps.specs.Maps.{build}
 use Rattle.befores.specs.Befores.{entryOf}
-use Rattle.befores.proofs.Laws.{fill-none, fill-more, fill-done, row-below}
+use Rattle.policy_maps.proofs.Tables.{fill-none, fill-more, fill-done}
+use Rattle.befores.proofs.Laws.{row-below}
 use Rattle.befores.proofs.fill.Statement.{statement}
 use Rattle.befores.proofs.fill.Tie as tie
 

@@ -3,7 +3,7 @@ use mathlib.Core.Path.{_≡_}
 use borrow.Author.Needs.{needs}
 use lib.ListN.{length}
 use Rattle.rules.specs.Names.{events}
-use Rattle.befores.specs.Maps.{mapOf}
+use Rattle.policy_maps.specs.Maps.{mapOf}
 use Rattle.befores.specs.Befores.{namedIn}
 use Rattle.befores.proofs.Laws.{names-none, names-more, names-done}
 use Rattle.befores.proofs.names.Statement.{statement}

@@ -3,7 +3,7 @@ use mathlib.Core.Path.{_≡_}
 use denote.Ref.{now}
 use borrow.Author.Needs.{needs}
 use Rattle.rules.specs.Names.{events}
-use Rattle.befores.specs.Maps.{mapOf}
+use Rattle.policy_maps.specs.Maps.{mapOf}
 use Rattle.befores.specs.Befores.{stuck}
 use Rattle.befores.proofs.Laws.{all-none, all-more, all-fits, all-done}
 use Rattle.befores.proofs.stuck_all.Statement.{statement}

@@ -1,8 +1,8 @@
 use mathlib.Core.Path.{refl}
 use borrow.Author.Needs.{needs}
-use Rattle.befores.specs.Maps.{bit}
-use Rattle.befores.proofs.bit_set.Statement.{statement}
-use Rattle.befores.proofs.bit_set.Tie as tie
+use Rattle.policy_maps.specs.Maps.{bit}
+use Rattle.policy_maps.proofs.bit_set.Statement.{statement}
+use Rattle.policy_maps.proofs.bit_set.Tie as tie
 
 returns : tie.Need-returns
 unfolding bit

@@ -14,7 +14,7 @@ use lib.Pow.{pow-add, pow-pos, pow-lt, pow-mono, high, low, split, mod-mod-pow, 
 use lib.Seq.{getD-at, set-at, drop-cons, append-snoc}
 use borrow.Author.Tests.{eqb-true, eqb-false, ne-eqb, ltb-true, ltb-false}
 use Rattle.rules.proofs.Bools.{both, either, no}
-use Rattle.befores.specs.Maps.{every, some, count, mapOf, bit, build}
+use Rattle.policy_maps.specs.Maps.{every, some, count, mapOf, bit, build}
 
 -- ---- every and some
 
