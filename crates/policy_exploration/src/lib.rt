@@ -1,0 +1,152 @@
+// What can be reached: the nodes that events lead to from a start, numbered as first met, and the policy of their numbers.
+// A node is a number above 0; 0 is no node. The caller has a loop: it asks for the node whose arrow is next and says where that leads.
+use rules::Answer;
+use rules::Layout;
+use rules::Policy;
+use rules::Refusal;
+ghost use mathlib.Core.Path.{_≡_};
+ghost use mathlib.Core.List.{_++_};
+ghost use Prim.Native.Nat.{_+_, _*_, _/_, _≤_, _<_};
+ghost use lib.ListN.{length, getD, take, drop};
+ghost use Rattle.rules.specs.Names.{events, mostStates, answer};
+ghost use Rattle.policy_exploration.specs.Reach.{place as placeOf, madeWith};
+ghost use Rattle.policy_exploration.specs.Founds.{Sized, foundAt, stepOf, moreOf, writtenOf, writtenTable};
+
+// The most states of a policy.
+const MOST: usize = Layout::MOST_STATES as usize;
+
+// Events of one row.
+const EVENTS: usize = Policy::EVENTS as usize;
+
+// The nodes found, with one place for the node that is too many, how many they are, and the numbers of those to which the arrows lead.
+pub struct Found {
+    pub nodes: [u16; 17],
+    pub count: usize,
+    pub arrows: [u8; 256],
+}
+
+// What making a policy answers: place is the bytes written; the policy's numbers.
+pub struct Made {
+    pub answer: Answer,
+    pub policy: Policy,
+}
+
+// The start alone.
+pub fn begin(start: u16) -> Found
+    ensures { λ r. ⌜ r ≡ foundAt start ⌝ }
+{
+    let mut nodes: [u16; 17] = [0; 17];
+    nodes[0] = start;
+    Found {
+        nodes,
+        count: 1,
+        arrows: [0; 256],
+    }
+}
+
+// Whether arrow k is one of a node that was found, and these are not too many.
+pub fn more(f: Found, k: usize) -> bool
+    requires { ⌜ Sized f ⌝ }
+    ensures { λ r. ⌜ r ≡ moreOf f k ⌝ }
+{
+    (k < EVENTS * f.count) & (f.count <= MOST)
+}
+
+// The node of arrow k.
+pub fn node(f: Found, k: usize) -> u16
+    requires { ⌜ k < events * mostStates ⌝ }
+    ensures { λ r. ⌜ r ≡ getD (f .nodes) (k / events) 0 ⌝ }
+{
+    let nodes = f.nodes;
+    nodes[k / EVENTS]
+}
+
+// The place of a node among the first n; n if it is not among them.
+fn place(nodes: &[u16; 17], n: usize, x: u16) -> usize
+    requires { ⌜ (n ≤ mostStates + 1) × (n ≤ length (now nodes)) ⌝ }
+    ensures { λ r. ⌜ (r ≡ placeOf (take n (now (nodes .entry))) x) × (r ≤ n) ⌝ }
+{
+    let mut i: usize = 0;
+    while i < n {
+        if nodes[i] == x {
+            return i;
+        }
+        i = i + 1;
+    }
+    n
+}
+
+// What is found when arrow k leads to x.
+pub fn step(f: Found, k: usize, x: u16) -> Found
+    requires { ⌜ Sized f × (f .count ≤ mostStates) × (k < events * mostStates) ⌝ }
+    ensures { λ r. ⌜ r ≡ stepOf f k x ⌝ }
+{
+    let mut g = f;
+    if x == 0 {
+        g.arrows[k] = Policy::NO_ARROW as u8;
+        return g;
+    }
+    let n = f.count;
+    let nodes = f.nodes;
+    let p = place(&nodes, n, x);
+    g.arrows[k] = p as u8;
+    if p < n {
+        return g;
+    }
+    g.nodes[n] = x;
+    g.count = n + 1;
+    g
+}
+
+// A refusal: all else is 0.
+pub fn refused(number: u8) -> Made
+    ensures { λ r. ⌜ r ≡ madeWith (answer number 0) 0 ⌝ }
+{
+    Made {
+        answer: Answer { number, place: 0 },
+        policy: Policy {
+            states: 0,
+            start: 0,
+        },
+    }
+}
+
+// The first n bytes over the start of the others.
+fn copy(from: &[u8; 256], to: &mut [u8], n: usize)
+    requires { ⌜ (n ≤ events * mostStates) × (n ≤ length (now from)) × (n ≤ length (now to)) ⌝ }
+    ensures { λ _. ⌜ now (to .exit) ≡ take n (now (from .entry)) ++ drop n (now (to .entry)) ⌝ }
+{
+    let mut i: usize = 0;
+    while i < n {
+        to[i] = from[i];
+        i = i + 1;
+    }
+}
+
+// Writes the policy of the nodes found: its table from the start of the one lent.
+pub fn write(f: Found, table: &mut [u8]) -> Made
+    requires { ⌜ Sized f ⌝ }
+    ensures made { λ r. ⌜ r ≡ writtenOf f (length (now (table .entry))) ⌝ }
+    ensures table { λ _. ⌜ now (table .exit) ≡ writtenTable f (now (table .entry)) ⌝ }
+{
+    let n = f.count;
+    if MOST < n {
+        return refused(Refusal::TOO_MANY_STATES);
+    }
+    let bytes = EVENTS * n;
+    if table.len() < bytes {
+        return refused(Refusal::SMALL_OUTPUT);
+    }
+    let arrows = f.arrows;
+    copy(&arrows, table, bytes);
+    Made {
+        answer: Answer {
+            number: Refusal::TAKEN,
+            place: bytes,
+        },
+        policy: Policy {
+            states: n as u32,
+            start: 0,
+        },
+    }
+}
