@@ -1,0 +1,94 @@
+-- What is claimed of the policy made of a drawing. Each claim is a type; its proof has the claim's name in small letters, in proofs/.
+use Prim.Native.Nat.{ℕ}
+use mathlib.Core.Path.{_≡_}
+use mathlib.Core.Bool.{true}
+use mathlib.Core.List.{List, [], _∷_, _++_}
+use lib.ListN.{length, take, replicate}
+use Rattle.rules.specs.declared.Layout.{Layout}
+use Rattle.rules.specs.Names.{noArrow, answer}
+use Rattle.rules.specs.Policies.{allowed, rightPolicy}
+use Rattle.policy_maps.specs.Maps.{bit}
+use Rattle.policy_exploration.specs.Reach.{statesOf, few, madeWith, after}
+use Rattle.policy_exploration.specs.Claims.{Exactly}
+use Rattle.policy_determinise.specs.Drawings.{Drawing, drawingOf, successors, setAfter, drawingRight, madePolicy, determiniseOf, determiniseTable}
+
+-- what is handed back and left with answer 0 is the policy of which the other claims speak
+pub record Makes (d : Drawing) (table : List ℕ) : Type 0 where
+  pub right : drawingRight d ≡ true
+  pub few : few (setAfter d) (d .starts) ≡ true
+  pub states : determiniseOf d (length table) .policy .states ≡ madePolicy d .states
+  pub start : determiniseOf d (length table) .policy .start ≡ madePolicy d .start
+  pub leaves : take (determiniseOf d (length table) .answer .place) (determiniseTable d table) ≡ madePolicy d .table
+
+abbrev pub TakenMakes : Type 0
+TakenMakes = (d : Drawing) (table : List ℕ) → determiniseOf d (length table) .answer .number ≡ 0 → Makes d table
+
+-- the policy can be installed under a layout with as many states
+abbrev pub MadeRight : Type 0
+MadeRight = (d : Drawing) (lay : Layout) → drawingRight d ≡ true → few (setAfter d) (d .starts) ≡ true → lay .states ≡ statesOf (setAfter d) (d .starts) → rightPolicy lay (madePolicy d) ≡ true
+
+-- a way through the drawing from state s to state t that follows a list of events
+pub data Way (d : Drawing) : ℕ → List ℕ → ℕ → Type 0 where
+  ends : {s : ℕ} → Way d s [] s
+  goes : {s n t : ℕ} {es : List ℕ} (u : ℕ) → bit (successors (d .arrows) s n) u ≡ true → Way d u es t → Way d s (n ∷ es) t
+
+-- a run that follows a list of events and ends in state t: a way from one of the starts
+pub record Run (d : Drawing) (es : List ℕ) (t : ℕ) : Type 0 where
+  pub from : ℕ
+  pub starts : bit (d .starts) from ≡ true
+  pub way : Way d from es t
+
+pub record Followed (d : Drawing) (es : List ℕ) : Type 0 where
+  pub end : ℕ
+  pub run : Run d es end
+
+-- 'An event word is allowed afterwards exactly if some run through the drawing follows it'
+pub record RunLaws (d : Drawing) (es : List ℕ) : Type 0 where
+  pub follows : allowed (madePolicy d) es ≡ true → Followed d es
+  pub allows : Followed d es → allowed (madePolicy d) es ≡ true
+
+abbrev pub AllowedRuns : Type 0
+AllowedRuns = (d : Drawing) (es : List ℕ) → drawingRight d ≡ true → few (setAfter d) (d .starts) ≡ true → RunLaws d es
+
+-- the set after a list of events holds the states in which its runs end
+pub record SetLaws (d : Drawing) (es : List ℕ) (t : ℕ) : Type 0 where
+  pub ends : bit (after (setAfter d) (d .starts) es) t ≡ true → Run d es t
+  pub holds : Run d es t → bit (after (setAfter d) (d .starts) es) t ≡ true
+
+abbrev pub SetsAreEnds : Type 0
+SetsAreEnds = (d : Drawing) (es : List ℕ) (t : ℕ) → drawingRight d ≡ true → SetLaws d es t
+
+-- the states are the sets that are reached, each once; 15 is given exactly if there are more than 16
+abbrev pub SetsExact : Type 0
+SetsExact = (d : Drawing) → drawingRight d ≡ true → Exactly (setAfter d) (d .starts)
+
+-- a row of a drawing with arrows for events 0 and 1 only, and one of a table
+abbrev pub drawn : ℕ → ℕ → List ℕ
+drawn a b = a ∷ b ∷ replicate 14 0
+
+abbrev pub row : ℕ → ℕ → List ℕ
+row a b = a ∷ b ∷ replicate 14 noArrow
+
+-- two states: event 0 leads from 0 to both, event 1 from 1 to 0
+abbrev pub both : List ℕ
+both = drawn 3 0 ++ drawn 0 1
+
+-- 'the fourth event from the end is 1': 16 sets of five states; 'the fifth', of six, has 32
+abbrev pub fourth : List ℕ
+fourth = drawn 1 3 ++ drawn 4 4 ++ drawn 8 8 ++ drawn 16 16 ++ drawn 0 0
+
+abbrev pub fifth : List ℕ
+fifth = drawn 1 3 ++ drawn 4 4 ++ drawn 8 8 ++ drawn 16 16 ++ drawn 32 32 ++ drawn 0 0
+
+pub record Worked : Type 0 where
+  pub sets : determiniseOf (drawingOf 2 1 both) 32 ≡ madeWith (answer 0 32) 2
+  pub rows : madePolicy (drawingOf 2 1 both) .table ≡ row 1 255 ++ row 1 0
+  pub starts : madePolicy (drawingOf 2 2 both) .table ≡ row 255 1 ++ row 2 255 ++ row 2 1
+  pub sixteen : determiniseOf (drawingOf 5 1 fourth) 256 ≡ madeWith (answer 0 256) 16
+  pub many : determiniseOf (drawingOf 6 1 fifth) 0 ≡ madeWith (answer 15 0) 0
+  pub small : determiniseOf (drawingOf 5 1 fourth) 255 ≡ madeWith (answer 9 0) 0
+  pub no-start : determiniseOf (drawingOf 2 0 both) 0 ≡ madeWith (answer 16 0) 0
+  pub no-state : determiniseOf (drawingOf 0 1 []) 0 ≡ madeWith (answer 16 0) 0
+  pub start-above : determiniseOf (drawingOf 2 4 both) 32 ≡ madeWith (answer 16 0) 0
+  pub bit-above : determiniseOf (drawingOf 2 1 (drawn 3 0 ++ drawn 0 4)) 32 ≡ madeWith (answer 16 0) 0
+  pub short : determiniseOf (drawingOf 2 1 (drawn 3 0)) 32 ≡ madeWith (answer 16 0) 0

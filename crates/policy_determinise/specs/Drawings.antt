@@ -1,0 +1,66 @@
+-- Request 8, 'Policies drawn with several arrows': the policy of the sets of states that events lead to.
+use Prim.Native.Nat.{ℕ, zero, suc, _+_, _*_, _^_, _<_, _≤_}
+use mathlib.Core.Path.{_≡_}
+use mathlib.Core.Bool.{Bool, true, _&&_, not, cond}
+use mathlib.Core.List.{List, [], _∷_}
+use lib.ListN.{length, getD}
+use lib.Dec.{eqb, ltb}
+use lib.Bits.{bitOr}
+use Rattle.rules.specs.declared.Refusal.the-variants.{BadDrawing}
+use Rattle.rules.specs.Names.{events, mostStates, refusal, first}
+use Rattle.rules.specs.Policies.{Policy, statesRight}
+use Rattle.policy_maps.specs.Maps.{bit}
+use Rattle.policy_exploration.specs.Reach.{policyFrom, madeWith, reachOf, reachTable}
+use Rattle.policy_exploration.specs.declared.Made.{Made}
+
+-- the state count, the map of the starts, and 'entry 16 × s + n such a map of the successors of state s under event n'
+pub record Drawing : Type 0 where
+  pub states : ℕ
+  pub starts : ℕ
+  pub arrows : List ℕ
+
+abbrev pub drawingOf : ℕ → ℕ → List ℕ → Drawing
+drawingOf s q ms = record { states = s; starts = q; arrows = ms }
+
+-- the map of the successors of a state under an event; no entry is no arrow
+abbrev pub successors : List ℕ → ℕ → ℕ → ℕ
+successors ms s n = cond (ltb n events) (getD ms (events * s + n) 0) 0
+
+-- the successors, under event n, of those of the first k states that are in the set x
+unfoldable pub unionOf : List ℕ → ℕ → ℕ → ℕ → ℕ
+unionOf ms x n zero = 0
+unionOf ms x n (suc k) = bitOr (unionOf ms x n k) (cond (bit x k) (successors ms k n) 0)
+
+-- the set after event n in the set x; the empty one is 0
+abbrev pub setAfter : Drawing → ℕ → ℕ → ℕ
+setAfter d x n = unionOf (d .arrows) x n (d .states)
+
+-- no map has 'a bit at or above the state count'
+abbrev pub mapsRight : ℕ → List ℕ → Bool
+mapsRight s [] = true
+mapsRight s (m ∷ ms) = ltb m (2 ^ s) && mapsRight s ms
+
+-- what 16 does not refuse: 'no start, a state count outside 1 to 16, the wrong length, or a bit at or above the state count'
+unfoldable pub drawingRight : Drawing → Bool
+drawingRight d = statesRight (d .states) && not (eqb (d .starts) 0) && eqb (length (d .arrows)) (events * d .states) && mapsRight (d .states) (d .starts ∷ d .arrows)
+
+-- 'Sets are numbered as first met, as pairs are in the merge'
+abbrev pub madePolicy : Drawing → Policy
+madePolicy d = policyFrom (setAfter d) (d .starts)
+
+-- what a drawing that 16 does not refuse has
+pub record Fit (d : Drawing) : Type 0 where
+  pub some-states : 1 ≤ d .states
+  pub few-states : d .states ≤ mostStates
+  pub starts-some : d .starts ≡ 0 → ⊥
+  pub starts-below : d .starts < 2 ^ d .states
+  pub size : length (d .arrows) ≡ events * d .states
+  pub below : (i : ℕ) → getD (d .arrows) i 0 < 2 ^ d .states
+
+-- '16 .. comes first. 15 .. and then 9 follow': what is answered, with the policy's numbers
+unfoldable pub determiniseOf : Drawing → ℕ → Made
+determiniseOf d room = first ((not (drawingRight d), madeWith (refusal BadDrawing 0) 0) ∷ []) (reachOf (setAfter d) (d .starts) room)
+
+-- and what is left in the table
+unfoldable pub determiniseTable : Drawing → List ℕ → List ℕ
+determiniseTable d table = cond (drawingRight d) (reachTable (setAfter d) (d .starts) table) table

@@ -1,0 +1,121 @@
+// Policies drawn with several arrows: a deterministic policy of the sets of states that events lead to.
+use policy_exploration::Found;
+use policy_exploration::Made;
+use rules::Layout;
+use rules::Policy;
+use rules::Refusal;
+ghost use mathlib.Core.Path.{_≡_};
+ghost use mathlib.Core.Bool.{cond};
+ghost use Prim.Native.Nat.{_*_, _^_, _≤_, _<_};
+ghost use lib.ListN.{length};
+ghost use lib.Dec.{ltb};
+ghost use Rattle.rules.specs.Names.{events, mostStates};
+ghost use Rattle.policy_maps.specs.Maps.{bit};
+ghost use Rattle.policy_exploration.specs.Founds.{Explored};
+ghost use Rattle.policy_determinise.specs.Drawings.{Fit, drawingOf, unionOf, setAfter, mapsRight, drawingRight, determiniseOf, determiniseTable};
+
+// The most states of a drawing.
+const MOST: usize = Layout::MOST_STATES as usize;
+
+// Events of one row.
+const EVENTS: usize = Policy::EVENTS as usize;
+
+// The successors of a state, if it is in the set.
+fn part(x: u16, k: usize, m: u16) -> u16
+    requires { ⌜ k < mostStates ⌝ }
+    ensures { λ r. ⌜ r ≡ cond (bit x k) m 0 ⌝ }
+{
+    if policy_maps::bit_set(x as usize, k) {
+        m
+    } else {
+        0
+    }
+}
+
+// The set after an event in a set.
+fn next(states: usize, arrows: &[u16], x: u16, n: usize) -> u16
+    requires { ⌜ (states ≤ mostStates) × (n < events) × (length (now arrows) ≡ events * states) ⌝ }
+    ensures { λ r. ⌜ r ≡ unionOf (now (arrows .entry)) x n states ⌝ }
+{
+    let mut set: u16 = 0;
+    let mut k: usize = 0;
+    while k < states {
+        set = set | part(x, k, arrows[EVENTS * k + n]);
+        k = k + 1;
+    }
+    set
+}
+
+// Whether a map has no bit at or above the state count.
+fn below(m: u16, states: usize) -> bool
+    requires { ⌜ states ≤ mostStates ⌝ }
+    ensures { λ r. ⌜ r ≡ ltb m (2 ^ states) ⌝ }
+{
+    (m as u32) < (1 << states)
+}
+
+// Whether no map of a list has.
+fn maps_right(states: usize, arrows: &[u16]) -> bool
+    requires { ⌜ states ≤ mostStates ⌝ }
+    ensures { λ r. ⌜ r ≡ mapsRight states (now (arrows .entry)) ⌝ }
+{
+    let mut ok = true;
+    let mut i: usize = 0;
+    while i < arrows.len() {
+        ok = ok & below(arrows[i], states);
+        i = i + 1;
+    }
+    ok
+}
+
+// Whether 16 does not refuse a drawing.
+fn right(states: usize, starts: u16, arrows: &[u16]) -> bool
+    ensures { λ r. ⌜ r ≡ drawingRight (drawingOf states starts (now (arrows .entry))) ⌝ }
+{
+    if states < 1 {
+        return false;
+    }
+    if MOST < states {
+        return false;
+    }
+    (starts != 0)
+        & (arrows.len() == EVENTS * states)
+        & below(starts, states)
+        & maps_right(states, arrows)
+}
+
+// The sets that events lead to from the starts.
+fn explore(states: usize, starts: u16, arrows: &[u16]) -> Found
+    requires { ⌜ Fit (drawingOf states starts (now arrows)) ⌝ }
+    ensures { λ r. ⌜ Explored (setAfter (drawingOf states starts (now (arrows .entry)))) starts r ⌝ }
+{
+    let mut found = policy_exploration::begin(starts);
+    let mut k: usize = 0;
+    while policy_exploration::more(found, k) {
+        found = policy_exploration::step(
+            found,
+            k,
+            next(
+                states,
+                arrows,
+                policy_exploration::node(found, k),
+                k % EVENTS,
+            ),
+        );
+        k = k + 1;
+    }
+    found
+}
+
+// Makes the policy of a drawing: its table from the start of the one lent, its state count and start. The starts are a map of states,
+// and entry 16 × s + n such a map of the successors of state s under event n.
+pub fn determinise(states: u32, starts: u16, arrows: &[u16], table: &mut [u8]) -> Made
+    ensures made { λ r. ⌜ r ≡ determiniseOf (drawingOf states starts (now (arrows .entry))) (length (now (table .entry))) ⌝ }
+    ensures table { λ _. ⌜ now (table .exit) ≡ determiniseTable (drawingOf states starts (now (arrows .entry))) (now (table .entry)) ⌝ }
+{
+    let count = states as usize;
+    if !right(count, starts, arrows) {
+        return policy_exploration::refused(Refusal::BAD_DRAWING);
+    }
+    policy_exploration::write(explore(count, starts, arrows), table)
+}
