@@ -52,6 +52,9 @@
  *  12 bad count        not 4, 8, 16, ... 4096 commands
  *  13 bad base         B no multiple of the number of commands
  *  14 bad landings     landings not strictly rising, or one above 1023
+ *  15 too many states  the policy would have more than 16
+ *  16 bad drawing      no start, states not 1 to 16, n not 16 * states, or a
+ *                      bit at or above states
  *  17 bad pair         event above 15 or without its partner, or more than four
  *                      events named
  *  18 not forward      a GOX, or a GOIF to its own or a lower instruction
@@ -173,6 +176,20 @@ void hemdroas_engine (const uint32_t layout[16], const uint64_t *words, size_t n
  * e is set for event e, as where pairs make a ring. A refusal, 17 before 9, has
  * three zeros behind it. */
 void hemdroas_befores(const uint8_t *pairs, size_t n, uint8_t *table, size_t room, uint32_t made[4]);
+
+/* Makes the policy of a drawing in which a state may have several arrows for
+ * one event, and of which several states may be starts. Bit s of starts is set
+ * if state s is a start; bit t of arrows[16 * s + e] is set if event e leads
+ * from state s to state t, too. The policy's states are the sets of states that
+ * events lead to, the starts first, numbered as they are first met, events
+ * taken in rising order from the lowest numbered set; the empty set is none.
+ * So a list of events is allowed exactly if some run through the drawing
+ * follows it. 256 bytes are always room enough.
+ *
+ * made[4]: the answer's number and place, which is the bytes of the table
+ * written, its states, and its start state, 0. A refusal, 16 before 15 before
+ * 9, has three zeros behind it. */
+void hemdroas_determinise(uint32_t states, uint32_t starts, const uint16_t *arrows, size_t n, uint8_t *table, size_t room, uint32_t made[4]);
 
 #ifdef __cplusplus
 }

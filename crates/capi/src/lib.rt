@@ -18,6 +18,8 @@ ghost use Rattle.rules.specs.Loading.{loadAnswer, loadMachine, loadCommands, lo
 ghost use Rattle.hosts.specs.Numbers.{layoutFrom, machineTo, answerTo, runAnswerTo, recordAfter};
 ghost use Rattle.befores.specs.Befores.{makeOf, makeTable};
 ghost use Rattle.forward.specs.Forward.{forwardAnswer, checkForwardAnswer};
+ghost use Rattle.policy_determinise.specs.Drawings.{drawingOf, determiniseOf, determiniseTable};
+ghost use Rattle.capi_policies.specs.Numbers.{madeTo as policyTo};
 ghost use Rattle.capi.specs.Hosts.{runFor, yesOrNo, madeTo};
 
 // ---- answers as numbers
@@ -238,4 +240,19 @@ pub extern "C" fn hemdroas_befores(pairs: &[u8], table: &mut [u8], made: &mut [u
     ensures table { λ _. ⌜ now (table .exit) ≡ makeTable (now (pairs .entry)) (now (table .entry)) ⌝ }
 {
     *made = made_of(befores::make(pairs, table));
+}
+
+// Makes the policy of a drawing with several arrows and starts.
+#[no_mangle]
+pub extern "C" fn hemdroas_determinise(
+    states: u32,
+    starts: u32,
+    arrows: &[u16],
+    table: &mut [u8],
+    made: &mut [u32; 4],
+)
+    ensures made { λ _. ⌜ now (made .exit) ≡ policyTo (determiniseOf (drawingOf states starts (now (arrows .entry))) (length (now (table .entry)))) ⌝ }
+    ensures table { λ _. ⌜ now (table .exit) ≡ determiniseTable (drawingOf states starts (now (arrows .entry))) (now (table .entry)) ⌝ }
+{
+    capi_policies::determinise(states, starts, arrows, table, made);
 }
