@@ -15,8 +15,11 @@ pub mod names;
 pub mod native;
 #[cfg(feature = "native")]
 pub mod native_forward;
+pub mod native_policies;
+mod policies;
 mod types;
 
+pub use policies::{Determinised, Drawing};
 pub use types::{
     Answer, Ending, Layout, LayoutArray, Machine, Made, Policy, Record, Refusal, RunAnswer, Status,
 };
