@@ -33,7 +33,7 @@ const WORD: usize = 4;
 const MOST: u32 = Bundle::MOST as u32;
 
 // Whether a right layout can have so many states.
-fn states_right(states: u32) -> bool
+pub fn states_right(states: u32) -> bool
     ensures { λ r. ⌜ r ≡ statesRight states ⌝ }
 {
     (1 <= states) & (states <= Layout::MOST_STATES)
@@ -102,7 +102,7 @@ fn bytes_right(states: u32, table: &[u8], from: usize) -> bool
 
 // Whether every byte of a table is a state or no arrow: by words, then the bytes that make no word. No word is right for a
 // state count that no right layout has; there all go byte by byte.
-fn entries_right(states: u32, table: &[u8]) -> bool
+pub fn entries_right(states: u32, table: &[u8]) -> bool
     ensures { λ r. ⌜ r ≡ entriesRight states (now (table .entry)) ⌝ }
 {
     if !states_right(states) {

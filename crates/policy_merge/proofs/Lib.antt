@@ -1,0 +1,5 @@
+pub mod Pairs
+pub mod Rename
+pub mod Swaps
+pub mod Laws
+pub mod Samples

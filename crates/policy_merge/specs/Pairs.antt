@@ -1,0 +1,62 @@
+-- Request 7, 'Two policies at once': the policy of the pairs of states that events lead to.
+use Prim.Native.Nat.{ℕ, _+_, _-_, _*_, _/_, _%_, min}
+use mathlib.Core.Bool.{Bool, _&&_, _||_, not, cond}
+use mathlib.Core.List.{List, [], _∷_}
+use lib.ListN.{length, getD, replicate}
+use lib.Dec.{eqb, ltb}
+use Rattle.rules.specs.declared.Refusal.the-variants.{BadPolicy}
+use Rattle.rules.specs.Names.{mostStates, events, orders, noArrow, refusal, ifTaken, first}
+use Rattle.rules.specs.Policies.{Policy, arrow, entriesRight, statesRight}
+use Rattle.policy_maps.specs.Maps.{build}
+use Rattle.policy_exploration.specs.Reach.{policyFrom, madeWith, reachOf, reachTable}
+use Rattle.policy_exploration.specs.declared.Made.{Made}
+use Rattle.policy_merge.specs.declared.Merged.{Merged}
+
+-- the node of a pair of states, above 0, and the two states of a node
+abbrev pub pair : ℕ → ℕ → ℕ
+pair s t = mostStates * s + t + 1
+
+abbrev pub left : ℕ → ℕ
+left x = (x - 1) / mostStates
+
+abbrev pub right : ℕ → ℕ
+right x = (x - 1) % mostStates
+
+-- the pair of two arrows; none unless both are
+unfoldable pub both : ℕ → ℕ → ℕ
+both s t = cond (eqb s noArrow || eqb t noArrow) 0 (pair s t)
+
+-- the pair after event n in a pair
+unfoldable pub pairAfter : Policy → Policy → ℕ → ℕ → ℕ
+pairAfter a b x n = cond (eqb x 0) 0 (both (arrow a (left x) n) (arrow b (right x) n))
+
+-- 'from the two starts'
+abbrev pub startPair : Policy → Policy → ℕ
+startPair a b = pair (a .start) (b .start)
+
+-- what 10 does not refuse of one input: 'a state count outside 1 to 16 included'
+unfoldable pub sideRight : Policy → Bool
+sideRight p = statesRight (p .states) && eqb (length (p .table)) (events * p .states) && ltb (p .start) (p .states) && entriesRight (p .states) (p .table)
+
+-- 'Its states are the pairs reachable from the two starts, numbered as first met'
+abbrev pub mergedPolicy : Policy → Policy → Policy
+mergedPolicy a b = policyFrom (pairAfter a b) (startPair a b)
+
+-- 'the merged ceilings are the smaller of each two'
+abbrev pub smaller : List ℕ → List ℕ → List ℕ
+smaller c d = build (λ i. min (getD c i 0) (getD d i 0)) orders
+
+-- '10 for a bad input .. 15 .. follows it. 9 comes last': what is answered, with the policy's numbers
+unfoldable pub pairsOf : Policy → Policy → ℕ → Made
+pairsOf a b room = first ((not (sideRight a && sideRight b), madeWith (refusal BadPolicy 0) 0) ∷ []) (reachOf (pairAfter a b) (startPair a b) room)
+
+-- with the ceilings: 'After a reject all else handed back is 0'
+unfoldable pub withCeilings : Made → List ℕ → Merged
+withCeilings m c = record { answer = m .answer; policy = m .policy; ceilings = ifTaken (m .answer) c (replicate orders 0) }
+
+unfoldable pub mergeOf : Policy → List ℕ → Policy → List ℕ → ℕ → Merged
+mergeOf a c b d room = withCeilings (pairsOf a b room) (smaller c d)
+
+-- and what is left in the table
+unfoldable pub mergeTable : Policy → Policy → List ℕ → List ℕ
+mergeTable a b table = cond (sideRight a && sideRight b) (reachTable (pairAfter a b) (startPair a b) table) table

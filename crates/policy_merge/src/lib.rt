@@ -1,0 +1,185 @@
+// Two policies at once: the policy of the pairs of states that events lead to. A pair is held as 16 × s + t + 1, no pair as 0.
+use policy_exploration::Found;
+use policy_exploration::Made;
+use rules::Answer;
+use rules::Layout;
+use rules::Policy;
+use rules::Refusal;
+ghost use mathlib.Core.Path.{_≡_};
+ghost use mathlib.Core.List.{[]};
+ghost use Prim.Native.Nat.{_+_, _*_, _^_, _<_, min};
+ghost use lib.ListN.{length, getD};
+ghost use Rattle.rules.specs.Names.{events, noArrow};
+ghost use Rattle.rules.specs.Policies.{policyOf};
+ghost use Rattle.policy_exploration.specs.Founds.{Explored};
+ghost use Rattle.policy_merge.specs.Pairs.{pair as pairOf, both as bothOf, pairAfter, sideRight, smaller as smallerOf, pairsOf, withCeilings, mergeOf, mergeTable};
+
+// The most states of a policy.
+const MOST: usize = Layout::MOST_STATES as usize;
+
+// Events of one row.
+const EVENTS: usize = Policy::EVENTS as usize;
+
+// The mark of no arrow.
+const NO_ARROW: usize = Policy::NO_ARROW as usize;
+
+// Orders, each with its ceiling.
+const ORDERS: usize = Policy::ORDERS as usize;
+
+// One of the two: a policy's numbers and the ceilings of the orders; its table is lent beside it.
+pub struct Side {
+    pub policy: Policy,
+    pub ceilings: [u32; 8],
+}
+
+// What merging answers: place is the bytes written; the policy's numbers; the ceilings of the orders.
+pub struct Merged {
+    pub answer: Answer,
+    pub policy: Policy,
+    pub ceilings: [u32; 8],
+}
+
+// Whether 10 does not refuse a policy.
+fn side_right(policy: Policy, table: &[u8]) -> bool
+    ensures { λ r. ⌜ r ≡ sideRight (policyOf (policy .states) (policy .start) (now (table .entry)) []) ⌝ }
+{
+    let states = policy.states;
+    let known = installer::states_right(states);
+    let entries = installer::entries_right(states, table);
+    known & (table.len() == EVENTS * states as usize) & (policy.start < states) & entries
+}
+
+fn index(x: u8) -> usize
+    ensures { λ r. ⌜ (r ≡ x) × (r < 256) ⌝ }
+{
+    x as usize
+}
+
+// The state after an event in a state, or no arrow; there is none where the table has no entry.
+fn arrow(table: &[u8], s: usize, n: usize) -> usize
+    requires { ⌜ (s < 2 ^ 16) × (n < events) ⌝ }
+    ensures { λ r. ⌜ (r ≡ getD (now (table .entry)) (events * s + n) noArrow) × (r < 256) ⌝ }
+{
+    let at = EVENTS * s + n;
+    if at < table.len() {
+        index(table[at])
+    } else {
+        NO_ARROW
+    }
+}
+
+// The pair of two states.
+fn pair(s: usize, t: usize) -> u16
+    requires { ⌜ (s < 256) × (t < 256) ⌝ }
+    ensures { λ r. ⌜ r ≡ pairOf s t ⌝ }
+{
+    (MOST * s + t + 1) as u16
+}
+
+// The pair of two arrows; none unless both are.
+fn both(s: usize, t: usize) -> u16
+    requires { ⌜ (s < 256) × (t < 256) ⌝ }
+    ensures { λ r. ⌜ r ≡ bothOf s t ⌝ }
+{
+    if s == NO_ARROW {
+        return 0;
+    }
+    if t == NO_ARROW {
+        return 0;
+    }
+    pair(s, t)
+}
+
+// The pair after an event in a pair: of the policies, the tables say it alone.
+fn next(left: &[u8], right: &[u8], x: u16, n: usize) -> u16
+    requires { ⌜ n < events ⌝ }
+    ensures { λ r. ⌜ r ≡ pairAfter (policyOf 0 0 (now (left .entry)) []) (policyOf 0 0 (now (right .entry)) []) x n ⌝ }
+{
+    if x == 0 {
+        return 0;
+    }
+    let p = (x - 1) as usize;
+    both(arrow(left, p / MOST, n), arrow(right, p % MOST, n))
+}
+
+// The pairs that events lead to from a pair.
+fn explore(left: &[u8], right: &[u8], start: u16) -> Found
+    requires { ⌜ 0 < start ⌝ }
+    ensures { λ r. ⌜ Explored (pairAfter (policyOf 0 0 (now (left .entry)) []) (policyOf 0 0 (now (right .entry)) [])) start r ⌝ }
+{
+    let mut found = policy_exploration::begin(start);
+    let mut k: usize = 0;
+    while policy_exploration::more(found, k) {
+        found = policy_exploration::step(
+            found,
+            k,
+            next(left, right, policy_exploration::node(found, k), k % EVENTS),
+        );
+        k = k + 1;
+    }
+    found
+}
+
+fn least(x: u32, y: u32) -> u32
+    ensures { λ r. ⌜ r ≡ min x y ⌝ }
+{
+    if x < y { x } else { y }
+}
+
+// The smaller of each two ceilings.
+fn smaller(c: [u32; 8], d: [u32; 8]) -> [u32; 8]
+    ensures { λ r. ⌜ r ≡ smallerOf c d ⌝ }
+{
+    let mut out: [u32; 8] = [0; 8];
+    let mut i: usize = 0;
+    while i < ORDERS {
+        out[i] = least(c[i], d[i]);
+        i = i + 1;
+    }
+    out
+}
+
+// What was made, with the ceilings unless it was refused.
+fn with_ceilings(made: Made, ceilings: [u32; 8]) -> Merged
+    ensures { λ r. ⌜ r ≡ withCeilings made ceilings ⌝ }
+{
+    let answer = made.answer;
+    let policy = made.policy;
+    if answer.number == Refusal::TAKEN {
+        return Merged {
+            answer,
+            policy,
+            ceilings,
+        };
+    }
+    Merged {
+        answer,
+        policy,
+        ceilings: [0; 8],
+    }
+}
+
+// The policy of two policies' pairs, or their refusal.
+fn made_of(a: Policy, left: &[u8], b: Policy, right: &[u8], table: &mut [u8]) -> Made
+    ensures made { λ r. ⌜ r ≡ pairsOf (policyOf (a .states) (a .start) (now (left .entry)) []) (policyOf (b .states) (b .start) (now (right .entry)) []) (length (now (table .entry))) ⌝ }
+    ensures table { λ _. ⌜ now (table .exit) ≡ mergeTable (policyOf (a .states) (a .start) (now (left .entry)) []) (policyOf (b .states) (b .start) (now (right .entry)) []) (now (table .entry)) ⌝ }
+{
+    let ok = side_right(a, left) & side_right(b, right);
+    if !ok {
+        return policy_exploration::refused(Refusal::BAD_POLICY);
+    }
+    let start = pair(a.start as usize, b.start as usize);
+    policy_exploration::write(explore(left, right, start), table)
+}
+
+// Merges two policies, `left` the table of one and `right` that of the other: the table from the start of the one lent, the state count
+// and start, and the ceilings.
+pub fn merge(one: Side, left: &[u8], other: Side, right: &[u8], table: &mut [u8]) -> Merged
+    ensures merged { λ r. ⌜ r ≡ mergeOf (policyOf (one .policy .states) (one .policy .start) (now (left .entry)) []) (one .ceilings) (policyOf (other .policy .states) (other .policy .start) (now (right .entry)) []) (other .ceilings) (length (now (table .entry))) ⌝ }
+    ensures table { λ _. ⌜ now (table .exit) ≡ mergeTable (policyOf (one .policy .states) (one .policy .start) (now (left .entry)) []) (policyOf (other .policy .states) (other .policy .start) (now (right .entry)) []) (now (table .entry)) ⌝ }
+{
+    let made = made_of(one.policy, left, other.policy, right, table);
+    let c = one.ceilings;
+    let d = other.ceilings;
+    with_ceilings(made, smaller(c, d))
+}
