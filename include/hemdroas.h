@@ -10,8 +10,8 @@
  *
  * Buffers. Each pointer comes with the number of its elements, and no call
  * reaches past it. The buffers of one call must not overlap, nor overlap the
- * layout, machine, engine, after, answer or made arrays, which are apart from each
- * other too. No call keeps a pointer. A pointer to an empty buffer is not
+ * layout, machine, engine, after, answer, made or merged arrays, which are
+ * apart from each other too. No call keeps a pointer. A pointer to an empty buffer is not
  * followed, but must not be null.
  *
  * layout[16], in this order:
@@ -47,7 +47,8 @@
  *   7 bad layout       layout not right, or memory not of U cells
  *   8 bad landing      jump past the end of the routine
  *   9 small hopper     output too short
- *  10 bad policy       policy that cannot be installed on this layout
+ *  10 bad policy       policy that cannot be installed on this layout, or
+ *                      merged
  *  11 bad bundle       commands of no allowed shape, or no HALT at the end
  *  12 bad count        not 4, 8, 16, ... 4096 commands
  *  13 bad base         B no multiple of the number of commands
@@ -190,6 +191,20 @@ void hemdroas_befores(const uint8_t *pairs, size_t n, uint8_t *table, size_t roo
  * written, its states, and its start state, 0. A refusal, 16 before 15 before
  * 9, has three zeros behind it. */
 void hemdroas_determinise(uint32_t states, uint32_t starts, const uint16_t *arrows, size_t n, uint8_t *table, size_t room, uint32_t made[4]);
+
+/* Merges two policies into one that allows a list of events exactly if both
+ * do. one, other and merged are ten numbers each: states, start state, and the
+ * ceilings of events 0 to 7. States must be 1 to 16, len1 and len2 16 times
+ * that, the start below it, and each byte of a table below it or 255. The
+ * merged policy's states are the pairs of states that events lead to, the two
+ * starts first, numbered as they are first met, events taken in rising order
+ * from the lowest numbered pair; its ceilings are the smaller of each two.
+ * Swapping the two changes nothing. 256 bytes are always room enough.
+ *
+ * answer[2]: the number, and as place the bytes of the table written. A
+ * refusal, 10 before 15 before 9, leaves zeros in merged. */
+void hemdroas_merge(const uint32_t one[10], const uint8_t *table1, size_t len1, const uint32_t other[10], const uint8_t *table2, size_t len2,
+                    uint8_t *table, size_t room, uint32_t merged[10], uint32_t answer[2]);
 
 #ifdef __cplusplus
 }

@@ -19,7 +19,8 @@ ghost use Rattle.hosts.specs.Numbers.{layoutFrom, machineTo, answerTo, runAnswe
 ghost use Rattle.befores.specs.Befores.{makeOf, makeTable};
 ghost use Rattle.forward.specs.Forward.{forwardAnswer, checkForwardAnswer};
 ghost use Rattle.policy_determinise.specs.Drawings.{drawingOf, determiniseOf, determiniseTable};
-ghost use Rattle.capi_policies.specs.Numbers.{madeTo as policyTo};
+ghost use Rattle.policy_merge.specs.Pairs.{mergeTable};
+ghost use Rattle.capi_policies.specs.Numbers.{madeTo as policyTo, policyFrom, mergeFor, mergedTo};
 ghost use Rattle.capi.specs.Hosts.{runFor, yesOrNo, madeTo};
 
 // ---- answers as numbers
@@ -255,4 +256,22 @@ pub extern "C" fn hemdroas_determinise(
     ensures table { λ _. ⌜ now (table .exit) ≡ determiniseTable (drawingOf states starts (now (arrows .entry))) (now (table .entry)) ⌝ }
 {
     capi_policies::determinise(states, starts, arrows, table, made);
+}
+
+// Merges two policies into one that allows what both do.
+#[no_mangle]
+pub extern "C" fn hemdroas_merge(
+    one: &[u32; 10],
+    left: &[u8],
+    other: &[u32; 10],
+    right: &[u8],
+    table: &mut [u8],
+    merged: &mut [u32; 10],
+    answer: &mut [u32; 2],
+)
+    ensures answer { λ _. ⌜ now (answer .exit) ≡ answerTo (mergeFor (now (one .entry)) (now (left .entry)) (now (other .entry)) (now (right .entry)) (length (now (table .entry))) .answer) ⌝ }
+    ensures merged { λ _. ⌜ now (merged .exit) ≡ mergedTo (mergeFor (now (one .entry)) (now (left .entry)) (now (other .entry)) (now (right .entry)) (length (now (table .entry)))) ⌝ }
+    ensures table { λ _. ⌜ now (table .exit) ≡ mergeTable (policyFrom (now (one .entry)) (now (left .entry))) (policyFrom (now (other .entry)) (now (right .entry))) (now (table .entry)) ⌝ }
+{
+    *answer = answer_of(capi_policies::merge(one, left, other, right, table, merged));
 }
