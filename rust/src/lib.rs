@@ -19,7 +19,7 @@ pub mod native_policies;
 mod policies;
 mod types;
 
-pub use policies::{Determinised, Drawing};
+pub use policies::{Determinised, Drawing, Merged, Side};
 pub use types::{
     Answer, Ending, Layout, LayoutArray, Machine, Made, Policy, Record, Refusal, RunAnswer, Status,
 };

@@ -19,6 +19,7 @@ mod loading;
 mod machine;
 mod outputs;
 mod rewrite;
+mod merge;
 pub mod words;
 
 pub use befores::befores;
@@ -34,3 +35,4 @@ pub use loading::load;
 pub use machine::run;
 pub use rewrite::rewrite;
 pub use determinise::determinise;
+pub use merge::merge;

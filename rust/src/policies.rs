@@ -26,3 +26,33 @@ pub struct Determinised {
     /// Its start state, which is 0.
     pub start: u32,
 }
+
+/// One of two policies to be merged.
+#[derive(Clone, Copy, Debug, PartialEq, Eq)]
+pub struct Side<'a> {
+    /// The number of states.
+    pub states: u32,
+    /// The state before the first event.
+    pub start: u32,
+    /// The ceilings of the orders, events 0 to 7.
+    pub ceilings: [u32; 8],
+    /// Byte 16 × s + n is the state after event n in state s, or 255 where
+    /// the event has no arrow.
+    pub table: &'a [u8],
+}
+
+/// What merging two policies hands back.
+#[derive(Clone, Copy, Debug, PartialEq, Eq)]
+#[must_use]
+pub struct Merged {
+    /// 0, or the number of the refusal: 10, 15 or 9.
+    pub number: u32,
+    /// The bytes of the table that were written; 0 after a refusal.
+    pub place: u32,
+    /// The policy's states; 0 after a refusal.
+    pub states: u32,
+    /// Its start state, which is 0.
+    pub start: u32,
+    /// The smaller of each two ceilings; zeros after a refusal.
+    pub ceilings: [u32; 8],
+}
