@@ -91,7 +91,7 @@ static void mask(int g) {
 
 static void event(int g, int n) {
     code[4 * g] = word(16, 8, 0, 0, 0, n), code[4 * g + 1] = word(17, 8, 0, 0, 0, 0);
-    code[4 * g + 2] = word(18, 8, 0, 0, 0, 0), code[4 * g + 3] = word(19, 0, 0, 0, 0, n);
+    code[4 * g + 2] = word(19, 0, 0, 0, 0, n), code[4 * g + 3] = word(18, 8, 0, 0, 0, 0);
 }
 
 int main(int argc, char **argv) {

@@ -83,8 +83,8 @@ pub(crate) fn bundle(l: Layout, n: usize, i: Instr) -> Bundle
             words: [
                 word(16, HIDDEN, 0, 0, 0, e),
                 word(17, HIDDEN, 0, 0, 0, 0),
-                word(18, HIDDEN, 0, 0, 0, 0),
                 word(19, 0, 0, 0, 0, e),
+                word(18, HIDDEN, 0, 0, 0, 0),
             ],
         },
     }

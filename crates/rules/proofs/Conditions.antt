@@ -139,7 +139,7 @@ fetched ws base h p l =
     let at : base + 4 * h + p - base ≡ 4 * h + p = omega arith in
     rw (le-leb base (base + 4 * h + p) (omega arith), at, lt-ltb (4 * h + p) (length ws) l)
 
-bundle-parts : (lay : Layout) (n : ℕ) (i : Instr) (w x y z : ℕ) → isBundle lay n i w x y z ≡ true → Valid n i × (w ≡ wordOf (shapeOf lay n i 0)) × (x ≡ wordOf (shapeOf lay n i 1)) × (y ≡ wordOf (shapeOf lay n i 2)) × (z ≡ wordOf (shapeOf lay n i 3))
+pub bundle-parts : (lay : Layout) (n : ℕ) (i : Instr) (w x y z : ℕ) → isBundle lay n i w x y z ≡ true → Valid n i × (w ≡ wordOf (shapeOf lay n i 0)) × (x ≡ wordOf (shapeOf lay n i 1)) × (y ≡ wordOf (shapeOf lay n i 2)) × (z ≡ wordOf (shapeOf lay n i 3))
 unfolding isBundle
 bundle-parts lay n i w x y z t =
     let t₃ = both _ _ t in

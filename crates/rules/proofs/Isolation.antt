@@ -1,4 +1,4 @@
--- The claims over lists of runs, from what the parts answered: guest rule, state cell, isolation.
+-- The claims over lists of runs, from what the parts answered: guest rule, pc, isolation.
 use mathlib.Core.Path.{_≡_, refl, sym, _∙_, ap, subst}
 use mathlib.Core.List.{List, []}
 use Prim.Native.Nat.{ℕ, _+_, _*_, _/_, _^_, _<_, _≤_}
@@ -14,15 +14,15 @@ use Rattle.rules.specs.Bundles.{commandsOf, bundleAt}
 use Rattle.rules.specs.Machines.{onward, installAnswer, installMemory}
 use Rattle.rules.specs.Guests.{Pair, guestStart}
 use Rattle.rules.specs.Runs.{Given, eventsOf, carriedOf, atFirst, afterRun, after, Served}
-use Rattle.rules.specs.Claims.{givenFor, GuestRule, NoWrap, StateCell, Isolation}
+use Rattle.rules.specs.Claims.{givenFor, GuestRule, NoWrap, Isolation}
 use Rattle.rules.proofs.Facts.{Right, Bundled}
 use Rattle.rules.proofs.Conditions.{passed-of, bundled-of, right-of, laid-of, machine-of, bundled-routine, right-routine}
 use Rattle.rules.proofs.Sim.{Stays}
-use Rattle.rules.proofs.Track.{recorded, stays-run, stays-runs, install, agrees-after, pc-in, cell-laws, allowed-runs, sound-runs, kept-runs}
+use Rattle.rules.proofs.Track.{recorded, stays-run, stays-runs, install, agrees-after, pc-in, allowed-runs, sound-runs, kept-runs}
 use Rattle.rules.proofs.Twins.{alone}
 
 -- the guest tracks an installation that answered 0
-at-first : (lay : Layout) (pol : Policy) (ws mem : List ℕ) (n : ℕ) (is : ℕ → Instr) → Right lay pol n → Bundled lay ws n is → installAnswer lay pol mem .number ≡ 0 → Stays lay pol n is (guestStart lay pol (installMemory lay pol mem)) (atFirst lay pol mem)
+pub at-first : (lay : Layout) (pol : Policy) (ws mem : List ℕ) (n : ℕ) (is : ℕ → Instr) → Right lay pol n → Bundled lay ws n is → installAnswer lay pol mem .number ≡ 0 → Stays lay pol n is (guestStart lay pol (installMemory lay pol mem)) (atFirst lay pol mem)
 at-first lay pol ws mem n is ok bs z =
     subst (λ (m : Machine). Stays lay pol n is (guestStart lay pol (installMemory lay pol mem)) (carriedOf m (installMemory lay pol mem) [] [] 0)) (sym (machine-of lay pol mem z))
     (install lay pol ws n is ok bs (installMemory lay pol mem) (laid-of lay pol mem z))
@@ -39,14 +39,6 @@ guest-rule lay pol code mem room gs z v x =
     let bs = bundled-routine lay code room z in
     agrees-after lay pol (commandsOf lay code) n (routine code) ok bs _ (after lay pol (commandsOf lay code) mem gs) x
     (stays lay pol (commandsOf lay code) mem gs n (routine code) ok bs v)
-
-pub state-cell : StateCell
-state-cell lay pol ws mem gs v =
-    let n = length ws / bundleLength in
-    let is = bundleAt lay ws in
-    let ok = right-of lay pol ws mem (v .passed) (v .installed) in
-    let bs = bundled-of lay ws (v .passed) in
-    cell-laws lay pol ws n is ok bs (guestStart lay pol (installMemory lay pol mem)) (after lay pol ws mem gs) (stays lay pol ws mem gs n is ok bs v)
 
 -- two addresses of a list, the second one on from the first modulo 2 ^ 32
 no-turn : (base n pc to : ℕ) → n ≤ mostBundles → base + bundleLength * n ≤ 2 ^ 32 → pc < base + bundleLength * n → base ≤ to → to ≡ onward pc → pc + 1 < 2 ^ 32

@@ -17,6 +17,7 @@ pub mod Track
 pub mod Twins
 pub mod Isolation
 pub mod Progress
+pub mod Pauses
 pub mod Moments
 pub mod Counts
 pub mod Samples

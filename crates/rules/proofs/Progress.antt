@@ -6,7 +6,7 @@ use mathlib.Core.Logic.{_⊎_, inl, inr, ⊎-elim}
 use mathlib.Core.List.{List, []}
 use Prim.Native.Nat.{ℕ, zero, suc, _+_, _-_, _*_, _/_, _%_, _^_, _<_, _≤_}
 use native.Mathlib.Omega.{arith}
-use borrow.Author.Tests.{le-ltb, ne-eqb, eq-eqb}
+use borrow.Author.Tests.{ltb-true, ltb-false, le-ltb, ne-eqb, eq-eqb}
 use lib.Dec.{eqb, ltb}
 use lib.ListN.{length, getD}
 use Rattle.rules.specs.declared.Layout.{Layout}
@@ -22,21 +22,52 @@ use Rattle.rules.specs.declared.Effect.the-variants.{Go, Put, Cell, Orde
 use Rattle.rules.specs.Names.{orders, noArrow, bundleLength, hidden}
 use Rattle.rules.specs.Policies.{Policy}
 use Rattle.rules.specs.Commands.{fetchOf, holdsOf}
-use Rattle.rules.specs.Bundles.{addressOf, positionOf, shapeOf, bundleAt}
+use Rattle.rules.specs.Bundles.{at4, addressOf, positionOf, shapeOf, bundleAt}
 use Rattle.rules.specs.Machines.{State, Ran, View, regAt, ifCell, landsAt, ifLanding, ifRoom, entryOf, onward, effectOf, applyOf, seen, nextOf, stepOf, runFrom, startOf, runOf, fits, installMemory}
 use Rattle.rules.specs.Guests.{Pair, Guest, rOf, guestStart}
-use Rattle.rules.specs.Runs.{begins, begunFrom, runOn, afterTaken, afterRun, after, eventIn}
+use Rattle.rules.specs.Runs.{begins, begunFrom, runOn, afterTaken, afterRun, after}
 use Rattle.rules.specs.Claims.{Stands, Progress}
 use Rattle.rules.proofs.Facts.{Right, Bundled}
-use Rattle.rules.proofs.Bools.{no, cond-ind}
+use Rattle.rules.proofs.Bools.{no, cases, cond-ind}
 use Rattle.rules.proofs.Conditions.{bundled-of, right-of, layout-of}
 use Rattle.rules.proofs.Sim.{Mid, start, rest, load1, load2, store1, store2, gox1, gox2, gox3, event1, event2, event3, Sim, over, live, Known}
-use Rattle.rules.proofs.Track.{first-yes, first-no, silent, fetched, tracks, step-known, enter}
+use Rattle.rules.proofs.Track.{first-yes, first-no, fetched, tracks, step-known, enter}
 use Rattle.rules.proofs.Endings.{Goes, goes, over-ind, wait-ind, run-ind}
 use Rattle.rules.proofs.Isolation.{stays}
 
--- ---- effects that neither pause nor record
-abbrev Still : Effect → Type 0
+-- ---- commands other than EVENT, and effects that neither pause nor record
+abbrev pub Quiet : Command → Type 0
+Quiet Nop = Unit {0}
+Quiet Halt = Unit {0}
+Quiet (Plain k d a b v) = Unit {0}
+Quiet (Load d a) = Unit {0}
+Quiet (Store a b) = Unit {0}
+Quiet (GoIf a b c v) = Unit {0}
+Quiet (GoReg d a b c) = Unit {0}
+Quiet (Look d v) = Unit {0}
+Quiet (StopIf d) = Unit {0}
+Quiet (Keep d) = Unit {0}
+Quiet (Event e) = ⊥
+Quiet Stray = Unit {0}
+
+quiet-at : (a b c d : Command) (p : ℕ) → (p ≡ 2 → ⊥) → Quiet a → Quiet b → Quiet d → Quiet (at4 p a b c d)
+quiet-at a b c d zero l x y z = x
+quiet-at a b c d (suc zero) l x y z = y
+quiet-at a b c d (suc (suc zero)) l x y z = absurd (l refl)
+quiet-at a b c d (suc (suc (suc p))) l x y z = z
+
+-- EVENT is the third command of its bundle
+pub quiet : (lay : Layout) (n : ℕ) (i : Instr) (p : ℕ) → (p ≡ 2 → ⊥) → Quiet (shapeOf lay n i p)
+unfolding shapeOf
+quiet lay n HALT p l = quiet-at _ _ _ _ p l tt tt tt
+quiet lay n (PLAIN k d a b v) p l = quiet-at _ _ _ _ p l tt tt tt
+quiet lay n (LOAD d a) p l = quiet-at _ _ _ _ p l tt tt tt
+quiet lay n (STORE a b) p l = quiet-at _ _ _ _ p l tt tt tt
+quiet lay n (GOIF a b c v) p l = quiet-at _ _ _ _ p l tt tt tt
+quiet lay n (GOX d a b c) p l = quiet-at _ _ _ _ p l tt tt tt
+quiet lay n (EVENT e) p l = quiet-at _ _ _ _ p l tt tt tt
+
+abbrev pub Still : Effect → Type 0
 Still (Go to) = Unit {0}
 Still (Put d x) = Unit {0}
 Still (Cell i x) = Unit {0}
@@ -45,7 +76,7 @@ Still (Probe v) = ⊥
 Still (End t) = Unit {0}
 Still (Wait e) = ⊥
 
-still : (c : Command) (v : View) → eventIn c ≡ [] → Still (effectOf c v)
+pub still : (c : Command) (v : View) → Quiet c → Still (effectOf c v)
 unfolding effectOf
 still Nop v e = tt
 still Halt v e = tt
@@ -58,7 +89,7 @@ still (GoReg d a b c) v e =
 still (Look d x) v e = cond-ind Still (ltb (v .cell) (length (v .mem))) (λ _. cond-ind Still (ltb (entryOf v x) (length (v .mem))) (λ _. tt) (λ _. tt)) (λ _. tt)
 still (StopIf d) v e = cond-ind Still (eqb (regAt v d) noArrow) (λ _. tt) (λ _. tt)
 still (Keep d) v e = cond-ind Still (ltb (v .cell) (length (v .mem))) (λ _. tt) (λ _. tt)
-still (Event x) v e = no (cc)
+still (Event x) v e = absurd e
 still Stray v e = tt
 
 still-keeps : (caps rd : List ℕ) (e : Effect) (s : State) → Still e → (applyOf caps rd e s .log ≡ s .log) × (applyOf caps rd e s .pairs ≡ s .pairs) × (applyOf caps rd e s .used ≡ s .used)
@@ -77,6 +108,9 @@ Room rd s = (2 * s .pairs + 1 < length (s .log)) × (s .used < length rd)
 
 goes-in : (lay : Layout) (rd : List ℕ) (c : Command) (s : State) → Room rd s → Goes (effectOf c (seen lay rd s))
 goes-in lay rd c s r = goes c (seen lay rd s) (omega (arith, r .0)) (omega (arith, r .1))
+
+still-goes : (e : Effect) → Still e → Goes e
+still-goes e q w z = subst Still z q
 
 -- ---- where an effect leads: to the next address, or to a place of comparison
 abbrev StandsIn : Layout → State → Type 0
@@ -152,8 +186,8 @@ module _ (lay : Layout) (rd : List ℕ) (s : State) where
   mid-moves pol n g h k b i p (gox3 {d = d} {a = x} {b′ = y} {t = c} at bk q e) =
       cond-ind (Moves lay rd s) (holdsOf c (getD (s .regs) x 0) (getD (s .regs) y 0)) (λ _. moves-landing (rOf g d % n) _ e) (λ _. moves-on)
   mid-moves pol n g h k b i p (event1 at bk q e) = cond-ind (Moves lay rd s) (eqb (getD (s .regs) hidden 0) noArrow) (λ _. moves-end Stopped (λ x. no (cc))) (λ _. moves-on)
-  mid-moves pol n g h k b i p (event2 at bk q e some) = moves-at _ _ (moves-cell (lay .cell) _)
-  mid-moves pol n g h k b i p (event3 {e = x} at bk q some) = moves-event x
+  mid-moves pol n g h k b i p (event2 {e = x} at bk q e some) = moves-event x
+  mid-moves pol n g h k b i p (event3 es lt at bk e er q) = moves-at _ _ (moves-cell (lay .cell) _)
 
 -- ---- one step of a run
 module _ (lay : Layout) (ws rd : List ℕ) (s : State) (run : s .status ≡ Running) (go : Goes (nextOf lay ws rd s)) where
@@ -191,7 +225,7 @@ came-then lay ws rd most k b b₁ b₂ s run go z c =
       begun = begun-step lay ws rd s run go (c .j) b ∙ ap (λ (x : ℕ). begunFrom lay ws rd (c .j) x (stepOf lay ws rd s)) z ∙ c .begun;
     }
 
-running : (t : Status) → (t ≡ Running) ⊎ (t ≡ Running → ⊥)
+pub running : (t : Status) → (t ≡ Running) ⊎ (t ≡ Running → ⊥)
 running Running = inl refl
 running Ended = inr (λ x. no (cc))
 running Stopped = inr (λ x. no (cc))
@@ -215,6 +249,12 @@ plus-none b x e = omega arith
 left : (r p : ℕ) → p + suc (suc r) ≡ bundleLength → suc p + suc r ≡ bundleLength
 left r p e = omega arith
 
+left-in : (r p : ℕ) → p + suc r ≡ bundleLength → p < bundleLength
+left-in r p e = omega arith
+
+up-to : (p : ℕ) → suc p ≤ 2 → p ≤ 2
+up-to p l = omega arith
+
 more-left : (r p : ℕ) → p + suc (suc r) ≡ bundleLength → p < 3
 more-left r p e = omega arith
 
@@ -228,28 +268,36 @@ module _ (lay : Layout) (pol : Policy) (ws : List ℕ) (n : ℕ) (is : ℕ → I
   sim-start s g k b run z (over f st h p lh lp si pc q bk) = absurd (f .0 (sym st ∙ run))
   sim-start s g k b run z (live gg st h p lh lp pc m) = (h, lh, omega arith)
 
-  room-on : (s : State) (h p : ℕ) → h < n → p < 3 → s .pc ≡ addressOf lay h + p → Room rd s → Room rd (stepOf lay ws rd s)
+  -- room up to the third command: no command of the bundle pauses, and before the third none takes it
+  goes-at : (s : State) (h p : ℕ) → h < n → p < bundleLength → s .pc ≡ addressOf lay h + p → (p ≤ 2 → Room rd s) → Goes (nextOf lay ws rd s)
+  goes-at s h p lh lp pc r =
+      ⊎-elim
+      (λ e. goes-in lay rd (fetchOf ws (lay .base) (s .pc)) s (r (omega (arith, ltb-true p 3 e))))
+      (λ e. still-goes _ (rw (fetched lay pol ws n is ok bs s h p lh lp pc) (still (shapeOf lay n (is h) p) (seen lay rd s) (quiet lay n (is h) p (λ z. omega (arith, ltb-false p 3 e))))))
+      (cases (ltb p 3))
+
+  room-on : (s : State) (h p : ℕ) → h < n → p < 2 → s .pc ≡ addressOf lay h + p → Room rd s → Room rd (stepOf lay ws rd s)
   room-on s h p lh lp pc r =
       let e = fetched lay pol ws n is ok bs s h p lh (omega arith) pc in
-      let w = still-keeps (lay .ceilings) rd (nextOf lay ws rd s) s (rw e (still (shapeOf lay n (is h) p) (seen lay rd s) (silent lay n (is h) p lp))) in
+      let w = still-keeps (lay .ceilings) rd (nextOf lay ws rd s) s (rw e (still (shapeOf lay n (is h) p) (seen lay rd s) (quiet lay n (is h) p (λ z. omega arith)))) in
       rw (w .0, w .1, w .2) r
 
   -- from position p of bundle h, with r more commands after this one
-  reach : (r p h k b b₂ : ℕ) (s : State) → p + suc r ≡ bundleLength → h < n → b + begins lay (s .pc) ≡ b₂ → Known lay pol n is past u0 rd g0 b s → s .status ≡ Running → s .pc ≡ addressOf lay h + p → Room rd s → Came lay ws rd (suc r) k b b₂ s
+  reach : (r p h k b b₂ : ℕ) (s : State) → p + suc r ≡ bundleLength → h < n → b + begins lay (s .pc) ≡ b₂ → Known lay pol n is past u0 rd g0 b s → s .status ≡ Running → s .pc ≡ addressOf lay h + p → (p ≤ 2 → Room rd s) → Came lay ws rd (suc r) k b b₂ s
   reach zero p h k b b₂ s e lh z w run pc room =
-      let go = goes-in lay rd (fetchOf ws (lay .base) (s .pc)) s room in
+      let go = goes-at s h p lh (left-in _ p e) pc room in
       let t = tracks lay pol ws n is ok bs past u0 rd g0 b s w in
       came-then lay ws rd 0 k b b₂ b₂ s run go z
       (came-now lay ws rd 0 (k + 1) b₂ (stepOf lay ws rd s) (⊎-elim (λ y. inl (goes-next (lay .base) n h p (s .pc) _ (ok .room) lh e pc y)) (λ y. y) (sim-moves s _ (t .0) b run (t .1 .sim) go)))
   reach (suc r) p h k b b₂ s e lh z w run pc room =
-      let go = goes-in lay rd (fetchOf ws (lay .base) (s .pc)) s room in
+      let go = goes-at s h p lh (left-in _ p e) pc room in
       let t = tracks lay pol ws n is ok bs past u0 rd g0 b s w in
       let lp = more-left r p e in
       let now : StandsIn lay (stepOf lay ws rd s) → Came lay ws rd (suc r) (k + 1) b₂ b₂ (stepOf lay ws rd s) = λ y. came-now lay ws rd (suc r) (k + 1) b₂ (stepOf lay ws rd s) y in
       let more : stepOf lay ws rd s .pc ≡ onward (s .pc) → stepOf lay ws rd s .status ≡ Running → Came lay ws rd (suc r) (k + 1) b₂ b₂ (stepOf lay ws rd s) =
       λ y l.
       let to : stepOf lay ws rd s .pc ≡ addressOf lay h + suc p = goes-on (lay .base) n h p (s .pc) _ (ok .room) lh lp pc y in
-      reach r (suc p) h (k + 1) b₂ b₂ (stepOf lay ws rd s) (left r p e) lh (plus-none b₂ _ (first-no lay (stepOf lay ws rd s .pc) (within (lay .base) h p _ lp to))) (subst (λ (x : ℕ). Known lay pol n is past u0 rd g0 x (stepOf lay ws rd s)) z (step-known lay pol ws n is ok bs past u0 rd g0 b s w run go)) l to (room-on s h p lh lp pc room) in
+      reach r (suc p) h (k + 1) b₂ b₂ (stepOf lay ws rd s) (left r p e) lh (plus-none b₂ _ (first-no lay (stepOf lay ws rd s .pc) (within (lay .base) h p _ lp to))) (subst (λ (x : ℕ). Known lay pol n is past u0 rd g0 x (stepOf lay ws rd s)) z (step-known lay pol ws n is ok bs past u0 rd g0 b s w run go)) l to (λ m. room-on s h p lh m pc (room (up-to p m))) in
       came-then lay ws rd (suc r) k b b₂ b₂ s run go z
       (⊎-elim (λ y. ⊎-elim (λ l. more y l) (λ l. now (inr l)) (running (stepOf lay ws rd s .status))) (λ y. now y) (sim-moves s _ (t .0) b run (t .1 .sim) go))
 
@@ -258,7 +306,7 @@ module _ (lay : Layout) (pol : Policy) (ws : List ℕ) (n : ℕ) (is : ℕ → I
   from-stand b s w run (inl x) room =
       let t = tracks lay pol ws n is ok bs past u0 rd g0 b s w in
       let q = sim-start s _ (t .0) b run x (t .1 .sim) in
-      reach 3 0 (q .0) 0 b (b + 1) s refl (q .1) (ap (λ (y : ℕ). b + y) (first-yes lay (s .pc) x)) w run (q .2) room
+      reach 3 0 (q .0) 0 b (b + 1) s refl (q .1) (ap (λ (y : ℕ). b + y) (first-yes lay (s .pc) x)) w run (q .2) (λ _. room)
 
 pub progress : Progress
 unfolding afterRun afterTaken runOn runOf

@@ -295,7 +295,7 @@ mid-safe lay pol n regs mem g h k b i p ok v l (gox2 at bk q e) = tt
 mid-safe lay pol n regs mem g h k b i p ok v l (gox3 at bk q e) = tt
 mid-safe lay pol n regs mem g h k b i p ok v l (event1 at bk q e) = tt
 mid-safe lay pol n regs mem g h k b i p ok v l (event2 at bk q e some) = tt
-mid-safe lay pol n regs mem g h k b i p ok v l (event3 at bk q some) = tt
+mid-safe lay pol n regs mem g h k b i p ok v l (event3 es lt at bk e er q) = tt
 
 sim-safe : (lay : Layout) (pol : Policy) (ws : List ℕ) (n : ℕ) (is : ℕ → Instr) (s : State) (g : Guest) (k b : ℕ) → Right lay pol n → Bundled lay ws n is → g .state < lay .states → s .status ≡ Running → Sim lay pol n is g k b s → Safe lay (fetchOf ws (lay .base) (s .pc)) (s .regs) (s .mem)
 sim-safe lay pol ws n is s g k b ok bs l run (over f st h p lh lp si pc q bk) = absurd (f .0 (sym st ∙ run))

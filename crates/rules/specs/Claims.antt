@@ -1,28 +1,30 @@
 -- What is claimed of the definitions. Each claim is a type; its proof has the claim's name in small letters, in proofs/.
-use Prim.Native.Nat.{ℕ, suc, _+_, _*_, _/_, _%_, _^_, _<_, _≤_}
+use Prim.Native.Nat.{ℕ, suc, _+_, _-_, _*_, _/_, _%_, _^_, _<_, _≤_}
 use mathlib.Core.Path.{_≡_}
 use mathlib.Core.Bool.{true, false}
 use mathlib.Core.Logic.{_⊎_}
 use mathlib.Core.List.{List, [], _∷_, _++_}
-use lib.ListN.{length, getD, take}
+use lib.ListN.{length, getD, take, drop}
 use lib.Count.{ones}
 use Rattle.rules.specs.declared.Layout.{Layout}
 use Rattle.rules.specs.declared.Machine.{Machine}
+use Rattle.rules.specs.declared.Instr.the-variants.{EVENT}
+use Rattle.rules.specs.declared.Command.the-variants.{Look, StopIf, Keep, Event}
 use Rattle.rules.specs.declared.Status.{Status}
 use Rattle.rules.specs.declared.Status.the-variants.{Running, Ended, Stopped, Faulted, Strayed}
 use Rattle.rules.specs.declared.Ending.{Ending}
 use Rattle.rules.specs.declared.Ending.the-variants.{Done, NoArrow, Fault, LogFull, Silent, Spent, NoLanding, Refused}
-use Rattle.rules.specs.Names.{mostInstructions, mostBundles, bundleLength, bundleShift, landingCells, cellBits, guestRegisters, answer, endingNumber}
+use Rattle.rules.specs.Names.{mostInstructions, mostBundles, bundleLength, bundleShift, landingCells, cellBits, guestRegisters, hidden, answer, endingNumber}
 use Rattle.rules.specs.Layouts.{span, rightLayout, widthOf, maskOf, inBox}
 use Rattle.rules.specs.Policies.{Policy, allowed, stateOver}
 use Rattle.rules.specs.Landings.{listed, landingsOf, bitAt}
 use Rattle.rules.specs.Words.{routine, bundlesFor}
 use Rattle.rules.specs.Bytes.{readAnswer, readOutput, writeAnswer, writeOutput}
-use Rattle.rules.specs.Commands.{shlOf, fetchOf}
-use Rattle.rules.specs.Bundles.{addressOf, lastAddress, positionOf, shapeOf, bundleAt, baseRight, commandsOf, rewriteAnswer, rewriteOutput, checkAnswer}
+use Rattle.rules.specs.Commands.{shlOf, wordOf, fetchOf}
+use Rattle.rules.specs.Bundles.{addressOf, lastAddress, positionOf, shapeOf, bundleAt, baseRight, countRight, commandsOf, rewriteAnswer, rewriteOutput, checkAnswer}
 use Rattle.rules.specs.Machines.{State, onward, leftIn, runFrom, runOf, installMemory}
 use Rattle.rules.specs.Guests.{Guest, guestAfter, guestStart, boxOf}
-use Rattle.rules.specs.Runs.{begunFrom, Given, Carried, afterRun, allRuns, after, Run, recordedIn, Matches, Lent, Served, pairsOf, eventsOf, pendingAt}
+use Rattle.rules.specs.Runs.{begunFrom, Given, Carried, afterRun, allRuns, after, Run, recordedIn, Matches, Lent, Served, pairsOf, eventsOf, waitingAt, pendingAt}
 
 -- ---- masks and sizes
 
@@ -93,6 +95,20 @@ pub record Rewrites (lay : Layout) (ws : List ℕ) : Type 0 where
 abbrev pub PassedRewrites : Type 0
 PassedRewrites = (lay : Layout) (ws : List ℕ) → checkAnswer lay ws .number ≡ 0 → Rewrites lay ws
 
+-- the words of an event's bundle in the order that [12] gave up: LOOK, STOPIF, KEEP, EVENT
+abbrev pub oldEvent : ℕ → List ℕ
+oldEvent e = wordOf (Look hidden e) ∷ wordOf (StopIf hidden) ∷ wordOf (Keep hidden) ∷ wordOf (Event e) ∷ []
+
+-- 'Lists in the old order that contain an event are refused with 11', wherever it stands and whichever it is, if not with 7, 12 or 13;
+-- no later bundle is named
+abbrev pub OldRefused : Type 0
+OldRefused =
+    (lay : Layout) (ws : List ℕ) (h e : ℕ) →
+    let N = length ws / bundleLength in
+    rightLayout lay ≡ true → countRight (length ws) ≡ true → baseRight lay N ≡ true →
+    h < N → take bundleLength (drop (bundleLength * h) ws) ≡ oldEvent e →
+    (checkAnswer lay ws .number ≡ 11) × (checkAnswer lay ws .place ≤ h)
+
 -- every word of a passed list is a command: the one that its bundle's shape names
 abbrev pub PassedDecodes : Type 0
 PassedDecodes =
@@ -150,16 +166,19 @@ Cuts =
 abbrev pub Stands : Layout → Machine → Type 0
 Stands lay m = (positionOf lay (m .pc) ≡ 0) ⊎ (m .status ≡ Running → ⊥)
 
--- 'on ending, r0 to r7, sandbox, state cell, records and readings used'; and on the instruction to come.
+-- 'on ending, r0 to r7, sandbox, state cell, records and readings used'; and on the instruction to come, in whose bundle pc is at position p.
 -- The ending is the record's status: by Endings a run answers 20, 21 or 26 exactly where it has ended, stopped or strayed
-pub record Agrees (lay : Layout) (g : Guest) (c : Carried) : Type 0 where
+pub record AgreesAt (lay : Layout) (p : ℕ) (g : Guest) (c : Carried) : Type 0 where
   pub ending : c .machine .status ≡ g .status
   pub regs : take guestRegisters (c .machine .regs) ≡ g .regs
   pub box : boxOf lay (c .memory) ≡ g .box
   pub state : getD (c .memory) (lay .cell) 0 ≡ g .state
   pub records : c .records ≡ g .records
   pub used : length (c .used) ≡ g .used
-  pub next : c .machine .status ≡ Running → c .machine .pc ≡ addressOf lay (g .at)
+  pub next : c .machine .status ≡ Running → c .machine .pc ≡ addressOf lay (g .at) + p
+
+abbrev pub Agrees : Layout → Guest → Carried → Type 0
+Agrees lay g c = AgreesAt lay 0 g c
 
 -- 'Guest rule and machine are compared from installation on, on demand 3's premise, at each first command of a bundle and at every end or stop':
 -- the guest, given the readings that the runs used, after as many instructions as the runs began bundles.
@@ -263,11 +282,54 @@ NoWrap = (lay : Layout) (pol : Policy) (ws mem : List ℕ) (gs : List Given) →
 
 -- ---- the state cell
 
--- 'the policy's state over the recorded events; with pc on the fourth command of an event bundle, over that event too', which has its arrow
+-- 'the state cell is the policy's state over the recorded events … but for one point. With pc on the fourth command of an event bundle
+-- it is behind by that one event': it is the state over `kept`, the recorded events without that one, which is the last
 pub record CellLaws (lay : Layout) (pol : Policy) (ws : List ℕ) (c : Carried) : Type 0 where
-  pub state : getD (c .memory) (lay .cell) 0 ≡ stateOver pol (eventsOf (c .records) ++ pendingAt lay ws (c .machine))
-  pub arrows : allowed pol (eventsOf (c .records) ++ pendingAt lay ws (c .machine)) ≡ true
+  pub kept : List ℕ
+  pub recorded : eventsOf (c .records) ≡ kept ++ pendingAt lay ws (c .machine)
+  pub state : getD (c .memory) (lay .cell) 0 ≡ stateOver pol kept
+  pub arrows : allowed pol (eventsOf (c .records)) ≡ true
 
+-- 'which only a spent budget can show': a run that leaves pc there answers 25; a refused one leaves pc where it was
+abbrev pub OnlySpent : Layout → List ℕ → Run → Type 0
+OnlySpent lay ws r =
+    (r .ran .outcome .answer .ending ≡ Refused → ⊥) → (pendingAt lay ws (r .ran .outcome .machine) ≡ [] → ⊥) →
+    endingNumber (r .ran .outcome .answer .ending) ≡ 25
+
+-- at every moment, those of pauses too: a list of runs may end anywhere
 abbrev pub StateCell : Type 0
 StateCell =
-    (lay : Layout) (pol : Policy) (ws mem : List ℕ) (gs : List Given) → Served lay pol ws mem gs → CellLaws lay pol ws (after lay pol ws mem gs)
+    (lay : Layout) (pol : Policy) (ws mem : List ℕ) (gs : List Given) → Served lay pol ws mem gs →
+    CellLaws lay pol ws (after lay pol ws mem gs) × Every (OnlySpent lay ws) (allRuns lay pol ws mem gs)
+
+-- ---- pauses for log or probe
+
+-- a run answers 23 or 24
+abbrev pub Paused : Ending → Type 0
+Paused e = (e ≡ LogFull) ⊎ (e ≡ Silent)
+
+-- a run that pauses leaves the machine running, on the third command of an event bundle
+pub record Waiting (lay : Layout) (ws : List ℕ) (m : Machine) : Type 0 where
+  pub running : m .status ≡ Running
+  pub event : ℕ
+  pub third : waitingAt lay ws m ≡ event ∷ []
+
+abbrev pub PausedWaits : Type 0
+PausedWaits =
+    (lay : Layout) (pol : Policy) (ws mem : List ℕ) (gs : List Given) → Served lay pol ws mem gs →
+    Every (λ r. Paused (r .ran .outcome .answer .ending) → Waiting lay ws (r .ran .outcome .machine)) (allRuns lay pol ws mem gs)
+
+-- there the guest stands before the event: of the bundles begun this one is not done, and all agrees, the state cell too
+pub record WaitsFor (lay : Layout) (code : List ℕ) (e : ℕ) (g : Guest) (c : Carried) : Type 0 where
+  pub begun : 1 ≤ c .begun
+  pub event : routine code (g .at) ≡ EVENT e
+  pub agrees : AgreesAt lay 2 g c
+
+abbrev pub PauseRule : Type 0
+PauseRule =
+    (lay : Layout) (pol : Policy) (code mem : List ℕ) (room : ℕ) (gs : List Given) → rewriteAnswer lay code room .number ≡ 0 →
+    let ws = commandsOf lay code in
+    let c = after lay pol ws mem gs in
+    let g = guestStart lay pol (installMemory lay pol mem) in
+    Served lay pol ws mem gs → (w : Waiting lay ws (c .machine)) →
+    WaitsFor lay code (w .event) (guestAfter lay pol (bundlesFor (length code)) (routine code) (c .used) g (c .begun - 1)) c

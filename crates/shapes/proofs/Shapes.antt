@@ -179,9 +179,9 @@ module _ (l : Layout) (n : ℕ) (i : Instr) (f : Fits l n i) (w x y z : ℕ) whe
       (lay-gox l n i f d a b c e (cutWord 11 hidden d 0 0 2) (cutWord 9 hidden hidden 0 0 (lastAddress l n)) (cutWord 10 hidden hidden 0 0 (l .base)) (cutWord 15 hidden a b c 0) refl refl refl refl)
 
   pub same-event : (v : ℕ) → i ≡ EVENT v → (r : Bool)
-      → r ≡ (eqb w (cutWord 16 hidden 0 0 0 v) && eqb x (cutWord 17 hidden 0 0 0 0) && eqb y (cutWord 18 hidden 0 0 0 0) && eqb z (cutWord 19 0 0 0 0 v))
+      → r ≡ (eqb w (cutWord 16 hidden 0 0 0 v) && eqb x (cutWord 17 hidden 0 0 0 0) && eqb y (cutWord 19 0 0 0 0 v) && eqb z (cutWord 18 hidden 0 0 0 0))
       → r ≡ sameWords w x y z (bundleOf l n i .words)
   same-event v e r p =
       p
-      ∙ same-words (cutWord 16 hidden 0 0 0 v) (cutWord 17 hidden 0 0 0 0) (cutWord 18 hidden 0 0 0 0) (cutWord 19 0 0 0 0 v)
-      (lay-event l n i f v e (cutWord 16 hidden 0 0 0 v) (cutWord 17 hidden 0 0 0 0) (cutWord 18 hidden 0 0 0 0) (cutWord 19 0 0 0 0 v) refl refl refl refl)
+      ∙ same-words (cutWord 16 hidden 0 0 0 v) (cutWord 17 hidden 0 0 0 0) (cutWord 19 0 0 0 0 v) (cutWord 18 hidden 0 0 0 0)
+      (lay-event l n i f v e (cutWord 16 hidden 0 0 0 v) (cutWord 17 hidden 0 0 0 0) (cutWord 19 0 0 0 0 v) (cutWord 18 hidden 0 0 0 0) refl refl refl refl)

@@ -219,12 +219,12 @@ fn is_gox(
 }
 
 fn is_event(e: u64, w: u64, x: u64, y: u64, z: u64) -> bool
-    ensures { λ r. ⌜ r ≡ (eqb w (cutWord 16 hidden 0 0 0 e) && eqb x (cutWord 17 hidden 0 0 0 0) && eqb y (cutWord 18 hidden 0 0 0 0) && eqb z (cutWord 19 0 0 0 0 e)) ⌝ }
+    ensures { λ r. ⌜ r ≡ (eqb w (cutWord 16 hidden 0 0 0 e) && eqb x (cutWord 17 hidden 0 0 0 0) && eqb y (cutWord 19 0 0 0 0 e) && eqb z (cutWord 18 hidden 0 0 0 0)) ⌝ }
 {
     is_word(w, 16, HIDDEN, 0, 0, 0, e)
         & is_word(x, 17, HIDDEN, 0, 0, 0, 0)
-        & is_word(y, 18, HIDDEN, 0, 0, 0, 0)
-        & is_word(z, 19, 0, 0, 0, 0, e)
+        & is_word(y, 19, 0, 0, 0, 0, e)
+        & is_word(z, 18, HIDDEN, 0, 0, 0, 0)
 }
 
 // Whether four words are those of an instruction's bundle.

@@ -101,14 +101,14 @@ module _ (l : Layout) (n : ℕ) (i : Instr) (f : Fits l n i) where
       (ey ∙ uncut-word 10 hidden hidden 0 0 (l .base) (omega arith) (omega arith) (omega arith) (omega arith) (omega arith) (omega arith))
       (ez ∙ uncut-word 15 hidden a b c 0 (omega arith) (omega arith) (omega (arith, g .1)) (omega (arith, g .2)) (omega (arith, g .3)) (omega arith)))
 
-  pub lay-event : (v : ℕ) → i ≡ EVENT v → (w x y z : ℕ) → w ≡ cutWord 16 hidden 0 0 0 v → x ≡ cutWord 17 hidden 0 0 0 0 → y ≡ cutWord 18 hidden 0 0 0 0
-      → z ≡ cutWord 19 0 0 0 0 v → record { words = w ∷ x ∷ y ∷ z ∷ [] } ≡ bundleOf l n i
+  pub lay-event : (v : ℕ) → i ≡ EVENT v → (w x y z : ℕ) → w ≡ cutWord 16 hidden 0 0 0 v → x ≡ cutWord 17 hidden 0 0 0 0 → y ≡ cutWord 19 0 0 0 0 v
+      → z ≡ cutWord 18 hidden 0 0 0 0 → record { words = w ∷ x ∷ y ∷ z ∷ [] } ≡ bundleOf l n i
   unfolding shapeOf wordOf
   lay-event v e w x y z ew ex ey ez =
       let g = facts (EVENT v) e in
       rw e
-      (four _ _ _ _ _ _ _ _ (ew ∙ uncut-word 16 hidden 0 0 0 v (omega arith) (omega arith) (omega arith) (omega arith) (omega arith) (omega arith)) ex ey
-      (ez ∙ uncut-word 19 0 0 0 0 v (omega arith) (omega arith) (omega arith) (omega arith) (omega arith) (omega arith)))
+      (four _ _ _ _ _ _ _ _ (ew ∙ uncut-word 16 hidden 0 0 0 v (omega arith) (omega arith) (omega arith) (omega arith) (omega arith) (omega arith)) ex
+      (ey ∙ uncut-word 19 0 0 0 0 v (omega arith) (omega arith) (omega arith) (omega arith) (omega arith) (omega arith)) ez)
 
   -- the sums on the way fit
   pub kind-fits : (k d a b v : ℕ) → i ≡ PLAIN k d a b v → k + 1 < 2 ^ 64
