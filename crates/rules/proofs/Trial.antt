@@ -76,7 +76,7 @@ guest-with x =
     ap (λ (y : Guest). y .records) four
 
 pub sample-holds : SampleHolds
-unfolding ones leadingZeros rightLayout rightPolicy rightLandings bitsFrom landingsOf instrOf routine bundlesFor wordOf shapeOf isCommand commandOf fetchOf plainOf installAnswer installMemory installMachine effectOf applyOf runFrom runOf begins begunFrom runOn afterTaken afterRun afterRuns runsOf
+unfolding ones leadingZeros rightLayout rightPolicy rightLandings bitsFrom landingsOf instrOf routine bundlesFor wordOf shapeOf readOff bundleAt isCommand commandOf fetchOf plainOf installAnswer installMemory installMachine effectOf applyOf runFrom runOf begins begunFrom runOn afterTaken afterRun afterRuns runsOf
 sample-holds =
     record {
       served = served-with;
@@ -88,5 +88,10 @@ sample-holds =
       state = λ x. refl;
       begun = λ x. refl;
       guest = guest-with;
+      paused = λ x. refl;
+      waiting = λ x. refl;
+      late = λ x. refl;
+      pending = λ x. refl;
+      behind = λ x. refl;
       reading = λ x. refl;
     }

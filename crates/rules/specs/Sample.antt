@@ -5,7 +5,7 @@ use mathlib.Core.Path.{_≡_}
 use mathlib.Core.List.{List, [], _∷_, _++_, map}
 use lib.ListN.{getD, set, replicate}
 use Rattle.rules.specs.declared.Layout.{Layout}
-use Rattle.rules.specs.declared.Ending.the-variants.{NoArrow, Spent, Refused}
+use Rattle.rules.specs.declared.Ending.the-variants.{NoArrow, LogFull, Spent, Refused}
 use Rattle.rules.specs.declared.RunAnswer.{RunAnswer}
 use Rattle.rules.specs.Layouts.{layoutOf, noLimits}
 use Rattle.rules.specs.Policies.{Policy, policyOf}
@@ -13,7 +13,7 @@ use Rattle.rules.specs.Words.{packOf, routine}
 use Rattle.rules.specs.Bundles.{commandsOf}
 use Rattle.rules.specs.Machines.{installMemory, runAnswer}
 use Rattle.rules.specs.Guests.{pairOf, guestAfter, guestStart}
-use Rattle.rules.specs.Runs.{Given, atFirst, afterRun, Run, recordedIn, Matches, Served, allRuns, after}
+use Rattle.rules.specs.Runs.{Given, atFirst, afterRun, Run, recordedIn, Matches, Served, allRuns, after, waitingAt, pendingAt}
 use Rattle.rules.specs.Claims.{Each, Alike, Same}
 
 abbrev pub layout : Layout
@@ -55,11 +55,19 @@ lastRun x = given (set (left x) 600 x) 1000 x
 abbrev pub runs : ℕ → List Given
 runs x = firstRun x ∷ given [] 6 x ∷ lastRun x ∷ []
 
+-- a run without a log, and one of eleven steps, which ends between EVENT and KEEP of the door's event
+abbrev pub pausedRun : ℕ → Given
+pausedRun x = record { memory = installMemory layout policy (memory x); budget = 1000; readings = []; log = [] }
+
+abbrev pub lateRun : ℕ → Given
+lateRun x = given (installMemory layout policy (memory x)) 11 x
+
 abbrev pub answersIn : List Run → List RunAnswer
 answersIn rs = map (λ r. r .ran .outcome .answer) rs
 
 -- whatever x and y free cells and logs held, the runs are on the premises of Isolation and of its (d);
--- fourteen steps in all, and the last run stops where gas has no arrow, after four bundles, as the guest does
+-- fourteen steps in all, and the last run stops where gas has no arrow, after four bundles, as the guest does.
+-- Without a log the first event is waited for; after eleven steps the door's is recorded, and the state cell is behind by it
 pub record SampleHolds : Type 0 where
   pub served : (x : ℕ) → Served layout policy commands (memory x) (runs x)
   pub matches : (x y : ℕ) → Matches layout (installMemory layout policy (memory x)) (installMemory layout policy (memory y))
@@ -70,4 +78,9 @@ pub record SampleHolds : Type 0 where
   pub state : (x : ℕ) → getD (after layout policy commands (memory x) (runs x) .memory) (layout .cell) 0 ≡ 1
   pub begun : (x : ℕ) → after layout policy commands (memory x) (runs x) .begun ≡ 4
   pub guest : (x : ℕ) → guestAfter layout policy 8 (routine code) [] (guestStart layout policy (installMemory layout policy (memory x))) 4 .records ≡ pairOf 0 70 ∷ pairOf 2 70 ∷ []
+  pub paused : (x : ℕ) → answersIn (allRuns layout policy commands (memory x) (pausedRun x ∷ [])) ≡ runAnswer LogFull 6 0 0 ∷ []
+  pub waiting : (x : ℕ) → waitingAt layout commands (after layout policy commands (memory x) (pausedRun x ∷ []) .machine) ≡ 0 ∷ []
+  pub late : (x : ℕ) → answersIn (allRuns layout policy commands (memory x) (lateRun x ∷ [])) ≡ runAnswer Spent 11 2 0 ∷ []
+  pub pending : (x : ℕ) → pendingAt layout commands (after layout policy commands (memory x) (lateRun x ∷ []) .machine) ≡ 2 ∷ []
+  pub behind : (x : ℕ) → getD (after layout policy commands (memory x) (lateRun x ∷ []) .memory) (layout .cell) 0 ≡ 0
   pub reading : (x : ℕ) → recordedIn (allRuns layout policy probing (memory x) (firstRun x ∷ [])) ≡ pairOf 9 1800 ∷ []
