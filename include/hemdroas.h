@@ -137,6 +137,8 @@ void hemdroas_load   (const uint32_t layout[16], uint32_t states, uint32_t start
  *   25 spent         pause: go on with a new budget
  *   26 no landing    a GOX to an instruction that is no landing stopped it
  *    7 bad layout    refused, and nothing done; three zeros follow
+ * At 23 and 24 the state cell is the policy's state over the recorded events;
+ * at 25 it may still be that before the last of them.
  * After a pause, lend the same machine and memory again. */
 void hemdroas_run    (const uint32_t layout[16], const uint64_t *commands, size_t n, uint32_t machine[11], uint32_t *memory, size_t cells,
                       uint32_t budget, const uint32_t *readings, size_t r, uint32_t *log, size_t g, uint32_t answer[4]);
