@@ -12,11 +12,10 @@ use lib.ListN.{length, getD, take, drop}
 use lib.Seq.{ext-getD, getD-take, getD-drop}
 use Rattle.rules.specs.declared.Layout.{Layout}
 use Rattle.rules.specs.declared.Answer.{Answer}
-use Rattle.rules.specs.declared.Command.the-variants.{Look, Keep}
 use Rattle.rules.specs.declared.Instr.{Instr}
 use Rattle.rules.specs.declared.Instr.the-variants.{HALT, PLAIN, LOAD, STORE, GOIF, GOX, EVENT}
 use Rattle.rules.specs.Names.{mostInstructions, mostCommands, bundleLength, bundleShift, hidden, guestRegisters, topCondition, events, answer}
-use Rattle.rules.specs.Words.{kindOf, judgeAt, instrOf, routine, bundlesFor}
+use Rattle.rules.specs.Words.{kindOf, vOf, packOf, judgeAt, instrOf, routine, bundlesFor}
 use Rattle.rules.specs.Commands.{limitsOf, wordOf}
 use Rattle.rules.specs.Bundles.{addressOf, shapeOf, commandsOf, commandCount, placeAnswer, rewriteAnswer, rewriteOutput, valid, readOff, bundleAt, isBundle, shapedAt, passesAt, checkFrom, checkAnswer}
 use Rattle.rules.specs.Claims.{oldEvent, OldRefused, RewriteLeaves, RewrittenPasses, Rewrites, PassedRewrites, PassedDecodes}
@@ -124,39 +123,39 @@ refused-at lay n ws j h (suc m) no-shape l k =
     (λ (e : passesAt lay n ws h ≡ false). rw e (refl, l))
     (cases (passesAt lay n ws h))
 
--- the words of an event's bundle in the old order: its first is LOOK of an event, and its third is not that event's EVENT
-module _ (lay : Layout) (n : ℕ) (ws : List ℕ) (h e : ℕ) (old : take bundleLength (drop (bundleLength * h) ws) ≡ oldEvent e) where
-  old-word : (p : ℕ) → p < bundleLength → getD ws (bundleLength * h + p) 0 ≡ getD (oldEvent e) p 0
+-- an event's bundle in the old order: the kind of its first word is LOOK's, that of its third KEEP's, where EVENT's is asked for
+look-kind : (r e : ℕ) → kindOf (packOf 16 r 0 0 0 e) ≡ 16
+look-kind r e = omega arith
+
+keep-event : (r v : ℕ) → packOf 18 r 0 0 0 0 ≡ packOf 19 0 0 0 0 v → ⊥
+keep-event r v q = omega arith
+
+module _ (lay : Layout) (n : ℕ) (ws : List ℕ) (h r e : ℕ) (old : take bundleLength (drop (bundleLength * h) ws) ≡ oldEvent r e) where
+  old-word : (p : ℕ) → p < bundleLength → getD ws (bundleLength * h + p) 0 ≡ getD (oldEvent r e) p 0
   old-word p l = sym (getD-take bundleLength (drop (bundleLength * h) ws) p 0 l ∙ getD-drop (bundleLength * h) ws p 0) ∙ ap (λ (l : List ℕ). getD l p 0) old
 
-  old-first : getD ws (bundleLength * h) 0 ≡ wordOf (Look hidden e)
-  old-first = let z : bundleLength * h ≡ bundleLength * h + 0 = omega arith in rw z (old-word 0 (lit< tt))
-
-  old-look : bundleAt lay ws h ≡ EVENT e
+  old-look : bundleAt lay ws h ≡ EVENT (vOf (getD ws (bundleLength * h) 0))
   unfolding bundleAt readOff wordOf
   old-look =
-      let l : InBits 16 hidden 0 0 0 = (lit< tt, lit< tt, lit< tt, lit< tt, lit< tt) in
-      rw (old-first, pack-kind 16 hidden 0 0 0 e l, pack-v 16 hidden 0 0 0 e l)
-
-  old-apart : wordOf (Keep hidden) ≡ wordOf (shapeOf lay n (EVENT e) 2) → ⊥
-  unfolding shapeOf wordOf
-  old-apart q = omega arith
+      let z : bundleLength * h + 0 ≡ bundleLength * h = omega arith in
+      let k : kindOf (getD ws (bundleLength * h) 0) ≡ 16 = ap (λ (i : ℕ). kindOf (getD ws i 0)) (sym z) ∙ ap kindOf (old-word 0 (lit< tt)) ∙ look-kind r e in
+      rw k
 
   pub old-fails : passesAt lay n ws h ≡ false
-  unfolding passesAt shapedAt
+  unfolding passesAt shapedAt shapeOf wordOf
   old-fails =
       ⊎-elim
       (λ (t : passesAt lay n ws h ≡ true).
       let p = bundle-parts lay n (bundleAt lay ws h) _ _ _ _ (both (shapedAt lay n ws h) _ t .0) in
-      absurd (old-apart (sym (old-word 2 (lit< tt)) ∙ p .3 ∙ ap (λ (i : Instr). wordOf (shapeOf lay n i 2)) old-look)))
+      absurd (keep-event r _ (sym (old-word 2 (lit< tt)) ∙ p .3 ∙ ap (λ (i : Instr). wordOf (shapeOf lay n i 2)) old-look)))
       (λ t. t)
       (cases (passesAt lay n ws h))
 
 pub old-refused : OldRefused
 unfolding checkAnswer
-old-refused lay ws h e r c b l old =
+old-refused lay ws h r e right count base l old =
     let n = length ws / bundleLength in
-    rw (r, c, b) (refused-at lay n ws h 0 n (old-fails lay n ws h e old) (omega arith) (omega arith))
+    rw (right, count, base) (refused-at lay n ws h 0 n (old-fails lay n ws h r e old) (omega arith) (omega arith))
 
 check-all : (lay : Layout) (n : ℕ) (ws : List ℕ) (h m : ℕ) → ((j : ℕ) → j < h + m → passesAt lay n ws j ≡ true) → checkFrom lay n ws h m ≡ answer 0 0
 unfolding checkFrom

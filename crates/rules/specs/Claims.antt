@@ -14,7 +14,7 @@ use Rattle.rules.specs.declared.Status.{Status}
 use Rattle.rules.specs.declared.Status.the-variants.{Running, Ended, Stopped, Faulted, Strayed}
 use Rattle.rules.specs.declared.Ending.{Ending}
 use Rattle.rules.specs.declared.Ending.the-variants.{Done, NoArrow, Fault, LogFull, Silent, Spent, NoLanding, Refused}
-use Rattle.rules.specs.Names.{mostInstructions, mostBundles, bundleLength, bundleShift, landingCells, cellBits, guestRegisters, hidden, answer, endingNumber}
+use Rattle.rules.specs.Names.{mostInstructions, mostBundles, bundleLength, bundleShift, landingCells, cellBits, guestRegisters, answer, endingNumber}
 use Rattle.rules.specs.Layouts.{span, rightLayout, widthOf, maskOf, inBox}
 use Rattle.rules.specs.Policies.{Policy, allowed, stateOver}
 use Rattle.rules.specs.Landings.{listed, landingsOf, bitAt}
@@ -95,18 +95,18 @@ pub record Rewrites (lay : Layout) (ws : List ℕ) : Type 0 where
 abbrev pub PassedRewrites : Type 0
 PassedRewrites = (lay : Layout) (ws : List ℕ) → checkAnswer lay ws .number ≡ 0 → Rewrites lay ws
 
--- the words of an event's bundle in the order that [12] gave up: LOOK, STOPIF, KEEP, EVENT
-abbrev pub oldEvent : ℕ → List ℕ
-oldEvent e = wordOf (Look hidden e) ∷ wordOf (StopIf hidden) ∷ wordOf (Keep hidden) ∷ wordOf (Event e) ∷ []
+-- the words of an event's bundle in the order that [12] gave up, LOOK, STOPIF, KEEP, EVENT, with register r for the hidden one
+abbrev pub oldEvent : ℕ → ℕ → List ℕ
+oldEvent r e = wordOf (Look r e) ∷ wordOf (StopIf r) ∷ wordOf (Keep r) ∷ wordOf (Event e) ∷ []
 
 -- 'Lists in the old order that contain an event are refused with 11', wherever it stands and whichever it is, if not with 7, 12 or 13;
 -- no later bundle is named
 abbrev pub OldRefused : Type 0
 OldRefused =
-    (lay : Layout) (ws : List ℕ) (h e : ℕ) →
+    (lay : Layout) (ws : List ℕ) (h r e : ℕ) →
     let N = length ws / bundleLength in
     rightLayout lay ≡ true → countRight (length ws) ≡ true → baseRight lay N ≡ true →
-    h < N → take bundleLength (drop (bundleLength * h) ws) ≡ oldEvent e →
+    h < N → take bundleLength (drop (bundleLength * h) ws) ≡ oldEvent r e →
     (checkAnswer lay ws .number ≡ 11) × (checkAnswer lay ws .place ≤ h)
 
 -- every word of a passed list is a command: the one that its bundle's shape names
