@@ -230,7 +230,7 @@ entry s (b ∷ bs) t zero f = ⊎-elim (λ l. ltb-true b s l) (λ e. absurd (f (
 entry s (b ∷ bs) t (suc i) f = entry s bs (both (entryRight s b) (entriesRight s bs) t .1) i f
 
 -- a run of stores: the stored elements, and those beside them
-sets-beside : (vs l : List ℕ) (i j : ℕ) → (j < i) ⊎ (i + length vs ≤ j) → getD (sets l i vs) j 0 ≡ getD l j 0
+pub sets-beside : (vs l : List ℕ) (i j : ℕ) → (j < i) ⊎ (i + length vs ≤ j) → getD (sets l i vs) j 0 ≡ getD l j 0
 sets-beside [] l i j o = refl
 sets-beside (a ∷ vs) l i j o =
     sets-beside vs (set l i a) (suc i) j (⊎-elim (λ (h : j < i). inl (omega arith)) (λ (h : i + suc (length vs) ≤ j). inr (omega arith)) o)

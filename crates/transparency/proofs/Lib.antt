@@ -1,0 +1,3 @@
+pub mod Like
+pub mod Undisturbed
+pub mod Samples

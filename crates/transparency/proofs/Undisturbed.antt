@@ -1,0 +1,132 @@
+-- A routine that behaves is not disturbed: the raw run is the guest rule, and so are machine and engine.
+use Prim.Native.Nat.{ℕ, _+_, _-_, _<_, _≤_}
+use mathlib.Core.Path.{_≡_, refl, sym, _∙_, ap, subst}
+use mathlib.Core.Bool.{true}
+use mathlib.Core.Logic.{inl, inr, ⊎-elim}
+use mathlib.Core.List.{List, []}
+use native.Mathlib.Omega.{arith}
+use borrow.Author.Tests.{eq-eqb, eqb-true}
+use lib.Dec.{eqb}
+use lib.ListN.{length, getD, take, drop, length-take, length-drop}
+use lib.Seq.{getD-take, getD-drop, getD-set-other}
+use Rattle.rules.specs.declared.Layout.{Layout}
+use Rattle.rules.specs.Landings.{landingsOf}
+use Rattle.rules.specs.Layouts.{span, rightLayout, inBox}
+use Rattle.rules.specs.Policies.{Policy}
+use Rattle.rules.specs.Words.{routine, bundlesFor}
+use Rattle.rules.specs.Bundles.{commandsOf}
+use Rattle.rules.specs.Machines.{installMemory, installAnswer}
+use Rattle.rules.specs.Guests.{Guest, guestAfter, guestStart, boxOf}
+use Rattle.rules.specs.Runs.{after}
+use Rattle.rules.proofs.Bools.{both}
+use Rattle.rules.proofs.Facts.{Laid}
+use Rattle.rules.proofs.Conditions.{fits-of, laid-of, policy-facts, sets-beside}
+use Rattle.rules.proofs.Landings.{length-landings}
+use Rattle.rules.proofs.Layouts.{LayoutFacts, layout-facts, in-box}
+use Rattle.rules.proofs.Masks.{masks}
+use Rattle.rules.proofs.Isolation.{guest-rule}
+use Rattle.rules.proofs.Progress.{progress}
+use Rattle.engine_rules.specs.Claims.{after as engineAfter}
+use Rattle.engine_rules.specs.Engines.{refusalBy}
+use Rattle.engine_rules.proofs.Rule.{engine-rule, same-guest}
+use Rattle.engine_rules.proofs.Together.{run-counts-one}
+use Rattle.transparency.specs.Raw.{Raw, rawAfter, rawStart, BehavesFor}
+use Rattle.transparency.specs.Claims.{SameBox, Begins, Alike, Undisturbed, EngineUndisturbed, UndisturbedNext, EngineUndisturbedNext}
+use Rattle.transparency.proofs.Like.{Like, after-like}
+
+-- a cell of the sandbox, among the memory's and among the sandbox's own
+box-cell : (lay : Layout) (mem : List ℕ) (i : ℕ) → lay .low ≤ lay .high → inBox lay i ≡ true → getD (boxOf lay mem) (i - lay .low) 0 ≡ getD mem i 0
+box-cell lay mem i o h =
+    let p = in-box lay i h in
+    let z : lay .low + (i - lay .low) ≡ i = omega arith in
+    getD-take (span lay) (drop (lay .low) mem) (i - lay .low) 0 (omega arith) ∙ getD-drop (lay .low) mem (i - lay .low) 0 ∙ ap (λ (y : ℕ). getD mem y 0) z
+
+module _ (lay : Layout) (pol : Policy) (mem raw : List ℕ) (z : installAnswer lay pol mem .number ≡ 0) (s : SameBox lay mem raw) where
+  fitted : (rightLayout lay ≡ true) × (eqb (length mem) (lay .size) ≡ true)
+  fitted = both (rightLayout lay) (eqb (length mem) (lay .size)) (fits-of lay pol mem z .0)
+
+  installed : Laid lay pol (installMemory lay pol mem)
+  installed = laid-of lay pol mem z
+
+  facts : LayoutFacts lay
+  facts = layout-facts lay (fitted .0)
+
+  -- installing leaves the sandbox
+  kept : (i : ℕ) → inBox lay i ≡ true → getD (installMemory lay pol mem) i 0 ≡ getD mem i 0
+  unfolding installMemory
+  kept i h =
+      let p = in-box lay i h in
+      let q = policy-facts lay pol (fits-of lay pol mem z .1) in
+      let wide = length-landings (pol .landings) in
+      rw (eq-eqb _ _ z)
+      (sets-beside (landingsOf (pol .landings)) _ (lay .landings) i (⊎-elim (λ x. inl (omega arith)) (λ x. inr (omega (arith, wide))) (facts .landings-box))
+      ∙ sets-beside (pol .table) _ (lay .table) i (⊎-elim (λ x. inl (omega arith)) (λ x. inr (omega (arith, q .size, q .states))) (facts .table-box))
+      ∙ getD-set-other mem (lay .cell) i (pol .start) 0 (λ e. ⊎-elim (λ (x : lay .cell < lay .low). omega arith) (λ (x : lay .high < lay .cell). omega arith) (facts .cell-box)))
+
+  start-like : Like lay pol (guestStart lay pol (installMemory lay pol mem)) (rawStart raw)
+  start-like =
+      record {
+        regs = refl;
+        at = refl;
+        cells = simp (length-take, length-drop) (omega (arith, installed .size, facts .box, facts .ordered));
+        room = s .room;
+        box = λ i h. sym (s .cells i h) ∙ sym (kept i h) ∙ sym (box-cell lay (installMemory lay pol mem) i (facts .ordered) h);
+        records = refl;
+        used = refl;
+        status = refl;
+        state = refl;
+      }
+
+  -- the raw run is the guest that is given the readings that the runs used
+  raw-like : (code us reads : List ℕ) (k : ℕ) → Begins us reads → length us ≡ guestAfter lay pol (bundlesFor (length code)) (routine code) us (guestStart lay pol (installMemory lay pol mem)) k .used
+      → BehavesFor lay pol (bundlesFor (length code)) (routine code) reads (rawStart raw) k
+      → Like lay pol (guestAfter lay pol (bundlesFor (length code)) (routine code) us (guestStart lay pol (installMemory lay pol mem)) k) (rawAfter lay (routine code) reads (rawStart raw) k)
+  raw-like code us reads k b u h =
+      let N = bundlesFor (length code) in
+      let g0 = guestStart lay pol (installMemory lay pol mem) in
+      let e = same-guest lay pol N (routine code) us reads g0 k (λ i m. b i (omega (arith, u))) in
+      subst (λ (g : Guest). Like lay pol g (rawAfter lay (routine code) reads (rawStart raw) k)) (sym e)
+      (after-like lay pol N (masks lay (fitted .0) .fixed) reads (routine code) g0 (rawStart raw) k h start-like)
+
+  -- a sandbox that is the guest's is the raw run's
+  same-box : (g : Guest) (r : Raw) (m : List ℕ) → Like lay pol g r → boxOf lay m ≡ g .box → (i : ℕ) → inBox lay i ≡ true → getD m i 0 ≡ getD (r .mem) i 0
+  same-box g r m l e i h =
+      sym (box-cell lay m i (facts .ordered) h) ∙ ap (λ (y : List ℕ). getD y (i - lay .low) 0) e ∙ sym (l .box i h)
+
+pub undisturbed : Undisturbed
+undisturbed lay pol code mem raw room gs reads w s v b h x =
+    let c = after lay pol (commandsOf lay code) mem gs in
+    let a = guest-rule lay pol code mem room gs w v x in
+    let l = raw-like lay pol mem raw (v .installed) s code (c .used) reads (c .begun) b (a .used) h in
+    record {
+      ending = a .ending ∙ sym (l .status);
+      registers = a .regs ∙ sym (l .regs);
+      box = same-box lay pol mem raw (v .installed) s _ _ (c .memory) l (a .box);
+      recorded = a .records ∙ sym (l .records);
+      readings = a .used ∙ sym (l .used);
+    }
+
+pub undisturbed-next : UndisturbedNext
+undisturbed-next lay pol code mem raw room gs reads w s v b h x t g lg n =
+    let u = undisturbed lay pol code mem raw room gs reads w s v b h x in
+    progress lay pol (commandsOf lay code) mem gs v x (u .ending ∙ t) g lg (n .0) (n .1) (n .2)
+
+pub engine-undisturbed : EngineUndisturbed
+engine-undisturbed lay pol code mem raw gs reads s v b h =
+    let c = engineAfter lay pol code mem gs in
+    let a = engine-rule lay pol code mem gs v in
+    let l = raw-like lay pol mem raw (v .installed) s code (c .used) reads (c .counted) b (a .used) h in
+    record {
+      ending = a .ending ∙ sym (l .status);
+      registers = a .regs ∙ sym (l .regs);
+      box = same-box lay pol mem raw (v .installed) s _ _ (c .memory) l (a .box);
+      recorded = a .records ∙ sym (l .records);
+      readings = a .used ∙ sym (l .used);
+    }
+
+pub engine-undisturbed-next : EngineUndisturbedNext
+engine-undisturbed-next lay pol code mem raw gs reads s v b h t g lg n =
+    let u = engine-undisturbed lay pol code mem raw gs reads s v b h in
+    let fit = eqb-true _ _ (both (rightLayout lay) _ (fits-of lay pol mem (v .installed) .0) .1) in
+    let z = ap (λ (k : ℕ). refusalBy lay code k .number) (n .0 ∙ sym fit) ∙ v .taken in
+    run-counts-one lay code (engineAfter lay pol code mem gs) g z (u .ending ∙ t) (n .1) (n .2)

@@ -1,0 +1,82 @@
+-- What is claimed of a routine that behaves: the sandbox does not disturb it, in the machine and in the engine.
+use Prim.Native.Nat.{ℕ, _+_, _<_}
+use mathlib.Core.Path.{_≡_}
+use mathlib.Core.Bool.{true}
+use mathlib.Core.List.{List}
+use lib.ListN.{length, getD, take}
+use Rattle.rules.specs.declared.Layout.{Layout}
+use Rattle.rules.specs.declared.Status.{Status}
+use Rattle.rules.specs.declared.Status.the-variants.{Running}
+use Rattle.rules.specs.Names.{guestRegisters}
+use Rattle.rules.specs.Layouts.{inBox}
+use Rattle.rules.specs.Policies.{Policy}
+use Rattle.rules.specs.Words.{routine, bundlesFor}
+use Rattle.rules.specs.Bundles.{rewriteAnswer, commandsOf}
+use Rattle.rules.specs.Guests.{Pair}
+use Rattle.rules.specs.Runs.{Given, Lent, Served, after}
+use Rattle.rules.specs.Claims.{Stands, Proceeds, givenFor}
+use Rattle.engine_rules.specs.Claims.{Enough, Served as EngineServed, Lent as EngineLent, after as engineAfter, afterRun as engineRun}
+use Rattle.transparency.specs.Raw.{Raw, rawAfter, rawStart, BehavesFor}
+
+-- a raw memory that has the sandbox, with the same cells in it
+pub record SameBox (lay : Layout) (mem raw : List ℕ) : Type 0 where
+  pub room : lay .high < length raw
+  pub cells : (i : ℕ) → inBox lay i ≡ true → getD mem i 0 ≡ getD raw i 0
+
+-- the readings that the runs used are the first ones of those that the raw run is given
+abbrev pub Begins : List ℕ → List ℕ → Type 0
+Begins used reads = (i : ℕ) → i < length used → getD used i 0 ≡ getD reads i 0
+
+-- 'the same records, the same r0 to r14 and sandbox, and the same ending or none'; and as many readings used.
+-- The ending is the record's status: no raw run stops or strays, so no caged one does
+pub record Alike (lay : Layout) (r : Raw) (regs mem : List ℕ) (records : List Pair) (used : ℕ) (t : Status) : Type 0 where
+  pub ending : t ≡ r .status
+  pub registers : regs ≡ r .regs
+  pub box : (i : ℕ) → inBox lay i ≡ true → getD mem i 0 ≡ getD (r .mem) i 0
+  pub recorded : records ≡ r .records
+  pub readings : used ≡ r .used
+
+-- the machine, wherever a list of runs ends on the first command of a bundle or is over, beside the raw run after as many instructions
+-- as the runs began bundles, if these behaved. A list of runs may end anywhere and budgets are any: so for every count of instructions
+abbrev pub Undisturbed : Type 0
+Undisturbed =
+    (lay : Layout) (pol : Policy) (code mem raw : List ℕ) (room : ℕ) (gs : List Given) (reads : List ℕ) →
+    rewriteAnswer lay code room .number ≡ 0 → SameBox lay mem raw →
+    let ws = commandsOf lay code in
+    let c = after lay pol ws mem gs in
+    let is = routine code in
+    Served lay pol ws mem gs → Begins (c .used) reads → BehavesFor lay pol (bundlesFor (length code)) is reads (rawStart raw) (c .begun) →
+    Stands lay (c .machine) →
+    Alike lay (rawAfter lay is reads (rawStart raw) (c .begun)) (take guestRegisters (c .machine .regs)) (c .memory) (c .records) (length (c .used)) (c .machine .status)
+
+-- the engine, wherever a list of runs ends, beside the raw run after as many instructions as it counted
+abbrev pub EngineUndisturbed : Type 0
+EngineUndisturbed =
+    (lay : Layout) (pol : Policy) (code mem raw : List ℕ) (gs : List Given) (reads : List ℕ) → SameBox lay mem raw →
+    let c = engineAfter lay pol code mem gs in
+    let is = routine code in
+    EngineServed lay pol code mem gs → Begins (c .used) reads → BehavesFor lay pol (bundlesFor (length code)) is reads (rawStart raw) (c .counted) →
+    Alike lay (rawAfter lay is reads (rawStart raw) (c .counted)) (c .engine .regs) (c .memory) (c .records) (length (c .used)) (c .engine .status)
+
+-- 'A pause is no instruction, and a run that can go on follows it': where the raw run is not over, the caged one, lent its memory,
+-- two log cells and a reading, comes to the next place of comparison in at most four steps, one bundle on
+abbrev pub UndisturbedNext : Type 0
+UndisturbedNext =
+    (lay : Layout) (pol : Policy) (code mem raw : List ℕ) (room : ℕ) (gs : List Given) (reads : List ℕ) →
+    rewriteAnswer lay code room .number ≡ 0 → SameBox lay mem raw →
+    let ws = commandsOf lay code in
+    let c = after lay pol ws mem gs in
+    let is = routine code in
+    Served lay pol ws mem gs → Begins (c .used) reads → BehavesFor lay pol (bundlesFor (length code)) is reads (rawStart raw) (c .begun) →
+    Stands lay (c .machine) → rawAfter lay is reads (rawStart raw) (c .begun) .status ≡ Running →
+    (g : Given) → Lent lay c g → Enough lay g → Proceeds lay ws c g
+
+-- and the engine counts one more instruction
+abbrev pub EngineUndisturbedNext : Type 0
+EngineUndisturbedNext =
+    (lay : Layout) (pol : Policy) (code mem raw : List ℕ) (gs : List Given) (reads : List ℕ) → SameBox lay mem raw →
+    let c = engineAfter lay pol code mem gs in
+    let is = routine code in
+    EngineServed lay pol code mem gs → Begins (c .used) reads → BehavesFor lay pol (bundlesFor (length code)) is reads (rawStart raw) (c .counted) →
+    rawAfter lay is reads (rawStart raw) (c .counted) .status ≡ Running →
+    (g : Given) → EngineLent lay c g → Enough lay g → engineRun lay code c (givenFor g 1) .counted ≡ c .counted + 1

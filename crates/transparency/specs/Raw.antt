@@ -1,0 +1,90 @@
+-- A routine run as it is: raw addresses, raw jump targets, no policy; and when it behaves well.
+use Prim.Native.Nat.{ℕ, zero, suc, _+_, _<_}
+use mathlib.Core.Path.{_≡_}
+use mathlib.Core.Bool.{true, cond}
+use mathlib.Core.List.{List, []}
+use lib.ListN.{getD, set, replicate}
+use lib.Dec.{ltb}
+use Rattle.rules.specs.declared.Layout.{Layout}
+use Rattle.rules.specs.declared.Status.{Status}
+use Rattle.rules.specs.declared.Status.the-variants.{Running, Ended}
+use Rattle.rules.specs.declared.Instr.{Instr}
+use Rattle.rules.specs.declared.Instr.the-variants.{HALT, PLAIN, LOAD, STORE, GOIF, GOX, EVENT}
+use Rattle.rules.specs.Names.{guestRegisters, orders, noArrow}
+use Rattle.rules.specs.Layouts.{limited, inBox}
+use Rattle.rules.specs.Policies.{Policy, arrow, stateOver}
+use Rattle.rules.specs.Landings.{listed}
+use Rattle.rules.specs.Commands.{plainOf, holdsOf}
+use Rattle.rules.specs.Machines.{unlessOver}
+use Rattle.rules.specs.Guests.{Pair, pairOf, snoc}
+use Rattle.rules.specs.Runs.{eventsOf}
+
+-- ---- the raw run
+
+-- r0 to the last guest register, the next instruction, a memory of its own, the pairs recorded, how many readings are used, and the status
+pub record Raw : Type 0 where
+  pub regs : List ℕ
+  pub at : ℕ
+  pub mem : List ℕ
+  pub records : List Pair
+  pub used : ℕ
+  pub status : Status
+
+abbrev pub rawOf : List ℕ → ℕ → List ℕ → List Pair → ℕ → Status → Raw
+rawOf regs at mem rec u t = record { regs = regs; at = at; mem = mem; records = rec; used = u; status = t }
+
+abbrev pub rReg : Raw → ℕ → ℕ
+rReg r i = getD (r .regs) i 0
+
+-- on to an instruction, with these registers and memory
+abbrev pub rawOn : Raw → List ℕ → List ℕ → ℕ → Raw
+rawOn r regs mem at = rawOf regs at mem (r .records) (r .used) Running
+
+-- an event, which nothing forbids: 'Ceilings apply to both'
+unfoldable pub rawSent : Layout → List ℕ → ℕ → Raw → Raw
+rawSent lay reads e r =
+    cond (ltb e orders)
+    (rawOf (r .regs) (r .at + 1) (r .mem) (snoc (r .records) (pairOf e (limited (lay .ceilings) e (rReg r 0)))) (r .used) Running)
+    (rawOf (set (r .regs) 0 (getD reads (r .used) 0)) (r .at + 1) (r .mem) (snoc (r .records) (pairOf e (getD reads (r .used) 0))) (r .used + 1) Running)
+
+-- the table of instructions, 'with raw addresses and raw jump targets and no policy'
+unfoldable pub rawDo : Layout → List ℕ → Instr → Raw → Raw
+rawDo lay reads HALT r = rawOf (r .regs) (r .at) (r .mem) (r .records) (r .used) Ended
+rawDo lay reads (PLAIN k d a b v) r = rawOn r (set (r .regs) d (plainOf (k + 1) (rReg r a) (rReg r b) v)) (r .mem) (r .at + 1)
+rawDo lay reads (LOAD d a) r = rawOn r (set (r .regs) d (getD (r .mem) (rReg r a) 0)) (r .mem) (r .at + 1)
+rawDo lay reads (STORE a b) r = rawOn r (r .regs) (set (r .mem) (rReg r a) (rReg r b)) (r .at + 1)
+rawDo lay reads (GOIF a b c v) r = rawOn r (r .regs) (r .mem) (cond (holdsOf c (rReg r a) (rReg r b)) v (r .at + 1))
+rawDo lay reads (GOX d a b c) r = rawOn r (r .regs) (r .mem) (cond (holdsOf c (rReg r a) (rReg r b)) (rReg r d) (r .at + 1))
+rawDo lay reads (EVENT e) r = rawSent lay reads e r
+
+-- one instruction of those that `is` lists, and k of them
+unfoldable pub rawStep : Layout → (ℕ → Instr) → List ℕ → Raw → Raw
+rawStep lay is reads r = unlessOver (r .status) r (rawDo lay reads (is (r .at)) r)
+
+unfoldable pub rawAfter : Layout → (ℕ → Instr) → List ℕ → Raw → ℕ → Raw
+rawAfter lay is reads r zero = r
+rawAfter lay is reads r (suc k) = rawStep lay is reads (rawAfter lay is reads r k)
+
+-- from instruction 0, registers 0, on a memory of its own
+abbrev pub rawStart : List ℕ → Raw
+rawStart mem = rawOf (replicate guestRegisters 0) 0 mem [] 0 Running
+
+-- ---- good behaviour
+
+-- what an instruction may do: 'uses only addresses in SL..SH, takes a GOX only to an instruction below N that is a listed landing,
+-- and sends only events for which the policy has an arrow after those recorded before'
+abbrev pub Behaves : Layout → Policy → ℕ → Instr → Raw → Type 0
+Behaves lay pol N HALT r = Unit {0}
+Behaves lay pol N (PLAIN k d a b v) r = Unit {0}
+Behaves lay pol N (LOAD d a) r = inBox lay (rReg r a) ≡ true
+Behaves lay pol N (STORE a b) r = inBox lay (rReg r a) ≡ true
+Behaves lay pol N (GOIF a b c v) r = Unit {0}
+Behaves lay pol N (GOX d a b c) r = holdsOf c (rReg r a) (rReg r b) ≡ true → (rReg r d < N) × (listed (pol .landings) (rReg r d) ≡ true)
+Behaves lay pol N (EVENT e) r = arrow pol (stateOver pol (eventsOf (r .records))) e ≡ noArrow → ⊥
+
+-- each of the first k instructions behaves, where the raw run is not over before it
+abbrev pub BehavesFor : Layout → Policy → ℕ → (ℕ → Instr) → List ℕ → Raw → ℕ → Type 0
+BehavesFor lay pol N is reads r k =
+    (j : ℕ) → j < k →
+    let s = rawAfter lay is reads r j in
+    s .status ≡ Running → Behaves lay pol N (is (s .at)) s

@@ -1,0 +1,52 @@
+-- A sample on the premises: a routine with STORE, LOAD, GOX, an order and a reading, which behaves to its end.
+use Prim.Native.Nat.{ℕ}
+use mathlib.Core.Path.{_≡_}
+use mathlib.Core.List.{List, [], _∷_, _++_}
+use lib.ListN.{replicate}
+use Rattle.rules.specs.declared.Status.the-variants.{Ended}
+use Rattle.rules.specs.Policies.{Policy, policyOf}
+use Rattle.rules.specs.Words.{packOf, routine}
+use Rattle.rules.specs.Bundles.{rewriteAnswer, commandsOf}
+use Rattle.rules.specs.Machines.{installMemory}
+use Rattle.rules.specs.Guests.{pairOf}
+use Rattle.rules.specs.Runs.{Given, Served, after}
+use Rattle.rules.specs.Sample.{layout}
+use Rattle.transparency.specs.Raw.{Raw, rawAfter, rawStart, BehavesFor}
+use Rattle.transparency.specs.Claims.{SameBox, Begins}
+
+-- rules' sample policy, with instruction 6 as the one landing
+abbrev pub policy : Policy
+policy = policyOf 2 0 (0 ∷ 0 ∷ 1 ∷ replicate 13 0 ++ 255 ∷ replicate 15 1) (6 ∷ [])
+
+-- SET r1, 300; SET r0, 6; STORE r1, r0; LOAD r2, r1; GOX r2; HALT; EVENT 0; EVENT 8
+abbrev pub code : List ℕ
+code =
+    packOf 1 1 0 0 0 300 ∷ packOf 1 0 0 0 0 6 ∷ packOf 9 0 1 0 0 0 ∷ packOf 8 2 1 0 0 0
+    ∷ packOf 11 2 0 0 0 0 ∷ 0 ∷ packOf 12 0 0 0 0 0 ∷ packOf 12 0 0 0 0 8 ∷ []
+
+abbrev pub commands : List ℕ
+commands = commandsOf layout code
+
+abbrev pub memory : List ℕ
+memory = replicate 1024 0
+
+abbrev pub readings : List ℕ
+readings = 1800 ∷ []
+
+abbrev pub run : Given
+run = record { memory = installMemory layout policy memory; budget = 1000; readings = readings; log = replicate 4 0 }
+
+-- the raw run after k instructions
+abbrev pub rawAt : ℕ → Raw
+rawAt k = rawAfter layout (routine code) readings (rawStart memory) k
+
+-- 'A sample shows that the premises can be met': the caged run comes to its end, and so the raw one, after the same eight instructions
+pub record SampleHolds : Type 0 where
+  pub rewritten : rewriteAnswer layout code 64 .number ≡ 0
+  pub served : Served layout policy commands memory (run ∷ [])
+  pub box : SameBox layout memory memory
+  pub begun : after layout policy commands memory (run ∷ []) .begun ≡ 8
+  pub begins : Begins (after layout policy commands memory (run ∷ []) .used) readings
+  pub behaves : BehavesFor layout policy 16 (routine code) readings (rawStart memory) 8
+  pub recorded : rawAt 8 .records ≡ pairOf 0 6 ∷ pairOf 8 1800 ∷ []
+  pub ended : rawAt 8 .status ≡ Ended
