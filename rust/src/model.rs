@@ -6,6 +6,7 @@
 
 mod arithmetic;
 mod befores;
+mod bundles;
 mod bytes;
 mod check;
 mod commands;
@@ -23,6 +24,7 @@ mod merge;
 pub mod words;
 
 pub use befores::befores;
+pub use bundles::bundles;
 pub use bytes::{read, write};
 pub use check::check;
 pub use commands::Command;
@@ -30,7 +32,7 @@ pub use forward::{check_forward, forward, most_steps};
 pub use guest::Guest;
 pub use install::{install, word_right};
 pub use instructions::Instr;
-pub use layout::{bundles, layout_right, mask};
+pub use layout::{layout_right, mask};
 pub use loading::load;
 pub use machine::run;
 pub use rewrite::rewrite;

@@ -1,9 +1,9 @@
 //! Checking command lists, from whatever producer.
 
+use super::bundles::{address, base_right, count_right, pch, pcl, Bundle, HALT};
 use super::commands::Command::{self, *};
-use super::layout::{base_right, count_right, layout_right};
+use super::layout::layout_right;
 use super::outputs::{answer, refuse, Refused};
-use super::rewrite::{address, pch, pcl, Bundle, HALT};
 use crate::names::{BUNDLE_LENGTH, GUEST_REGISTERS, HIDDEN};
 use crate::{Answer, Layout, Refusal};
 

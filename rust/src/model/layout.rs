@@ -1,4 +1,4 @@
-//! Right layouts, masks and counts of bundles.
+//! Right layouts and the mask.
 
 use std::ops::Range;
 
@@ -64,23 +64,4 @@ pub fn lent_right(layout: &Layout, memory: &[u32]) -> bool {
 /// 'The mask of an address e is (e AND SH) OR SL.'
 pub fn mask(layout: &Layout, address: u32) -> u32 {
     (address & layout.high) | layout.low
-}
-
-/// 'N is the smallest power of two greater than n.'
-pub fn bundles(instructions: usize) -> usize {
-    let mut powers = (0..).map(|power| 1 << power);
-    powers
-        .find(|&power: &usize| power > instructions)
-        .expect("powers of two have no end")
-}
-
-/// Whether a list of so many bundles can be: 'N a power of two from 1 to
-/// 1,024'.
-pub fn count_right(bundles: usize) -> bool {
-    (0..=10).any(|power| bundles == 1 << power)
-}
-
-/// 'B must be a multiple of 4N.'
-pub fn base_right(layout: &Layout, commands: usize) -> bool {
-    (layout.base as usize).is_multiple_of(commands)
 }

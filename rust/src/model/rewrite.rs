@@ -1,38 +1,12 @@
 //! Rewriting instructions into bundles.
 
+use super::bundles::{address, alone, base_right, bundles, pch, pcl, Bundle, HALT};
 use super::commands::Command;
 use super::instructions::{judge_in_routine, Instr};
-use super::layout::{base_right, bundles, layout_right};
+use super::layout::layout_right;
 use super::outputs::{deliver, refuse, room_for, Refused};
 use crate::names::{BUNDLE_LENGTH, HIDDEN, MOST_INSTRUCTIONS};
 use crate::{Answer, Layout, Refusal};
-
-/// The commands of a bundle.
-pub type Bundle = [Command; BUNDLE_LENGTH];
-
-/// 'HALT t t t', with t = NOP.
-pub const HALT: Bundle = alone(Command::Halt);
-
-/// A command, then t t t.
-const fn alone(command: Command) -> Bundle {
-    [command, Command::Nop, Command::Nop, Command::Nop]
-}
-
-/// 'PCL = B.'
-pub fn pcl(layout: &Layout) -> u32 {
-    layout.base
-}
-
-/// 'PCH = B + 4N − 1', summed without wrap; B is a multiple of 4N.
-pub fn pch(layout: &Layout, bundles: usize) -> u32 {
-    (layout.base as usize + BUNDLE_LENGTH * bundles - 1) as u32
-}
-
-/// 'Instruction g becomes four commands at addresses B + 4g to B + 4g + 3.'
-/// This is the first, summed without wrap.
-pub fn address(layout: &Layout, g: usize) -> u64 {
-    u64::from(layout.base) + (BUNDLE_LENGTH * g) as u64
-}
 
 /// 'ANDI 8,a,SH; ORI 8,8,SL; LOAD d,8; t. For STORE: the same two, STORE 8,b;
 /// t.'

@@ -40,7 +40,8 @@ impl Tally {
         *self.sums.entry(what).or_default() += more;
     }
 
-    /// More of something that the cases must have had often enough.
+    /// More of something that the cases must have had often enough, or none of
+    /// it yet.
     pub fn note(&mut self, what: &'static str, more: u64) {
         *self.notes.entry(what).or_default() += more;
     }

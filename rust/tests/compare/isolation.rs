@@ -7,7 +7,7 @@ use crate::common::inputs::{
     altered_layout, any_command, damage_word, is_free, landings, layout_and_routine, policy,
     shaped_bundle, shaped_list, SomePolicy,
 };
-use crate::common::{cases, say, seed, Rng};
+use crate::common::{cases, Rng, Tally};
 use hemdroas::model::{bundles, Command};
 use hemdroas::names::{CELL_BITS, EVENTS, LANDING_CELLS, NO_ARROW};
 use hemdroas::native::{check, install, rewrite, run};
@@ -29,17 +29,6 @@ struct Seen {
     machine: Machine,
     state: u32,
     sandbox: Vec<u32>,
-}
-
-#[derive(Default)]
-struct Tally {
-    lists: u64,
-    runs: u64,
-    steps: u64,
-    pairs: u64,
-    stores: u64,
-    between_keep_and_event: u64,
-    endings: [u64; 27],
 }
 
 /// Installs and runs a list in a world of its own canaries, and checks the
@@ -106,21 +95,23 @@ fn world(
             state = to;
         };
         events.iter().for_each(|&event| follow(event));
+        tally.note(PAUSED, 0);
         if machine.status == Status::Running {
             let word = list[(machine.pc - layout.base) as usize];
             if let Some(Command::Event { v }) = Command::of_word(word) {
                 follow(v);
-                tally.between_keep_and_event += 1;
+                tally.note(PAUSED, 1);
             }
         }
         assert_eq!(memory[layout.cell as usize], state, "state cell");
 
-        tally.runs += 1;
-        tally.steps += u64::from(answer.steps);
-        tally.pairs += u64::from(answer.pairs);
-        tally.endings[answer.ending.number() as usize] += 1;
+        // Lists that do nothing would be isolated too.
+        tally.count("run", answer.ending.number());
+        tally.note("steps", u64::from(answer.steps));
+        tally.note("pairs", u64::from(answer.pairs));
         let after = &memory[inside.clone()];
-        tally.stores += before.iter().zip(after).filter(|(x, y)| x != y).count() as u64;
+        let altered = before.iter().zip(after).filter(|(x, y)| x != y).count();
+        tally.note("cells altered", altered as u64);
         seen.push(Seen {
             answer,
             pairs: log[..written].to_vec(),
@@ -170,34 +161,13 @@ fn two_worlds(rng: &mut Rng, tally: &mut Tally, layout: &Layout, list: &[u64]) {
     };
     let (one, other) = (enter(), enter());
     assert_eq!(one, other, "two worlds under {layout:?}, list {list:x?}");
-    tally.lists += 1;
+    tally.note("lists", 1);
 }
 
-impl Tally {
-    fn conclude(&self, name: &str, seed: u64) {
-        let endings: Vec<String> = (20..=26)
-            .map(|n| format!("{n}: {}", self.endings[n]))
-            .collect();
-        say(&format!(
-            "isolation, {name}: seed {seed}, {} lists, {} runs, {} steps, {} pairs, {} cells altered, \
-             {} runs paused between KEEP and EVENT; {}",
-            self.lists,
-            self.runs,
-            self.steps,
-            self.pairs,
-            self.stores,
-            self.between_keep_and_event,
-            endings.join(", ")
-        ));
-        // Lists that do nothing would be isolated too.
-        assert!(self.lists >= 1000 && self.steps >= 100_000);
-        assert!(self.pairs >= 5000 && self.stores >= 5000);
-        assert!(self.between_keep_and_event >= 100);
-        for ending in [20, 21, 23, 24, 25, 26] {
-            assert!(self.endings[ending] >= 100, "ending {ending}");
-        }
-    }
-}
+const PAUSED: &str = "runs paused between KEEP and EVENT";
+
+/// The endings of passed lists: all but a fault.
+const ENDINGS: [u32; 6] = [20, 21, 23, 24, 25, 26];
 
 fn rewritten(layout: &Layout, words: &[u64]) -> Vec<u64> {
     let mut list = vec![0; 4 * bundles(words.len())];
@@ -208,41 +178,36 @@ fn rewritten(layout: &Layout, words: &[u64]) -> Vec<u64> {
 
 #[test]
 fn rewritten_routines_are_isolated() {
-    let seed = seed(21);
-    let mut rng = Rng::new(seed);
-    let mut tally = Tally::default();
+    let (mut tally, mut rng) = Tally::new("isolation, rewritten routines", 21);
     for _ in 0..cases(12_000) {
         let (layout, words) = layout_and_routine(&mut rng);
         let list = rewritten(&layout, &words);
         assert_eq!(check(&layout, &list), Answer::Taken(0));
         two_worlds(&mut rng, &mut tally, &layout, &list);
     }
-    tally.conclude("rewritten routines", seed);
+    tally.conclude(&[("run", &ENDINGS)]);
 }
 
 #[test]
 fn whatever_layout_is_taken_isolates() {
-    let seed = seed(22);
-    let mut rng = Rng::new(seed);
-    let mut tally = Tally::default();
-    let (mut tried, mut taken) = (0, 0);
-    while tally.lists < cases(8000) {
+    let (mut tally, mut rng) = Tally::new("isolation, altered layouts", 22);
+    let mut taken = 0;
+    while taken < cases(8000) {
         let (right, words) = layout_and_routine(&mut rng);
         let layout = altered_layout(&mut rng, &right);
         if layout == right {
             continue;
         }
-        tried += 1;
         let mut list = vec![0; 4 * bundles(words.len())];
-        if rewrite(&layout, &words, &mut list).is_taken() {
+        let refused = !rewrite(&layout, &words, &mut list).is_taken();
+        tally.note("layouts refused", u64::from(refused));
+        if !refused {
             taken += 1;
             assert_eq!(check(&layout, &list), Answer::Taken(0));
             two_worlds(&mut rng, &mut tally, &layout, &list);
         }
     }
-    say(&format!("isolation: {tried} layouts tried, {taken} taken"));
-    assert!(tried - taken >= 10_000);
-    tally.conclude("altered layouts", seed);
+    tally.conclude(&[("run", &ENDINGS)]);
 }
 
 /// Alters a list somewhere, in ways that a checker might overlook.
@@ -275,10 +240,7 @@ fn mutate(rng: &mut Rng, layout: &Layout, list: &mut [u64]) {
 
 #[test]
 fn mutated_lists_that_pass_are_isolated() {
-    let seed = seed(23);
-    let mut rng = Rng::new(seed);
-    let mut tally = Tally::default();
-    let (mut tried, mut kept) = (0, 0);
+    let (mut tally, mut rng) = Tally::new("isolation, mutated lists", 23);
     for _ in 0..cases(12_000) {
         let (layout, words) = layout_and_routine(&mut rng);
         let mut list = if rng.chance(70) {
@@ -293,10 +255,10 @@ fn mutated_lists_that_pass_are_isolated() {
             if list == before {
                 continue;
             }
-            tried += 1;
-            if check(&layout, &list).is_taken() {
-                kept += 1;
-            } else {
+            let passes = check(&layout, &list).is_taken();
+            tally.note("mutations passed", u64::from(passes));
+            tally.note("mutations refused", u64::from(!passes));
+            if !passes {
                 list = before;
             }
         }
@@ -304,9 +266,5 @@ fn mutated_lists_that_pass_are_isolated() {
             two_worlds(&mut rng, &mut tally, &layout, &list);
         }
     }
-    say(&format!(
-        "isolation: {tried} mutations tried, {kept} passed"
-    ));
-    assert!(kept >= 10_000 && tried - kept >= 10_000);
-    tally.conclude("mutated lists", seed);
+    tally.conclude(&[("run", &ENDINGS)]);
 }

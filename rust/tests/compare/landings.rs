@@ -62,22 +62,33 @@ fn landing_lists() {
     tally.conclude(&[("install", &[0, 14])]);
 }
 
+const CAUSES: [&str; 4] = [
+    "26 below the base",
+    "26 between two bundles",
+    "26 past instruction 1,023",
+    "26 for a bit that is clear",
+];
+
 /// Why a jump to a target has no landing, if it has none.
 fn cause(layout: &Layout, memory: &[u32], target: u32) -> Option<&'static str> {
     let Some(offset) = target.checked_sub(layout.base) else {
-        return Some("26 below the base");
+        return Some(CAUSES[0]);
     };
     let j = offset / 4;
     if offset % 4 != 0 {
-        Some("26 between two bundles")
+        Some(CAUSES[1])
     } else if j > 1023 {
-        Some("26 past instruction 1,023")
+        Some(CAUSES[2])
     } else if memory[(layout.landings + j / CELL_BITS) as usize] >> (j % CELL_BITS) & 1 == 0 {
-        Some("26 for a bit that is clear")
+        Some(CAUSES[3])
     } else {
         None
     }
 }
+
+const LATER: &str = "26 again in a later run";
+const UNTAKEN: &str = "not taken, to no landing";
+const LANDS: &str = "to a landing";
 
 /// A base and a target about it, with the instruction that it would be.
 fn some_target(rng: &mut Rng, base: u32) -> (u32, u32) {
@@ -101,6 +112,9 @@ fn some_target(rng: &mut Rng, base: u32) -> (u32, u32) {
 #[test]
 fn jumps() {
     let (mut tally, mut rng) = Tally::new("jumps", 14);
+    for what in CAUSES.into_iter().chain([LATER, UNTAKEN, LANDS]) {
+        tally.note(what, 0);
+    }
     for turn in 0..cases(20_000) {
         let mut layout = right_layout(&mut rng, 1);
         if rng.chance(50) {
@@ -149,11 +163,11 @@ fn jumps() {
                 assert_eq!(answer.steps, 1, "the jump is a step");
                 let again = run(&mut tally, &layout, &list, &mut lent, 9, &[]);
                 assert_eq!((again.ending, again.steps), (Ending::NoLanding, 0));
-                tally.note("26 again in a later run", 1);
+                tally.note(LATER, 1);
             }
             (Ending::NoLanding, None) => panic!("{target} is a landing under {layout:?}"),
-            (_, Some(_)) => tally.note("not taken, to no landing", 1),
-            (_, None) => tally.note("to a landing", 1),
+            (_, Some(_)) => tally.note(UNTAKEN, 1),
+            (_, None) => tally.note(LANDS, 1),
         }
     }
     tally.conclude(&[]);

@@ -44,9 +44,6 @@ pub fn load(
     let input = || format!("{bytes:02x?}, {policy:?} and {landings:?} under {layout:?}");
     assert_eq!(given, answer, "loading {}", input());
     assert_eq!(theirs, left, "what was lent to the load of {}", input());
-    if answer.number() == 7 && model::layout_right(layout) {
-        tally.note("loads refused for the memory alone", 1);
-    }
     tally.count("load", answer.number());
     answer
 }
@@ -73,14 +70,10 @@ fn loading() {
             memory: rng.cells(cells),
             record: any_record(&mut rng),
         };
-        let _ = load(
-            &mut tally,
-            &layout,
-            &policy.lend(),
-            &landings,
-            &bytes,
-            &lent,
-        );
+        let lend = policy.lend();
+        let answer = load(&mut tally, &layout, &lend, &landings, &bytes, &lent);
+        let memory_alone = answer.number() == 7 && model::layout_right(&layout);
+        tally.note("refused for the memory alone", u64::from(memory_alone));
     }
     tally.conclude(&[("load", &NUMBERS)]);
 }

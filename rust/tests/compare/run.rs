@@ -259,9 +259,8 @@ fn hand_made_runs(tally: &mut Tally, rng: &mut Rng) {
             memory[layout.cell as usize] = rng.under(layout.states + 1);
         }
         let record = hand_made_record(rng, &layout, list.len());
-        if record.0[Record::STATUS] > 4 {
-            tally.note("records with a status above 4", 1);
-        }
+        let above = record.0[Record::STATUS] > 4;
+        tally.note("records with a status above 4", u64::from(above));
         match rng.below(30) {
             0 => layout = altered_layout(rng, &layout),
             1 => {
