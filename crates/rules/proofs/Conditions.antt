@@ -57,6 +57,20 @@ check-each lay n ws h (suc m) e j l u =
     taken-if (passesAt lay n ws j ≡ true) (passesAt lay n ws h) _ _ (λ z. omega arith)
     (λ t r. ⊎-elim (λ q. rw (eqb-true j h q) t) (λ q. check-each lay n ws (h + 1) m r j (omega (arith, eqb-false j h q)) (omega arith)) (cases (eqb j h))) e
 
+-- what 12 does not refuse
+pub record Counted (k n : ℕ) : Type 0 where
+  pub count : k ≡ bundleLength * n
+  pub most : n ≤ mostBundles
+  pub single : ones n ≡ 1
+
+pub counted : (k : ℕ) → countRight k ≡ true → Counted k (k / bundleLength)
+counted k c =
+    let c₁ = both _ _ c in
+    let c₀ = both _ _ (c₁ .0) in
+    let most : k ≤ mostCommands = leb-true _ _ (c₀ .0) in
+    let fours : k % bundleLength ≡ 0 = eqb-true _ _ (c₀ .1) in
+    record { count = omega arith; most = omega arith; single = eqb-true _ _ (c₁ .1) }
+
 pub passed-of : (lay : Layout) (ws : List ℕ) → checkAnswer lay ws .number ≡ 0 → Passed lay ws (length ws / bundleLength)
 unfolding checkAnswer
 passed-of lay ws =
@@ -66,15 +80,12 @@ passed-of lay ws =
     (λ r. taken-unless P (countRight (length ws)) _ _ (λ z. omega arith)
     (λ c. taken-unless P (baseRight lay n) _ _ (λ z. omega arith)
     (λ b e.
-    let c₁ = both _ _ c in
-    let c₀ = both _ _ (c₁ .0) in
-    let most : length ws ≤ mostCommands = leb-true _ _ (c₀ .0) in
-    let fours : length ws % bundleLength ≡ 0 = eqb-true _ _ (c₀ .1) in
+    let l = counted (length ws) c in
     record {
       right = r;
-      count = omega arith;
-      most = omega arith;
-      single = eqb-true _ _ (c₁ .1);
+      count = l .count;
+      most = l .most;
+      single = l .single;
       base = b;
       each = λ h l. check-each lay n ws 0 n e h (omega arith) (omega arith);
     })))

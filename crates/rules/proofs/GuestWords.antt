@@ -78,8 +78,9 @@ taken-valid n w e =
     cond-ind (Valid (n + 1)) (ltb k 8) (λ h1.
     let l : 1 ≤ k = omega (arith, eqb-false k 0 h0) in
     let u : k < 8 = ltb-true k 8 h1 in
+    let most : k ≤ 7 = omega (arith, u) in
     let p = plain-limits k _ _ _ _ _ kept l u in
-    (l, at-most k u, hd, ha, hb, p .0, p .1, p .2, p .3)) (λ h1.
+    (l, most, hd, ha, hb, p .0, p .1, p .2, p .3)) (λ h1.
     cond-ind (Valid (n + 1)) (eqb k 8) (λ _. (hd, ha)) (λ h2.
     cond-ind (Valid (n + 1)) (eqb k 9) (λ _. (ha, hb)) (λ h3.
     cond-ind (Valid (n + 1)) (eqb k 10) (λ h4. (ha, hb, hc, below-next (vOf w) n (t .1 (eqb-true k 10 h4)))) (λ h4.

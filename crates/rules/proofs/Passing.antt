@@ -75,7 +75,7 @@ module _ (lay : Layout) (n : ℕ) where
       let h : InBits 16 hidden 0 0 0 = (lit< tt, lit< tt, lit< tt, lit< tt, lit< tt) in
       rw (pack-kind 16 hidden 0 0 0 e h, pack-v 16 hidden 0 0 0 e h)
 
-  is-valid : (i : Instr) → Valid n i → valid n i ≡ true
+  pub is-valid : (i : Instr) → Valid n i → valid n i ≡ true
   unfolding valid
   is-valid HALT g = refl
   is-valid (PLAIN k d a b v) g =
@@ -89,18 +89,18 @@ module _ (lay : Layout) (n : ℕ) where
 
   -- ---- a list of the bundles of valid instructions, the last one HALT, passes
   module _ (ws : List ℕ) (is : ℕ → Instr) (each : (h p : ℕ) → h < n → p < bundleLength → getD ws (bundleLength * h + p) 0 ≡ wordOf (shapeOf lay n (is h) p))
-      (fine : (h : ℕ) → Valid n (is h)) (last : is (n - 1) ≡ HALT) (h : ℕ) (lh : h < n) where
+      (fine : (h : ℕ) → h < n → Valid n (is h)) (last : is (n - 1) ≡ HALT) (h : ℕ) (lh : h < n) where
     first-word : getD ws (bundleLength * h) 0 ≡ wordOf (shapeOf lay n (is h) 0)
     first-word = let z : bundleLength * h ≡ bundleLength * h + 0 = omega arith in rw z (each h 0 lh (omega arith))
 
     pub back : bundleAt lay ws h ≡ is h
     unfolding bundleAt
-    back = rw (first-word, each h 2 lh (omega arith), each h 3 lh (omega arith)) (bundle-back (is h) (fine h))
+    back = rw (first-word, each h 2 lh (omega arith), each h 3 lh (omega arith)) (bundle-back (is h) (fine h lh))
 
     bundle-shaped : shapedAt lay n ws h ≡ true
     unfolding shapedAt isBundle
     bundle-shaped =
-        rw (back, is-valid (is h) (fine h), eq-eqb _ _ first-word, eq-eqb _ _ (each h 1 lh (omega arith)), eq-eqb _ _ (each h 2 lh (omega arith)), eq-eqb _ _ (each h 3 lh (omega arith)))
+        rw (back, is-valid (is h) (fine h lh), eq-eqb _ _ first-word, eq-eqb _ _ (each h 1 lh (omega arith)), eq-eqb _ _ (each h 2 lh (omega arith)), eq-eqb _ _ (each h 3 lh (omega arith)))
 
     halts : (ltb (h + 1) n || eqb (kindOf (wordOf (shapeOf lay n (is h) 0))) 1) ≡ true
     unfolding shapeOf wordOf
@@ -162,7 +162,7 @@ unfolding checkFrom
 check-all lay n ws h zero all = refl
 check-all lay n ws h (suc m) all = rw (all h (omega arith)) (check-all lay n ws (h + 1) m (λ j l. all j (omega arith)))
 
-check-taken : (lay : Layout) (ws : List ℕ) (n : ℕ) → Passed lay ws n → checkAnswer lay ws ≡ answer 0 0
+pub check-taken : (lay : Layout) (ws : List ℕ) (n : ℕ) → Passed lay ws n → checkAnswer lay ws ≡ answer 0 0
 unfolding checkAnswer
 check-taken lay ws n p =
     let q : length ws / bundleLength ≡ n = omega (arith, p .count) in
@@ -181,7 +181,7 @@ rewritten-passes lay code room e =
       most = count-most lay code t;
       single = size-laws lay code t .power;
       base = t .base;
-      each = bundle-passes lay n (commandsOf lay code) (routine code) (routine-word lay code t) (routine-valid lay code t) (routine-last lay code t);
+      each = bundle-passes lay n (commandsOf lay code) (routine code) (routine-word lay code t) (λ h _. routine-valid lay code t h) (routine-last lay code t);
     })
 
 -- ---- a passed list is that of a routine

@@ -8,6 +8,7 @@ use lib.Count.{ones, leadingZeros}
 use lib.ListN.{set, replicate}
 use lib.Seq.{getD-set-other}
 use Rattle.rules.specs.declared.Status.the-variants.{Running, Stopped}
+use Rattle.rules.specs.Names.{topGuest}
 use Rattle.rules.specs.Layouts.{rightLayout, inBox, inTable, inLandings, protected}
 use Rattle.rules.specs.Policies.{rightPolicy}
 use Rattle.rules.specs.Landings.{rightLandings, bitsFrom, landingsOf}
@@ -68,7 +69,7 @@ unfolding guestAfter guestStep doOf sentOf plainOf instrOf routine
 guest-with x =
     let g = guestStart layout policy (installMemory layout policy (memory x)) in
     let step : Guest → Guest = guestStep layout policy 8 (routine code) [] in
-    let regs : List ℕ = 70 ∷ replicate 7 0 in
+    let regs : List ℕ = 70 ∷ replicate topGuest 0 in
     let one : step g ≡ guestOf regs 1 (g .box) 0 [] 0 Running = refl in
     let two : step (step g) ≡ guestOf regs 2 (g .box) 0 (pairOf 0 70 ∷ []) 0 Running = ap step one in
     let three : step (step (step g)) ≡ guestOf regs 3 (g .box) 1 (pairOf 0 70 ∷ pairOf 2 70 ∷ []) 0 Running = ap step two in

@@ -1,27 +1,30 @@
 -- What is claimed of the definitions. Each claim is a type; its proof has the claim's name in small letters, in proofs/.
 use Prim.Native.Nat.{ℕ, suc, _+_, _-_, _*_, _/_, _%_, _^_, _<_, _≤_}
 use mathlib.Core.Path.{_≡_}
-use mathlib.Core.Bool.{true, false}
+use mathlib.Core.Bool.{Bool, true, false, _&&_}
 use mathlib.Core.Logic.{_⊎_}
 use mathlib.Core.List.{List, [], _∷_, _++_}
 use lib.ListN.{length, getD, take, drop}
 use lib.Count.{ones}
+use lib.Dec.{ltb}
 use Rattle.rules.specs.declared.Layout.{Layout}
+use Rattle.rules.specs.declared.Instr.{Instr}
+use Rattle.rules.specs.declared.Instr.the-variants.{HALT, PLAIN, LOAD, STORE, GOIF, GOX, EVENT}
 use Rattle.rules.specs.declared.Machine.{Machine}
-use Rattle.rules.specs.declared.Instr.the-variants.{EVENT}
 use Rattle.rules.specs.declared.Command.the-variants.{Look, StopIf, Keep, Event}
 use Rattle.rules.specs.declared.Status.{Status}
 use Rattle.rules.specs.declared.Status.the-variants.{Running, Ended, Stopped, Faulted, Strayed}
 use Rattle.rules.specs.declared.Ending.{Ending}
 use Rattle.rules.specs.declared.Ending.the-variants.{Done, NoArrow, Fault, LogFull, Silent, Spent, NoLanding, Refused}
-use Rattle.rules.specs.Names.{mostInstructions, mostBundles, bundleLength, bundleShift, landingCells, cellBits, guestRegisters, answer, endingNumber}
+use Rattle.rules.specs.declared.Refusal.the-variants.{BadLayout, BadBundle, BadCount, BadBase}
+use Rattle.rules.specs.Names.{mostInstructions, mostBundles, bundleLength, bundleShift, landingCells, cellBits, guestRegisters, hidden, numberOf, answer, endingNumber}
 use Rattle.rules.specs.Layouts.{span, rightLayout, widthOf, maskOf, inBox}
 use Rattle.rules.specs.Policies.{Policy, allowed, stateOver}
 use Rattle.rules.specs.Landings.{listed, landingsOf, bitAt}
 use Rattle.rules.specs.Words.{routine, bundlesFor}
 use Rattle.rules.specs.Bytes.{readAnswer, readOutput, writeAnswer, writeOutput}
-use Rattle.rules.specs.Commands.{shlOf, wordOf, fetchOf}
-use Rattle.rules.specs.Bundles.{addressOf, lastAddress, positionOf, shapeOf, bundleAt, baseRight, countRight, commandsOf, rewriteAnswer, rewriteOutput, checkAnswer}
+use Rattle.rules.specs.Commands.{wordOf, shlOf, fetchOf}
+use Rattle.rules.specs.Bundles.{addressOf, lastAddress, positionOf, shapeWith, shapeOf, valid, bundleAt, baseRight, countRight, commandsOf, rewriteAnswer, rewriteOutput, checkAnswer}
 use Rattle.rules.specs.Machines.{State, onward, leftIn, runFrom, runOf, installMemory}
 use Rattle.rules.specs.Guests.{Guest, guestAfter, guestStart, boxOf}
 use Rattle.rules.specs.Runs.{begunFrom, Given, Carried, afterRun, allRuns, after, Run, recordedIn, Matches, Lent, Served, pairsOf, eventsOf, waitingAt, pendingAt}
@@ -116,6 +119,60 @@ PassedDecodes =
     let N = length ws / bundleLength in
     (h p : ℕ) → h < N → p < bundleLength → fetchOf ws (lay .base) (addressOf lay h + p) ≡ shapeOf lay N (bundleAt lay ws h) p
 
+-- ---- lists written when register 8 was the hidden one
+
+abbrev pub hiddenBefore : ℕ
+hiddenBefore = 8
+
+-- LOAD, STORE, GOX and EVENT: their shapes name the hidden register
+abbrev pub namesHidden : Instr → Bool
+namesHidden HALT = false
+namesHidden (PLAIN k d a b v) = false
+namesHidden (LOAD d a) = true
+namesHidden (STORE a b) = true
+namesHidden (GOIF a b c v) = false
+namesHidden (GOX d a b c) = true
+namesHidden (EVENT e) = true
+
+-- every register field of an instruction is below r
+abbrev pub fieldsBelow : ℕ → Instr → Bool
+fieldsBelow r HALT = true
+fieldsBelow r (PLAIN k d a b v) = ltb d r && ltb a r && ltb b r
+fieldsBelow r (LOAD d a) = ltb d r && ltb a r
+fieldsBelow r (STORE a b) = ltb a r && ltb b r
+fieldsBelow r (GOIF a b c v) = ltb a r && ltb b r
+fieldsBelow r (GOX d a b c) = ltb d r && ltb a r && ltb b r
+fieldsBelow r (EVENT e) = true
+
+-- what the checker passes where r is the hidden register and the guest's are those below it: `is` are the instructions of the bundles
+pub record PassesWith (r : ℕ) (lay : Layout) (ws : List ℕ) (N : ℕ) (is : ℕ → Instr) : Type 0 where
+  pub layout : rightLayout lay ≡ true
+  pub count : countRight (length ws) ≡ true
+  pub base : baseRight lay N ≡ true
+  pub fields : (h : ℕ) → h < N → (valid N (is h) && fieldsBelow r (is h)) ≡ true
+  pub words : (h p : ℕ) → h < N → p < bundleLength → getD ws (bundleLength * h + p) 0 ≡ wordOf (shapeWith r lay N (is h) p)
+  pub last : is (N - 1) ≡ HALT
+
+-- `passes` and `passed`: the checker is that of register 15;
+-- `refused`: 'the checker refuses lists written before, with 11, whenever they hold a LOAD, STORE, GOX or EVENT bundle', unless 7, 12 or 13 comes first:
+--     for all fields and at every place; the bundle's first command is enough;
+-- `kept` and `before`: a list without one passes exactly where it passed before, if its register fields are below 8
+pub record BeforeLaws (lay : Layout) (ws : List ℕ) (N : ℕ) : Type 0 where
+  pub passes : (is : ℕ → Instr) → PassesWith hidden lay ws N is → checkAnswer lay ws ≡ answer 0 0
+  pub passed : checkAnswer lay ws .number ≡ 0 → PassesWith hidden lay ws N (bundleAt lay ws)
+  pub refused :
+      (h : ℕ) (i : Instr) → h < N → namesHidden i ≡ true → getD ws (bundleLength * h) 0 ≡ wordOf (shapeWith hiddenBefore lay N i 0) →
+      let x = checkAnswer lay ws .number in
+      (x ≡ numberOf BadLayout → ⊥) → (x ≡ numberOf BadCount → ⊥) → (x ≡ numberOf BadBase → ⊥) → x ≡ numberOf BadBundle
+  pub kept :
+      (is : ℕ → Instr) → ((h : ℕ) → h < N → namesHidden (is h) ≡ false) → PassesWith hiddenBefore lay ws N is → checkAnswer lay ws ≡ answer 0 0
+  pub before :
+      ((h : ℕ) → h < N → (namesHidden (bundleAt lay ws h) ≡ false) × (fieldsBelow hiddenBefore (bundleAt lay ws h) ≡ true)) →
+      checkAnswer lay ws .number ≡ 0 → PassesWith hiddenBefore lay ws N (bundleAt lay ws)
+
+abbrev pub ListsBefore : Type 0
+ListsBefore = (lay : Layout) (ws : List ℕ) → BeforeLaws lay ws (length ws / bundleLength)
+
 -- ---- endings
 
 -- the status that an ending of a run that is not refused leaves
@@ -166,7 +223,7 @@ Cuts =
 abbrev pub Stands : Layout → Machine → Type 0
 Stands lay m = (positionOf lay (m .pc) ≡ 0) ⊎ (m .status ≡ Running → ⊥)
 
--- 'on ending, r0 to r7, sandbox, state cell, records and readings used'; and on the instruction to come, in whose bundle pc is at position p.
+-- 'on ending, r0 to r14, sandbox, state cell, records and readings used'; and on the instruction to come, in whose bundle pc is at position p.
 -- The ending is the record's status: by Endings a run answers 20, 21 or 26 exactly where it has ended, stopped or strayed
 pub record AgreesAt (lay : Layout) (p : ℕ) (g : Guest) (c : Carried) : Type 0 where
   pub ending : c .machine .status ≡ g .status

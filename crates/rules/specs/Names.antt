@@ -54,9 +54,9 @@ cellBits = 32
 abbrev pub bundleShift : ℕ
 bundleShift = 2
 
--- the guest's registers are 0 to 7; register 8 is hidden; the machine has nine
+-- the guest's registers are 0 to 14; register 15 is hidden; the machine has sixteen
 abbrev pub guestRegisters : ℕ
-guestRegisters = 8
+guestRegisters = 15
 
 abbrev pub hidden : ℕ
 hidden = guestRegisters
@@ -69,7 +69,7 @@ abbrev pub topGuest : ℕ
 topGuest = guestRegisters - 1
 
 abbrev pub topRegister : ℕ
-topRegister = hidden
+topRegister = registers - 1
 
 abbrev pub topCondition : ℕ
 topCondition = 3

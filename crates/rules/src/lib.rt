@@ -142,23 +142,23 @@ pub enum Status {
 
 // The machine's record.
 pub struct Machine {
-    pub regs: [u32; 9],
+    pub regs: [u32; Machine::REGISTERS],
     pub pc: u32,
     pub status: Status,
 }
 
 impl Machine {
     // Registers in all, and the hidden one, which no guest field names.
-    pub const REGISTERS: usize = 9;
+    pub const REGISTERS: usize = 16;
 
-    pub const HIDDEN: usize = 8;
+    pub const HIDDEN: usize = 15;
 
     // The record that installing yields: registers 0, pc at the base, running.
     pub fn new(base: u32) -> Machine
         ensures { λ r. ⌜ r ≡ machineAt base ⌝ }
     {
         Machine {
-            regs: [0; 9],
+            regs: [0; Machine::REGISTERS],
             pc: base,
             status: Status::Running,
         }
@@ -169,7 +169,7 @@ impl Machine {
         ensures { λ r. ⌜ r ≡ machineRefused ⌝ }
     {
         Machine {
-            regs: [0; 9],
+            regs: [0; Machine::REGISTERS],
             pc: 0,
             status: Status::Faulted,
         }
