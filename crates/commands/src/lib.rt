@@ -4,9 +4,9 @@ ghost use mathlib.Core.Path.{_≡_};
 ghost use Prim.Native.Nat.{_<_};
 ghost use Rattle.rules.specs.Names.{commandKinds};
 ghost use Rattle.rules.specs.Commands.{limitsOf, isCommand, commandOf};
-ghost use Rattle.commands.specs.Strays.{strayOf};
+ghost use Rattle.strays.specs.Strays.{strayOf};
 
-// The bits that no word of a kind has; registers are tested apart.
+// The bits that no word of a kind has: those of the fields that it lacks, and those above the bounds of c and v.
 fn stray(k: u64) -> u64
     requires { ⌜ k < commandKinds ⌝ }
     ensures { λ r. ⌜ r ≡ strayOf (limitsOf k) ⌝ }
@@ -36,16 +36,13 @@ fn stray(k: u64) -> u64
     }
 }
 
-// Whether a word is a command: no stray bit, and its three registers at most 8. The registers are tested at once:
-// 7 more than a field's low three bits carry into its top bit unless they are 0.
+// Whether a word is a command: a known kind, and none of its stray bits. Each register field names a register.
 pub fn is_command(w: u64) -> bool
     ensures { λ r. ⌜ r ≡ isCommand w ⌝ }
 {
     let k = w % 256;
     if k < 20 {
-        let s = stray(k);
-        let low = w & 0x0007_7700;
-        return (w & s == 0) & ((low + 0x0007_7700) & w & 0x0008_8800 == 0);
+        return w & stray(k) == 0;
     }
     false
 }

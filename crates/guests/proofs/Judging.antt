@@ -4,13 +4,14 @@ use mathlib.Core.Bool.{Bool, true, false, _&&_}
 use Prim.Native.Nat.{ℕ, _≤_, _<_, _^_}
 use lib.Bits.{bitAnd}
 use lib.Dec.{ltb, eqb}
-use borrow.Author.Tests.{eq-eqb, ne-eqb, eqb-true}
+use borrow.Author.Tests.{eq-eqb, ne-eqb, eqb-true, ltb-true}
 use Rattle.rules.specs.declared.Fields.{Fields}
 use Rattle.rules.specs.declared.Refusal.the-variants.{Taken, BadLanding}
-use Rattle.rules.specs.Names.{topKind, numberOf}
-use Rattle.rules.specs.Words.{guestLimits, judgeOf, fieldsOf, kindOf, vOf, zeroOf, judgeWord, judgeAt}
+use Rattle.rules.specs.Names.{guestRegisters, topKind, numberOf}
+use Rattle.rules.specs.Words.{guestLimits, judgeOf, fieldsOf, kindOf, dOf, aOf, bOf, vOf, zeroOf, judgeWord, judgeAt}
 use Rattle.rules.proofs.WordLaws.{judged}
-use Rattle.guests.specs.Strays.{strayBits}
+use Rattle.strays.specs.Strays.{strayOf}
+use Rattle.strays.proofs.Tables.{and-left, and-right}
 use Rattle.guests.proofs.Masks.{guest-within}
 
 -- what is said of the fields, said of the word
@@ -19,9 +20,18 @@ word-judged w f e x ex = ex ∙ rw e
 
 -- ---- a word without a stray bit
 
-pub clean-good : (w : ℕ) → w < 2 ^ 64 → kindOf w ≤ topKind → (s : ℕ) → s ≡ strayBits (guestLimits (kindOf w)) → eqb (bitAnd w s) 0 ≡ true → judgeWord w ≡ 0
+pub clean-good : (w : ℕ) → w < 2 ^ 64 → kindOf w ≤ topKind → (s : ℕ) → s ≡ strayOf (guestLimits (kindOf w))
+    → (eqb (bitAnd w s) 0 && ltb (dOf w) guestRegisters && ltb (aOf w) guestRegisters && ltb (bOf w) guestRegisters) ≡ true → judgeWord w ≡ 0
 clean-good w fits h s es t =
-    let i = guest-within w fits h (rw es at (eqb-true (bitAnd w s) 0 t)) in
+    let m = eqb (bitAnd w s) 0 in
+    let d = ltb (dOf w) guestRegisters in
+    let a = ltb (aOf w) guestRegisters in
+    let b = ltb (bOf w) guestRegisters in
+    let tb = and-left (m && d && a) b t in
+    let ta = and-left (m && d) a tb in
+    let i =
+    guest-within w fits h (rw es at (eqb-true (bitAnd w s) 0 (and-left m d ta))) (ltb-true _ _ (and-right m d ta)) (ltb-true _ _ (and-right (m && d) a tb))
+    (ltb-true _ _ (and-right (m && d && a) b t)) in
     judged (ltb 0 (zeroOf w)) (fieldsOf w)
     (record { kind = h; clean = rw (i .zero); kept = record { d = i .d; a = i .a; b = i .b; c = i .c; v = i .v } })
 

@@ -3,6 +3,7 @@ use packing::fields;
 use refusals::TOP_KIND;
 use refusals::judge;
 use rules::Answer;
+use rules::Machine;
 use rules::Refusal;
 ghost use mathlib.Core.Path.{_≡_};
 ghost use mathlib.Core.Bool.{true};
@@ -10,35 +11,39 @@ ghost use Prim.Native.Nat.{_≤_};
 ghost use lib.ListN.{length};
 ghost use Rattle.rules.specs.Names.{topKind};
 ghost use Rattle.rules.specs.Words.{guestLimits, judgeWord, judgeAt, firstRefused};
-ghost use Rattle.guests.specs.Strays.{strayBits};
+ghost use Rattle.strays.specs.Strays.{strayOf};
 
 // The kind with a landing.
 const GOIF: u64 = 10;
 
-// The bits that no instruction of a kind has: those of the fields that it lacks, and those above their bounds.
+// The hidden register, which is also the count of the guest's.
+const HIDDEN: u64 = Machine::HIDDEN as u64;
+
+// The bits that no instruction of a kind has: those of the fields that it lacks, and those above the bounds of c and v.
 fn stray_bits(k: u64) -> u64
     requires { ⌜ k ≤ topKind ⌝ }
-    ensures { λ r. ⌜ r ≡ strayBits (guestLimits k) ⌝ }
+    ensures { λ r. ⌜ r ≡ strayOf (guestLimits k) ⌝ }
 {
     match k {
         0 => 0xFFFF_FFFF_FFFF_FF00,
-        1 => 0x0000_0000_FFFF_F800,
-        2 => 0xFFFF_FFFF_FFFF_8800,
-        3 => 0xFFFF_FFFF_FFF8_8800,
-        4 => 0xFFFF_FFFF_FFF8_8800,
-        5 => 0xFFFF_FFFF_FFF8_8800,
-        6 => 0xFFFF_FFFF_FFF8_8800,
-        7 => 0xFFFF_FFE0_FFFF_8800,
-        8 => 0xFFFF_FFFF_FFFF_8800,
-        9 => 0xFFFF_FFFF_FFF8_8F00,
-        10 => 0x0000_0000_FFC8_8F00,
-        11 => 0xFFFF_FFFF_FFC8_8800,
+        1 => 0x0000_0000_FFFF_F000,
+        2 => 0xFFFF_FFFF_FFFF_0000,
+        3 => 0xFFFF_FFFF_FFF0_0000,
+        4 => 0xFFFF_FFFF_FFF0_0000,
+        5 => 0xFFFF_FFFF_FFF0_0000,
+        6 => 0xFFFF_FFFF_FFF0_0000,
+        7 => 0xFFFF_FFE0_FFFF_0000,
+        8 => 0xFFFF_FFFF_FFFF_0000,
+        9 => 0xFFFF_FFFF_FFF0_0F00,
+        10 => 0x0000_0000_FFC0_0F00,
+        11 => 0xFFFF_FFFF_FFC0_0000,
         12 => 0xFFFF_FFF0_FFFF_FF00,
         _ => 0,
     }
 }
 
-// Whether one AND shows that a word is an instruction, which is the common case.
+// Whether one AND and its registers show that a word is an instruction, which is the common case. A register field
+// that the kind lacks is 0, and passes.
 fn clean(w: u64) -> bool
     ensures { λ r. ⌜ (r ≡ true → judgeWord w ≡ 0) ⌝ }
 {
@@ -46,7 +51,10 @@ fn clean(w: u64) -> bool
     if k > TOP_KIND {
         return false;
     }
-    w & stray_bits(k) == 0
+    (w & stray_bits(k) == 0)
+        & ((w >> 8) % 16 < HIDDEN)
+        & ((w >> 12) % 16 < HIDDEN)
+        & ((w >> 16) % 16 < HIDDEN)
 }
 
 pub fn judge_word(w: u64) -> u8

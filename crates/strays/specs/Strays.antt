@@ -1,11 +1,11 @@
--- The bits that no command of a kind has, from the limits of its fields.
+-- The bits that no word of a kind has, from the limits of its fields.
 use Prim.Native.Nat.{ℕ, _+_, _-_, _*_, _^_}
 use mathlib.Core.Bool.{cond}
 use lib.Dec.{eqb}
 use Rattle.rules.specs.declared.Limits.{Limits}
 use Rattle.rules.specs.Names.{topWord}
 
--- a register field that the kind lacks
+-- the bits of a register field: all where the kind lacks it, else none
 abbrev pub barred : ℕ → ℕ
 barred n = cond (eqb n 0) 15 0
 
