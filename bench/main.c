@@ -9,13 +9,14 @@
 #include <string.h>
 #include <time.h>
 
-typedef void Run(const uint32_t layout[16], const uint64_t *, size_t, uint32_t machine[11], uint32_t *, size_t, uint32_t,
+typedef void Run(const uint32_t layout[16], const uint64_t *, size_t, uint32_t machine[18], uint32_t *, size_t, uint32_t,
                  const uint32_t *, size_t, uint32_t *, size_t, uint32_t answer[4]);
 Run run_O2, run_O3;
 enum { KINDS = 3, MOST_ROUNDS = 1001 };
 static Run *const RUNS[KINDS] = {hemdroas_run, run_O2, run_O3};
 
 enum { U = 1024, SL = 256, SH = 511, M = 0, P = 16, S = 2, B = 4096, Q = 64, LOG = 800000, READINGS = 400000, BUNDLES = 8 };
+enum { HIDDEN = 15, REGISTERS = 16, RECORD = REGISTERS + 2 };
 /* Orders are limited to 50,000, half of what the counter reaches. */
 static const uint32_t layout[16] = {U, SL, SH, M, P, S, B, Q, 50000, 50000, 50000, 50000, 50000, 50000, 50000, 50000};
 
@@ -25,7 +26,7 @@ static uint64_t word(uint64_t k, uint64_t d, uint64_t a, uint64_t b, uint64_t c,
 }
 
 static uint64_t code[4 * BUNDLES];
-static uint32_t machine[KINDS][11], answer[KINDS][4], memory[KINDS][U], records[KINDS][LOG], readings[READINGS];
+static uint32_t machine[KINDS][RECORD], answer[KINDS][4], memory[KINDS][U], records[KINDS][LOG], readings[READINGS];
 static double times[KINDS][MOST_ROUNDS], ratios[KINDS][MOST_ROUNDS];
 
 static double now(void) {
@@ -56,7 +57,7 @@ static void fresh(int i) {
     memset(memory[i], 0, sizeof memory[i]);
     memset(memory[i] + Q, 255, 32 * sizeof memory[i][0]);
     memset(machine[i], 0, sizeof machine[i]);
-    machine[i][9] = B;
+    machine[i][REGISTERS] = B;
 }
 
 static void measure(const char *name, size_t cells, size_t count, int rounds) {
@@ -86,12 +87,12 @@ static void counted(int last) {
 }
 
 static void mask(int g) {
-    code[4 * g] = word(9, 8, 1, 0, 0, SH), code[4 * g + 1] = word(10, 8, 8, 0, 0, SL);
+    code[4 * g] = word(9, HIDDEN, 1, 0, 0, SH), code[4 * g + 1] = word(10, HIDDEN, HIDDEN, 0, 0, SL);
 }
 
 static void event(int g, int n) {
-    code[4 * g] = word(16, 8, 0, 0, 0, n), code[4 * g + 1] = word(17, 8, 0, 0, 0, 0);
-    code[4 * g + 2] = word(19, 0, 0, 0, 0, n), code[4 * g + 3] = word(18, 8, 0, 0, 0, 0);
+    code[4 * g] = word(16, HIDDEN, 0, 0, 0, n), code[4 * g + 1] = word(17, HIDDEN, 0, 0, 0, 0);
+    code[4 * g + 2] = word(19, 0, 0, 0, 0, n), code[4 * g + 3] = word(18, HIDDEN, 0, 0, 0, 0);
 }
 
 int main(int argc, char **argv) {
@@ -101,8 +102,8 @@ int main(int argc, char **argv) {
 
     /* a store, a load and two adds in each turn */
     counted(5);
-    mask(1), code[6] = word(13, 0, 8, 1, 0, 0);
-    mask(2), code[10] = word(12, 4, 8, 0, 0, 0);
+    mask(1), code[6] = word(13, 0, HIDDEN, 1, 0, 0);
+    mask(2), code[10] = word(12, 4, HIDDEN, 0, 0, 0);
     code[12] = word(4, 5, 5, 4, 0, 0);
     measure("arith", 64, 0, rounds);
 

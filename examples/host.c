@@ -45,7 +45,7 @@ int main(void)
     table[DOOR] = 1;
     table[16 + GAS] = NO_ARROW;
 
-    uint32_t machine[11];
+    uint32_t machine[18];
     uint32_t answer[2]; /* number, and place or count of commands */
     hemdroas_load(layout, STATES, 0, table, sizeof table,
                   landings, sizeof landings / sizeof landings[0], routine, sizeof routine,

@@ -30,7 +30,7 @@
  * multiple of it; and sandbox, state cell, table and landing cells share no
  * cell.
  *
- * machine[11]: r0 to r8, pc, status. Status is 0 running, 1 ended, 2 stopped,
+ * machine[18]: r0 to r15, pc, status. Status is 0 running, 1 ended, 2 stopped,
  * 3 faulted, 4 strayed. Any number above 4 counts as faulted: the run answers
  * 22 with three zeros, and the record comes back as it was.
  *
@@ -112,7 +112,7 @@ uint32_t hemdroas_word_right(uint32_t states, uint32_t word);
  * e is not allowed. landings are the instructions that a GOX may go to,
  * strictly rising; count may be 0. */
 void hemdroas_install(const uint32_t layout[16], uint32_t states, uint32_t start, const uint8_t *table, size_t len,
-                      const uint32_t *landings, size_t count, uint32_t *memory, size_t cells, uint32_t machine[11], uint32_t answer[2]);
+                      const uint32_t *landings, size_t count, uint32_t *memory, size_t cells, uint32_t machine[18], uint32_t answer[2]);
 
 /* Loads a routine of n bytes: reads, rewrites and checks it, then installs the
  * policy. The answer is the first refusal of the four, with its place, so that
@@ -122,7 +122,7 @@ void hemdroas_install(const uint32_t layout[16], uint32_t states, uint32_t start
  * themselves 10 KB at most. */
 void hemdroas_load   (const uint32_t layout[16], uint32_t states, uint32_t start, const uint8_t *table, size_t len,
                       const uint32_t *landings, size_t count, const uint8_t *bytes, size_t n, uint64_t *commands, size_t room,
-                      uint32_t *memory, size_t cells, uint32_t machine[11], uint32_t answer[2]);
+                      uint32_t *memory, size_t cells, uint32_t machine[18], uint32_t answer[2]);
 
 /* Runs until the routine ends, pauses or has done budget steps. Each event
  * takes two cells of the log, from cell 0 on: its number (0 to 7 orders, 8 to
@@ -140,7 +140,7 @@ void hemdroas_load   (const uint32_t layout[16], uint32_t states, uint32_t start
  * At 23 and 24 the state cell is the policy's state over the recorded events;
  * at 25 it may still be that before the last of them.
  * After a pause, lend the same machine and memory again. */
-void hemdroas_run    (const uint32_t layout[16], const uint64_t *commands, size_t n, uint32_t machine[11], uint32_t *memory, size_t cells,
+void hemdroas_run    (const uint32_t layout[16], const uint64_t *commands, size_t n, uint32_t machine[18], uint32_t *memory, size_t cells,
                       uint32_t budget, const uint32_t *readings, size_t r, uint32_t *log, size_t g, uint32_t answer[4]);
 
 /* Looks ahead: answers as hemdroas_run would, with these readings, writes the
@@ -148,8 +148,8 @@ void hemdroas_run    (const uint32_t layout[16], const uint64_t *commands, size_
  * leave, which is machine's own numbers if it is refused. Neither machine nor
  * memory changes. The run is done on a copy of the memory, which takes about
  * 17 KB of stack. */
-void hemdroas_preview(const uint32_t layout[16], const uint64_t *commands, size_t n, const uint32_t machine[11], const uint32_t *memory, size_t cells,
-                      uint32_t budget, const uint32_t *readings, size_t r, uint32_t *log, size_t g, uint32_t after[11], uint32_t answer[4]);
+void hemdroas_preview(const uint32_t layout[16], const uint64_t *commands, size_t n, const uint32_t machine[18], const uint32_t *memory, size_t cells,
+                      uint32_t budget, const uint32_t *readings, size_t r, uint32_t *log, size_t g, uint32_t after[18], uint32_t answer[4]);
 
 /* Runs a routine's n words as they are written, without commands: the guest
  * rule, one instruction after another, under the layout, policy and landings

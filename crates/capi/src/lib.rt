@@ -1,5 +1,6 @@
 // The C interface: the sandbox's parts over numbers, arrays and slices.
 use befores::Made;
+use hosts::RECORD;
 use hosts::layout_of;
 use hosts::machine_of;
 use hosts::record_after;
@@ -136,7 +137,7 @@ pub extern "C" fn hemdroas_install(
     table: &[u8],
     landings: &[u32],
     memory: &mut [u32],
-    machine: &mut [u32; 11],
+    machine: &mut [u32; RECORD],
     answer: &mut [u32; 2],
 )
     ensures answer { λ _. ⌜ now (answer .exit) ≡ answerTo (installAnswer (layoutFrom (now (layout .entry))) (policyOf states start (now (table .entry)) (now (landings .entry))) (now (memory .entry))) ⌝ }
@@ -160,7 +161,7 @@ pub extern "C" fn hemdroas_load(
     bytes: &[u8],
     commands: &mut [u64],
     memory: &mut [u32],
-    machine: &mut [u32; 11],
+    machine: &mut [u32; RECORD],
     answer: &mut [u32; 2],
 )
     ensures answer { λ _. ⌜ now (answer .exit) ≡ answerTo (loadAnswer (layoutFrom (now (layout .entry))) (policyOf states start (now (table .entry)) (now (landings .entry))) (now (bytes .entry)) (length (now (commands .entry))) (now (memory .entry))) ⌝ }
@@ -187,7 +188,7 @@ pub extern "C" fn hemdroas_load(
 pub extern "C" fn hemdroas_run(
     layout: &[u32; 16],
     commands: &[u64],
-    machine: &mut [u32; 11],
+    machine: &mut [u32; RECORD],
     memory: &mut [u32],
     budget: u32,
     readings: &[u32],
@@ -212,12 +213,12 @@ pub extern "C" fn hemdroas_run(
 pub extern "C" fn hemdroas_preview(
     layout: &[u32; 16],
     commands: &[u64],
-    machine: &[u32; 11],
+    machine: &[u32; RECORD],
     memory: &[u32],
     budget: u32,
     readings: &[u32],
     log: &mut [u32],
-    after: &mut [u32; 11],
+    after: &mut [u32; RECORD],
     answer: &mut [u32; 4],
 )
     ensures answer { λ _. ⌜ now (answer .exit) ≡ runAnswerTo (runFor (now (layout .entry)) (now (commands .entry)) (now (machine .entry)) (now (memory .entry)) budget (now (readings .entry)) (now (log .entry)) .outcome .answer) ⌝ }

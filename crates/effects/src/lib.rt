@@ -4,6 +4,7 @@ use rules::Command;
 use rules::Effect;
 use rules::Ending;
 use rules::Layout;
+use rules::Machine;
 use rules::Policy;
 use rules::Status;
 use words::arith;
@@ -146,7 +147,7 @@ pub fn event(v: u32, free: usize, left: usize) -> Effect
 }
 
 // A register's number.
-fn reg(regs: &[u32; 9], i: u64) -> u32
+fn reg(regs: &[u32; Machine::REGISTERS], i: u64) -> u32
     requires { ⌜ i < registers ⌝ }
     ensures { λ r. ⌜ r ≡ getD (now (regs .entry)) i 0 ⌝ }
 {
@@ -175,7 +176,7 @@ fn value(k: u64, x: u32, y: u32, v: u32) -> u32
 // What a command would do.
 fn act(
     c: Command,
-    regs: &[u32; 9],
+    regs: &[u32; Machine::REGISTERS],
     pc: u32,
     cell: u32,
     table: u32,
@@ -218,7 +219,7 @@ fn act(
 // What a word would do: it goes through the decoder.
 fn decide(
     w: u64,
-    regs: &[u32; 9],
+    regs: &[u32; Machine::REGISTERS],
     pc: u32,
     cell: u32,
     table: u32,
@@ -238,7 +239,7 @@ fn decide(
 pub fn next_effect(
     commands: &[u64],
     base: u32,
-    regs: &[u32; 9],
+    regs: &[u32; Machine::REGISTERS],
     pc: u32,
     cell: u32,
     table: u32,

@@ -6,6 +6,13 @@ ghost use mathlib.Core.Path.{_≡_};
 ghost use mathlib.Core.Bool.{cond};
 ghost use Rattle.hosts.specs.Numbers.{layoutFrom, statusFrom, statusNumber, machineFrom, machineTo, statusKnown};
 
+// Where pc and status stand in a record, after its registers, and how many numbers it has.
+const PC: usize = Machine::REGISTERS;
+
+const STATUS: usize = PC + 1;
+
+pub const RECORD: usize = STATUS + 1;
+
 // A layout.
 pub fn layout_of(xs: &[u32; 16]) -> Layout
     ensures { λ r. ⌜ r ≡ layoutFrom (now (xs .entry)) ⌝ }
@@ -54,7 +61,7 @@ pub fn status_number(t: Status) -> u32
 }
 
 // A record's machine.
-pub fn machine_of(xs: [u32; 11]) -> Machine
+pub fn machine_of(xs: [u32; RECORD]) -> Machine
     ensures { λ r. ⌜ r ≡ machineFrom xs ⌝ }
 {
     let regs = [
@@ -67,17 +74,24 @@ pub fn machine_of(xs: [u32; 11]) -> Machine
         xs[6],
         xs[7],
         xs[8],
+        xs[9],
+        xs[10],
+        xs[11],
+        xs[12],
+        xs[13],
+        xs[14],
+        xs[15],
     ];
-    let status = status_of(xs[10]);
+    let status = status_of(xs[STATUS]);
     Machine {
         regs,
-        pc: xs[9],
+        pc: xs[PC],
         status,
     }
 }
 
 // A machine's record.
-pub fn record_of(m: Machine) -> [u32; 11]
+pub fn record_of(m: Machine) -> [u32; RECORD]
     ensures { λ r. ⌜ r ≡ machineTo m ⌝ }
 {
     let r = m.regs;
@@ -93,16 +107,23 @@ pub fn record_of(m: Machine) -> [u32; 11]
         r[6],
         r[7],
         r[8],
+        r[9],
+        r[10],
+        r[11],
+        r[12],
+        r[13],
+        r[14],
+        r[15],
         m.pc,
         status,
     ]
 }
 
 // The record after a run. One whose status number is no status was not run, and comes back as it was.
-pub fn record_after(m: Machine, xs: [u32; 11]) -> [u32; 11]
+pub fn record_after(m: Machine, xs: [u32; RECORD]) -> [u32; RECORD]
     ensures { λ r. ⌜ r ≡ cond (statusKnown xs) (machineTo m) xs ⌝ }
 {
-    if xs[10] < STATUSES {
+    if xs[STATUS] < STATUSES {
         return record_of(m);
     }
     xs

@@ -27,7 +27,7 @@ fn is_bundle(l: Layout, n: usize, i: Instr, w: u64, x: u64, y: u64, z: u64) -> b
     same(l, n, i, w, x, y, z)
 }
 
-// Whether a word is a plain command on the guest's registers: the instruction of the kind before it, judged by one AND.
+// Whether a word is a plain command on the guest's registers: the instruction of the kind before it, judged as a guest word.
 fn is_plain(n: usize, w: u64) -> bool
     ensures { λ r. ⌜ (r ≡ true → PlainWord n w) ⌝ }
 {

@@ -20,7 +20,7 @@ pub struct Point {
 // ---- what an effect writes
 
 // A register set; nothing where there is none of that number.
-fn put(regs: &mut [u32; 9], i: usize, x: u32)
+fn put(regs: &mut [u32; Machine::REGISTERS], i: usize, x: u32)
     requires { ⌜ length (now regs) ≡ registers ⌝ }
     ensures { λ _. ⌜ now (regs .exit) ≡ set (now (regs .entry)) i x ⌝ }
 {
@@ -75,7 +75,7 @@ fn probed(mut at: Point) -> Point
 // ---- an effect
 
 // A reading into register 0 and the log.
-fn probe(v: u32, regs: &mut [u32; 9], at: Point, readings: &[u32], log: &mut [u32])
+fn probe(v: u32, regs: &mut [u32; Machine::REGISTERS], at: Point, readings: &[u32], log: &mut [u32])
     requires { ⌜ (at .pairs < 2 ^ 62) × (length (now regs) ≡ registers) ⌝ }
     ensures { λ _. ⌜ (now (regs .exit) ≡ set (now (regs .entry)) 0 (getD (now (readings .entry)) (at .used) 0)) × (now (log .exit) ≡ withPair (now (log .entry)) (at .pairs) v (getD (now (readings .entry)) (at .used) 0)) ⌝ }
 {
@@ -88,7 +88,7 @@ fn probe(v: u32, regs: &mut [u32; 9], at: Point, readings: &[u32], log: &mut [u3
 pub fn apply(
     ceilings: &[u32],
     e: Effect,
-    regs: &mut [u32; 9],
+    regs: &mut [u32; Machine::REGISTERS],
     at: Point,
     memory: &mut [u32],
     readings: &[u32],

@@ -60,8 +60,8 @@ fn foreign() {
     reads(b"read present_0", b"\x01\x00\x23\x01\x01\x00\x00\x00\x00");
     reads(b"read halt_with_d", b"\x01\x00\x02\x01");
     reads(
-        b"read foreign_before_register_8",
-        b"\x01\x00\x0b\x02\x08\x01",
+        b"read foreign_before_register_15",
+        b"\x01\x00\x0b\x02\x0f\x01",
     );
 }
 
@@ -72,7 +72,8 @@ fn unknown() {
 }
 
 fn off_grade() {
-    reads(b"read register_8", b"\x02\x00\x00\x03\x02\x08");
+    reads(b"read register_14", b"\x02\x00\x00\x03\x02\x0e");
+    reads(b"read register_15", b"\x02\x00\x00\x03\x02\x0f");
     reads(b"read condition_4", b"\x01\x00\x11\x0b\x04");
     reads(b"read shift_32", b"\x01\x00\x21\x07\x20\x00\x00\x00");
     reads(b"read event_16", b"\x01\x00\x21\x0c\x10\x00\x00\x00");
@@ -113,13 +114,14 @@ fn bad_words(layout: Layout) {
     rewrites(b"rewrite kind_13", layout, &[0, 0xd]);
     rewrites(b"rewrite stray_bit_24", layout, &[0, 0x100_0000]);
     rewrites(b"rewrite present_field", layout, &[0x1_0000_0000]);
+    rewrites(b"rewrite register_14", layout, &[0, 0, 0xe0003]);
     rewrites(b"rewrite register_15", layout, &[0, 0, 0xf0003]);
 }
 
 fn landings(layout: Layout) {
     rewrites(b"rewrite goif_to_the_end", layout, &[0x1_0000_000a]);
     rewrites(b"rewrite goif_past_the_end", layout, &[0, 0x3_0000_000a]);
-    rewrites(b"rewrite grade_before_landing", layout, &[0x9_0000_800a]);
+    rewrites(b"rewrite grade_before_landing", layout, &[0x9_0000_f00a]);
 }
 
 fn lists(layout: Layout) {
