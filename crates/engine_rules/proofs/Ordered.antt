@@ -20,26 +20,20 @@ use Rattle.rules.specs.Names.{orders, noArrow, mostInstructions, answer, orElse
 use Rattle.rules.specs.Layouts.{rightLayout}
 use Rattle.rules.specs.Words.{judgeAt, routine, bundlesFor}
 use Rattle.rules.specs.Bundles.{placeAnswer, rewriteAnswer}
-use Rattle.rules.specs.Machines.{State, applyOf, seen, endingOf, eventEffect, unlessOver}
+use Rattle.rules.specs.Machines.{State, applyOf, seen, endingOf, eventEffect}
 use Rattle.rules.proofs.Bools.{no, cases}
+use Rattle.rules.proofs.Endings.{over-ind}
 use Rattle.rules.proofs.Refusals.{refused-map}
 use Rattle.engine_rules.specs.declared.Engine.{Engine}
 use Rattle.engine_rules.specs.Engines.{sendOf, actOf, nextFor, nextOf, entryAt, movedOf, effectOn, endedIn, runFrom, startOf, refusalBy, refusalOf, runOf}
 use Rattle.engine_rules.specs.Order.{addressOf, only, EngineOrder, EngineRefuses, EngineRewriter, EngineTakes}
 use Rattle.engine_rules.proofs.Runs.{taken-size}
 
-over-goes : {A : Type 0} (t : Status) (x y : A) → (t ≡ Running → ⊥) → unlessOver t x y ≡ x
-over-goes Running x y h = absurd (h refl)
-over-goes Ended x y h = refl
-over-goes Stopped x y h = refl
-over-goes Faulted x y h = refl
-over-goes Strayed x y h = refl
-
 module _ (lay : Layout) (ws rd : List ℕ) where
   over-run : (n k : ℕ) (s : State) → (s .status ≡ Running → ⊥) → runFrom lay ws rd n k s ≡ endedIn (endingOf (s .status)) k s
   unfolding runFrom
   over-run zero k s h = refl
-  over-run (suc n) k s h = over-goes (s .status) _ _ h
+  over-run (suc n) k s h = over-ind (λ r. r ≡ endedIn (endingOf (s .status)) k s) (s .status) (λ _. refl) (λ r. absurd (h r))
 
   -- an instruction that ends the run
   end-run : (n : ℕ) (s : State) (t : Status) → s .status ≡ Running → (t ≡ Running → ⊥) → nextOf lay ws rd s ≡ End t → runFrom lay ws rd (suc n) 0 s ≡ endedIn (endingOf t) 1 (effectOn lay rd (End t) s)

@@ -6,7 +6,7 @@ ghost use Rattle.engine_rules.specs.Engines.{engineFirst};
 
 // The engine's record: r0 to r7, the index of the next instruction, the status.
 pub struct Engine {
-    pub regs: [u32; 8],
+    pub regs: [u32; Engine::REGISTERS],
     pub at: u32,
     pub status: Status,
 }
@@ -19,7 +19,7 @@ impl Engine {
         ensures { λ r. ⌜ r ≡ engineFirst ⌝ }
     {
         Engine {
-            regs: [0; 8],
+            regs: [0; Engine::REGISTERS],
             at: 0,
             status: Status::Running,
         }
