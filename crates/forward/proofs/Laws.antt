@@ -41,7 +41,7 @@ module _ (ws : List ℕ) where
 
   pub words-long : mostInstructions < length ws → forwardAnswer ws ≡ refusal Oversize 0
   unfolding forwardAnswer
-  words-long l = ap among (lt-ltb mostInstructions (length ws) l)
+  words-long l = rw (lt-ltb mostInstructions (length ws) l)
 
   module _ (l : length ws ≤ mostInstructions) where
     pub words-refused : (judged .number ≡ 0 → ⊥) → forwardAnswer ws ≡ judged
