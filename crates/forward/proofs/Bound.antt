@@ -177,7 +177,7 @@ module _ (lay : Layout) (ws : List ℕ) (n : ℕ) (is : ℕ → Instr) (room : l
   fetched pc l u = let w = split (lay .base) n pc l u (bs .some) in ap (fetchOf ws (lay .base)) (w .2) ∙ bs .each _ _ (w .0) (w .1)
 
   -- the last bundle's first command ends
-  pub next-last : (rd : List ℕ) (s : State) → s .pc ≡ lay .base + bundleLength * (n - 1) → nextOf lay ws rd s ≡ End Ended
+  next-last : (rd : List ℕ) (s : State) → s .pc ≡ lay .base + bundleLength * (n - 1) → nextOf lay ws rd s ≡ End Ended
   unfolding effectOf shapeOf
   next-last rd s e = let q = last-place (lay .base) n (s .pc) e in rw (fetched (s .pc) (omega arith) (omega arith), q .0, q .1, bs .last)
 

@@ -1,88 +1,64 @@
 -- One run finishes that has budget for all steps, and log and readings for an event in every bundle but the last: it never pauses.
-use mathlib.Core.Path.{_≡_, refl, sym, _∙_, ap}
+use mathlib.Core.Path.{_≡_, refl, sym, _∙_, ap, subst}
 use mathlib.Core.Bool.{true, false}
-use mathlib.Core.Logic.{⊎-elim}
+use mathlib.Core.Logic.{_⊎_, inl, inr, ⊎-elim}
 use mathlib.Core.List.{List, [], _∷_, _++_}
 use Prim.Native.Nat.{ℕ, zero, suc, _+_, _-_, _*_, _/_, _%_, _^_, _<_, _≤_}
 use native.Mathlib.Omega.{arith}
-use borrow.Author.Tests.{ltb-true, ltb-false, eq-eqb}
-use lib.Dec.{eqb, ltb}
+use borrow.Author.Tests.{eqb-true, eqb-false, eq-eqb}
+use lib.Dec.{eqb}
 use lib.ListN.{length, length-set}
 use Rattle.rules.specs.declared.Layout.{Layout}
 use Rattle.rules.specs.declared.Instr.{Instr}
 use Rattle.rules.specs.declared.Machine.{Machine}
-use Rattle.rules.specs.declared.Command.{Command}
-use Rattle.rules.specs.declared.Command.the-variants.{Nop, Halt, Plain, Load, Store, GoIf, GoReg, Look, StopIf, Keep, Event, Stray}
 use Rattle.rules.specs.declared.Status.{Status}
 use Rattle.rules.specs.declared.Status.the-variants.{Running}
 use Rattle.rules.specs.declared.Effect.{Effect}
 use Rattle.rules.specs.declared.Effect.the-variants.{Go, Put, Cell, Order, Probe, End, Wait}
-use Rattle.rules.specs.Names.{noArrow, bundleLength}
-use Rattle.rules.specs.Commands.{fetchOf, holdsOf}
+use Rattle.rules.specs.Names.{bundleLength}
+use Rattle.rules.specs.Commands.{fetchOf}
 use Rattle.rules.specs.Bundles.{shapeOf, bundleAt}
-use Rattle.rules.specs.Machines.{View, State, Ran, regAt, entryOf, landsAt, effectOf, applyOf, seen, nextOf, stepOf, runFrom, startOf, runOf, fits}
-use Rattle.rules.specs.Runs.{Given, Carried, atFirst, runOn, afterTaken, afterRun, afterRuns, runsOf, after, Lends, Served, eventIn}
-use Rattle.rules.proofs.Bools.{no, cases, cond-ind}
+use Rattle.rules.specs.Machines.{View, State, Ran, effectOf, applyOf, seen, nextOf, stepOf, runFrom, startOf, runOf, fits}
+use Rattle.rules.specs.Runs.{Given, Carried, atFirst, runOn, afterTaken, afterRun, afterRuns, runsOf, after, Lends, Served}
+use Rattle.rules.proofs.Bools.{cases}
 use Rattle.rules.proofs.Facts.{Bundled}
 use Rattle.rules.proofs.Endings.{Goes, goes, run-ind}
 use Rattle.rules.proofs.Conditions.{bundled-of, right-of, layout-of}
-use Rattle.rules.proofs.Track.{silent}
+use Rattle.rules.proofs.Progress.{Still, still, quiet}
 use Rattle.forward.specs.Claims.{stepsIn, FinishesAtOnce}
 use Rattle.forward.proofs.Runs.{pauses, ending-plain, all-spent}
 use Rattle.forward.proofs.Class.{AllForward, class-of}
-use Rattle.forward.proofs.Bound.{Leads, Ahead, ahead-step, on-by-one, split, below-end, next-last, next-leads, ahead-all}
+use Rattle.forward.proofs.Bound.{Leads, Ahead, ahead-step, on-by-one, split, below-end, next-leads, ahead-all}
 use Rattle.forward.proofs.Finish.{going-or-over}
 
--- ---- an order or a reading comes from a bundle's fourth command
-abbrev Fourth : ℕ → Effect → Type 0
-Fourth p (Go to) = Unit {0}
-Fourth p (Put d x) = Unit {0}
-Fourth p (Cell i x) = Unit {0}
-Fourth p (Order v) = p ≡ 3
-Fourth p (Probe v) = p ≡ 3
-Fourth p (End t) = Unit {0}
-Fourth p (Wait e) = Unit {0}
+-- ---- what pauses or records comes from a bundle's third command
+abbrev Third : ℕ → Effect → Type 0
+Third p e = Still e ⊎ (p ≡ 2)
 
-at-fourth : (p : ℕ) (e : Effect) → p ≡ 3 → Fourth p e
-at-fourth p (Go to) z = tt
-at-fourth p (Put d x) z = tt
-at-fourth p (Cell i x) z = tt
-at-fourth p (Order v) z = z
-at-fourth p (Probe v) z = z
-at-fourth p (End t) z = tt
-at-fourth p (Wait e) z = tt
+third : (lay : Layout) (n : ℕ) (i : Instr) (p : ℕ) (v : View) → Third p (effectOf (shapeOf lay n i p) v)
+third lay n i p v =
+    ⊎-elim (λ (e : eqb p 2 ≡ true). inr (eqb-true p 2 e)) (λ (e : eqb p 2 ≡ false). inl (still (shapeOf lay n i p) v (quiet lay n i p (eqb-false p 2 e)))) (cases (eqb p 2))
 
-no-event : (p : ℕ) (c : Command) (v : View) → eventIn c ≡ [] → Fourth p (effectOf c v)
-unfolding effectOf
-no-event p Nop v e = tt
-no-event p Halt v e = tt
-no-event p (Plain k d a b x) v e = tt
-no-event p (Load d a) v e = cond-ind (Fourth p) (ltb (regAt v a) (length (v .mem))) (λ _. tt) (λ _. tt)
-no-event p (Store a b) v e = cond-ind (Fourth p) (ltb (regAt v a) (length (v .mem))) (λ _. tt) (λ _. tt)
-no-event p (GoIf a b c x) v e = tt
-no-event p (GoReg d a b c) v e =
-    cond-ind (Fourth p) (holdsOf c (regAt v a) (regAt v b)) (λ _. cond-ind (Fourth p) (landsAt (v .mem) (v .base) (v .landings) (regAt v d)) (λ _. tt) (λ _. tt)) (λ _. tt)
-no-event p (Look d x) v e = cond-ind (Fourth p) (ltb (v .cell) (length (v .mem))) (λ _. cond-ind (Fourth p) (ltb (entryOf v x) (length (v .mem))) (λ _. tt) (λ _. tt)) (λ _. tt)
-no-event p (StopIf d) v e = cond-ind (Fourth p) (eqb (regAt v d) noArrow) (λ _. tt) (λ _. tt)
-no-event p (Keep d) v e = cond-ind (Fourth p) (ltb (v .cell) (length (v .mem))) (λ _. tt) (λ _. tt)
-no-event p (Event x) v e = no (cc)
-no-event p Stray v e = tt
+-- an order and a reading are not still
+order-third : (p v : ℕ) → Third p (Order v) → p ≡ 2
+order-third p v (inl q) = absurd q
+order-third p v (inr z) = z
 
-fourth : (lay : Layout) (n : ℕ) (i : Instr) (p : ℕ) (v : View) → p < bundleLength → Fourth p (effectOf (shapeOf lay n i p) v)
-fourth lay n i p v l =
-    ⊎-elim (λ (e : ltb p 3 ≡ true). no-event p (shapeOf lay n i p) v (silent lay n i p (ltb-true p 3 e))) (λ (e : ltb p 3 ≡ false). at-fourth p (effectOf (shapeOf lay n i p) v) (omega (arith, ltb-false p 3 e))) (cases (ltb p 3))
+probe-third : (p v : ℕ) → Third p (Probe v) → p ≡ 2
+probe-third p v (inl q) = absurd q
+probe-third p v (inr z) = z
 
--- ---- no more pairs and readings than bundles behind the machine
+-- ---- no more pairs and readings than bundles behind the machine, the one counted whose fourth command is next
 record Few (base size : ℕ) (s : State) : Type 0 where
   log : size ≡ length (s .log)
-  pairs : s .status ≡ Running → base + bundleLength * s .pairs ≤ s .pc
-  used : s .status ≡ Running → base + bundleLength * s .used ≤ s .pc
+  pairs : s .status ≡ Running → base + bundleLength * s .pairs ≤ s .pc + 1
+  used : s .status ≡ Running → base + bundleLength * s .used ≤ s .pc + 1
 
--- from the fourth command of a bundle on to the next
-one-on : (base q pc : ℕ) → base ≤ pc → base + bundleLength * q ≤ pc → (pc - base) % bundleLength ≡ 3 → base + bundleLength * (q + 1) ≤ pc + 1
+-- from the third command of a bundle on to the fourth
+one-on : (base q pc : ℕ) → base ≤ pc → base + bundleLength * q ≤ pc + 1 → (pc - base) % bundleLength ≡ 2 → base + bundleLength * (q + 1) ≤ pc + 1 + 1
 one-on base q pc l h e = omega arith
 
-few-step : (caps rd : List ℕ) (base top size : ℕ) (s : State) (e : Effect) → top < 2 ^ 32 → Goes e → s .status ≡ Running → base ≤ s .pc → Few base size s → Leads (s .pc) top e → Fourth ((s .pc - base) % bundleLength) e → Few base size (applyOf caps rd e s)
+few-step : (caps rd : List ℕ) (base top size : ℕ) (s : State) (e : Effect) → top < 2 ^ 32 → Goes e → s .status ≡ Running → base ≤ s .pc → Few base size s → Leads (s .pc) top e → Third ((s .pc - base) % bundleLength) e → Few base size (applyOf caps rd e s)
 unfolding applyOf
 few-step caps rd base top size s (Go to) b g r l f d q = let x = f .pairs r in let y = f .used r in record { log = f .log; pairs = λ _. omega (arith, d .0); used = λ _. omega (arith, d .0) }
 few-step caps rd base top size s (Put i v) b g r l f d q =
@@ -90,41 +66,39 @@ few-step caps rd base top size s (Put i v) b g r l f d q =
 few-step caps rd base top size s (Cell i v) b g r l f d q =
     let x = f .pairs r in let y = f .used r in let e = on-by-one (s .pc) top d b in record { log = f .log; pairs = λ _. omega arith; used = λ _. omega arith }
 few-step caps rd base top size s (Order v) b g r l f d q =
-    let x = one-on base (s .pairs) (s .pc) l (f .pairs r) q in let y = f .used r in let e = on-by-one (s .pc) top d b in
+    let p = order-third _ v q in let x = one-on base (s .pairs) (s .pc) l (f .pairs r) p in let y = f .used r in let e = on-by-one (s .pc) top d b in
     record { log = f .log ∙ simp length-set; pairs = λ _. omega arith; used = λ _. omega arith }
 few-step caps rd base top size s (Probe v) b g r l f d q =
-    let x = one-on base (s .pairs) (s .pc) l (f .pairs r) q in let y = one-on base (s .used) (s .pc) l (f .used r) q in let e = on-by-one (s .pc) top d b in
+    let p = probe-third _ v q in let x = one-on base (s .pairs) (s .pc) l (f .pairs r) p in let y = one-on base (s .used) (s .pc) l (f .used r) p in let e = on-by-one (s .pc) top d b in
     record { log = f .log ∙ simp length-set; pairs = λ _. omega arith; used = λ _. omega arith }
 few-step caps rd base top size s (End t) b g r l f d q = record { log = f .log; pairs = λ e. absurd (d .0 e); used = λ e. absurd (d .0 e) }
 few-step caps rd base top size s (Wait w) b g r l f d q = absurd (g w refl)
 
--- before the last bundle there is room for one more
-room-for : (base n k u pc size left : ℕ) → base + bundleLength * k ≤ pc → base + bundleLength * u ≤ pc → pc < base + bundleLength * (n - 1) → 2 * (n - 1) ≤ size → n - 1 ≤ left → (2 ≤ size - 2 * k) × (1 ≤ left - u)
-room-for base n k u pc size left a b l s r = (omega arith, omega arith)
+-- on a third command, which is before the last bundle, there is room for one more
+room-for : (base n k u pc size left : ℕ) → base ≤ pc → (pc - base) % bundleLength ≡ 2 → base + bundleLength * k ≤ pc + 1 → base + bundleLength * u ≤ pc + 1 → pc ≤ base + bundleLength * (n - 1) → 2 * (n - 1) ≤ size → n - 1 ≤ left → (2 ≤ size - 2 * k) × (1 ≤ left - u)
+room-for base n k u pc size left b p x y l s r = (omega arith, omega arith)
 
 module _ (lay : Layout) (ws : List ℕ) (n : ℕ) (is : ℕ → Instr) (room : lay .base + bundleLength * n ≤ 2 ^ 32) (bs : Bundled lay ws n is) (fw : AllForward n is) (rd : List ℕ) (size : ℕ) (ls : 2 * (n - 1) ≤ size) (lr : n - 1 ≤ length rd) where
   abbrev top : ℕ
   top = lay .base + bundleLength * (n - 1)
 
-  next-fourth : (s : State) → lay .base ≤ s .pc → s .pc ≤ top → Fourth ((s .pc - lay .base) % bundleLength) (nextOf lay ws rd s)
-  next-fourth s l u =
+  next-third : (s : State) → lay .base ≤ s .pc → s .pc ≤ top → Third ((s .pc - lay .base) % bundleLength) (nextOf lay ws rd s)
+  next-third s l u =
       let h = (s .pc - lay .base) / bundleLength in
       let p = (s .pc - lay .base) % bundleLength in
       let w = split (lay .base) n (s .pc) l u (bs .some) in
       let e : fetchOf ws (lay .base) (s .pc) ≡ shapeOf lay n (is h) p = ap (fetchOf ws (lay .base)) (w .2) ∙ bs .each h p (w .0) (w .1) in
-      rw e (fourth lay n (is h) p (seen lay rd s) (w .1))
+      rw e (third lay n (is h) p (seen lay rd s))
 
   no-wait : (s : State) → s .status ≡ Running → lay .base ≤ s .pc → s .pc ≤ top → Few (lay .base) size s → Goes (nextOf lay ws rd s)
   no-wait s r l u f =
       ⊎-elim
-      (λ (e : ltb (s .pc) top ≡ true).
+      (λ q w z. subst Still z q)
+      (λ p.
       let z = f .log in
-      let m = room-for (lay .base) n (s .pairs) (s .used) (s .pc) size (length rd) (f .pairs r) (f .used r) (ltb-true _ _ e) ls lr in
+      let m = room-for (lay .base) n (s .pairs) (s .used) (s .pc) size (length rd) l p (f .pairs r) (f .used r) u ls lr in
       goes (fetchOf ws (lay .base) (s .pc)) (seen lay rd s) (omega (arith, m .0)) (m .1))
-      (λ (e : ltb (s .pc) top ≡ false).
-      let q = next-last lay ws n is room bs fw rd s (omega (arith, ltb-false (s .pc) top e)) in
-      λ w z. no (cc))
-      (cases (ltb (s .pc) top))
+      (next-third s l u)
 
   never-pauses : (j k : ℕ) (s : State) → Ahead (lay .base) n k (s .pc) (s .status) → Few (lay .base) size s → pauses (runFrom lay ws rd j k s .outcome .answer .ending) ≡ false
   unfolding runFrom
@@ -140,7 +114,7 @@ module _ (lay : Layout) (ws : List ℕ) (n : ℕ) (is : ℕ → Instr) (room : l
       let d = next-leads lay ws n is room bs fw rd s l (o .1) in
       never-pauses j (k + 1) (stepOf lay ws rd s)
       (ahead-step (lay .ceilings) rd (lay .base) n k s (nextOf lay ws rd s) below g r (o .0) (o .1) d)
-      (few-step (lay .ceilings) rd (lay .base) top size s (nextOf lay ws rd s) below g r l f d (next-fourth s l (o .1))))
+      (few-step (lay .ceilings) rd (lay .base) top size s (nextOf lay ws rd s) below g r l f d (next-third s l (o .1))))
 
 -- ---- a further run of a list
 module _ (lay : Layout) (ws : List ℕ) where

@@ -83,5 +83,5 @@ pub record Reaches : Type 0 where
   pub served : Served layout policy commands memory runs
   pub resumed : Every (Resumed layout) runs
   pub paid : mostSteps 4 ≤ paidIn (allRuns layout policy commands memory runs)
-  pub answers : map (λ (r : Run). r .ran .outcome .answer) (allRuns layout policy commands memory runs) ≡ runAnswer LogFull 7 1 0 ∷ runAnswer Done 6 1 0 ∷ []
+  pub answers : map (λ (r : Run). r .ran .outcome .answer) (allRuns layout policy commands memory runs) ≡ runAnswer LogFull 6 1 0 ∷ runAnswer Done 7 1 0 ∷ []
   pub reached : stepsIn (allRuns layout policy commands memory runs) ≡ mostSteps 4
