@@ -11,7 +11,7 @@ gcc -O2 -Wall -Wextra -Iinclude bench/main.c target/bench/machine_O2.o target/be
 for o in O2 O3; do gcc -$o -DRUN=engine_$o -c bench/engine.c -o target/bench/engine_$o.o; done
 rustc -O -C panic=abort bench/engine.rs -o target/bench/libengine_rust.a
 gcc -O2 -Wall -Wextra -Iinclude bench/engines.c target/bench/engine_O2.o target/bench/engine_O3.o target/bench/libengine_rust.a \
-    target/staticlib/libcapi_engine.a target/staticlib/libcapi.a -o target/bench/engines
+    target/staticlib/libcapi_engine.a target/staticlib/libcapi.a -lpthread -ldl -lm -o target/bench/engines
 target/bench/bench "$@"
 target/bench/engines "$@"
 if command -v lua5.4 > /dev/null; then lua5.4 bench/turn.lua; fi

@@ -9,21 +9,24 @@ ghost use mathlib.Core.List.{[], _∷_};
 ghost use Prim.Native.Nat.{_<_, _^_};
 ghost use Rattle.capi_engine.specs.Records.{engineFrom, engineTo, runFor, recordAfter as recordAfterOf, answerTo};
 
+// The numbers of a record: registers, index and status.
+const RECORD: usize = Engine::REGISTERS + 2;
+
 // A record's engine.
-fn engine_of(xs: [u32; 10]) -> Engine
+fn engine_of(xs: [u32; RECORD]) -> Engine
     ensures { λ r. ⌜ r ≡ engineFrom xs ⌝ }
 {
     let regs = [xs[0], xs[1], xs[2], xs[3], xs[4], xs[5], xs[6], xs[7]];
-    let status = status_of(xs[9]);
+    let status = status_of(xs[Engine::REGISTERS + 1]);
     Engine {
         regs,
-        at: xs[8],
+        at: xs[Engine::REGISTERS],
         status,
     }
 }
 
 // An engine's record.
-fn record_of(m: Engine) -> [u32; 10]
+fn record_of(m: Engine) -> [u32; RECORD]
     ensures { λ r. ⌜ r ≡ engineTo m ⌝ }
 {
     let r = m.regs;
@@ -33,10 +36,10 @@ fn record_of(m: Engine) -> [u32; 10]
 }
 
 // The record after a run. One that is not running keeps its numbers: so a status that stands for none comes back as it was.
-fn record_after(m: Engine, xs: [u32; 10]) -> [u32; 10]
+fn record_after(m: Engine, xs: [u32; RECORD]) -> [u32; RECORD]
     ensures { λ r. ⌜ r ≡ recordAfterOf xs m ⌝ }
 {
-    let status = xs[9];
+    let status = xs[Engine::REGISTERS + 1];
     if status == 0 {
         return record_of(m);
     }
@@ -61,7 +64,7 @@ fn answer_of(a: Answer, steps: u32, pairs: usize, used: usize) -> [u32; 5]
 pub extern "C" fn hemdroas_engine(
     layout: &[u32; 16],
     words: &[u64],
-    engine: &mut [u32; 10],
+    engine: &mut [u32; RECORD],
     memory: &mut [u32],
     budget: u32,
     readings: &[u32],

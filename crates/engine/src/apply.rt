@@ -9,17 +9,15 @@ ghost use Prim.Native.Nat.{_+_, _<_, _^_};
 ghost use lib.ListN.{length, getD, set};
 ghost use Rattle.rules.specs.Names.{guestRegisters};
 ghost use Rattle.rules.specs.Machines.{onward as onwardOf, withPair};
-ghost use Rattle.engine_rules.specs.Engines.{entryAt, effectOn};
+ghost use Rattle.engine_rules.specs.Engines.{Puts, entryAt, effectOn};
 ghost use Rattle.engine.specs.Points.{pointOf, stateAt};
 
-// A register set; nothing where there is none of that number.
-fn put(regs: &mut [u32; 8], i: usize, x: u32)
-    requires { ⌜ length (now regs) ≡ guestRegisters ⌝ }
+// A register set.
+fn put(regs: &mut [u32; Engine::REGISTERS], i: usize, x: u32)
+    requires { ⌜ (i < guestRegisters) × (length (now regs) ≡ guestRegisters) ⌝ }
     ensures { λ _. ⌜ now (regs .exit) ≡ set (now (regs .entry)) i x ⌝ }
 {
-    if i < Engine::REGISTERS {
-        regs[i] = x;
-    }
+    regs[i] = x;
 }
 
 // The state cell moves with event v.
@@ -72,7 +70,7 @@ fn probed(mut at: Point) -> Point
 }
 
 // A reading into register 0 and the log.
-fn probe(v: u32, regs: &mut [u32; 8], at: Point, readings: &[u32], log: &mut [u32])
+fn probe(v: u32, regs: &mut [u32; Engine::REGISTERS], at: Point, readings: &[u32], log: &mut [u32])
     requires { ⌜ (at .pairs < 2 ^ 62) × (length (now regs) ≡ guestRegisters) ⌝ }
     ensures { λ _. ⌜ (now (regs .exit) ≡ set (now (regs .entry)) 0 (getD (now (readings .entry)) (at .used) 0)) × (now (log .exit) ≡ withPair (now (log .entry)) (at .pairs) v (getD (now (readings .entry)) (at .used) 0)) ⌝ }
 {
@@ -81,17 +79,17 @@ fn probe(v: u32, regs: &mut [u32; 8], at: Point, readings: &[u32], log: &mut [u3
     cells::pairs::put(log, at.pairs, v, x);
 }
 
-// The state after an effect.
+// The state after an effect. Words that were judged set no register that there is not, so none is tested here.
 pub fn apply(
     e: Effect,
     layout: Layout,
-    regs: &mut [u32; 8],
+    regs: &mut [u32; Engine::REGISTERS],
     at: Point,
     memory: &mut [u32],
     readings: &[u32],
     log: &mut [u32],
 ) -> Point
-    requires { ⌜ (at .pairs < 2 ^ 62) × (at .used < 2 ^ 63) × (length (now regs) ≡ guestRegisters) ⌝ }
+    requires { ⌜ Puts e × (at .pairs < 2 ^ 62) × (at .used < 2 ^ 63) × (length (now regs) ≡ guestRegisters) ⌝ }
     ensures { λ r. ⌜ stateAt (now (regs .exit)) r (now (memory .exit)) (now (log .exit)) ≡ effectOn layout (now (readings .entry)) e (stateAt (now (regs .entry)) at (now (memory .entry)) (now (log .entry))) ⌝ }
 {
     let next = onward(at);

@@ -57,7 +57,7 @@ fn number_of(ending: Ending) -> u8
     }
 }
 
-fn finish(regs: [u32; 8], at: Point, ending: Ending, steps: u32) -> EngineOutcome
+fn finish(regs: [u32; Engine::REGISTERS], at: Point, ending: Ending, steps: u32) -> EngineOutcome
     ensures { λ r. ⌜ r ≡ outcomeOf (engineOf regs (at .at) (at .status)) (endAnswer ending) steps (at .pairs) (at .used) ⌝ }
 {
     let status = at.status;
@@ -76,7 +76,7 @@ fn finish(regs: [u32; 8], at: Point, ending: Ending, steps: u32) -> EngineOutcom
 }
 
 // A run that no pause ended.
-fn over(regs: [u32; 8], at: Point, steps: u32) -> EngineOutcome
+fn over(regs: [u32; Engine::REGISTERS], at: Point, steps: u32) -> EngineOutcome
     ensures { λ r. ⌜ r ≡ outcomeOf (engineOf regs (at .at) (at .status)) (endAnswer (endingOf (at .status))) steps (at .pairs) (at .used) ⌝ }
 {
     let status = at.status;
@@ -91,7 +91,7 @@ fn next(
     layout: Layout,
     words: &[u64],
     top: u32,
-    regs: &[u32; 8],
+    regs: &[u32; Engine::REGISTERS],
     at: Point,
     memory: &[u32],
     readings: &[u32],

@@ -1,4 +1,5 @@
 // What the instruction at the index would do: a pure decision.
+use engine_rules::Engine;
 use rules::Effect;
 use rules::Layout;
 use rules::Policy;
@@ -29,7 +30,7 @@ pub fn entry(layout: Layout, v: u32, memory: &[u32]) -> usize
 fn send(
     layout: Layout,
     v: u32,
-    regs: &[u32; 8],
+    regs: &[u32; Engine::REGISTERS],
     at: u32,
     memory: &[u32],
     free: usize,
@@ -104,7 +105,7 @@ fn act(
     w: u64,
     n: usize,
     top: u32,
-    regs: &[u32; 8],
+    regs: &[u32; Engine::REGISTERS],
     at: u32,
     memory: &[u32],
     free: usize,
@@ -146,7 +147,7 @@ pub fn next_effect(
     layout: Layout,
     words: &[u64],
     top: u32,
-    regs: &[u32; 8],
+    regs: &[u32; Engine::REGISTERS],
     at: u32,
     memory: &[u32],
     free: usize,
