@@ -1,5 +1,5 @@
 -- What the two checks answer, law by law: which refusal comes first, and the lowest place.
-use mathlib.Core.Path.{_≡_, _∙_, ap}
+use mathlib.Core.Path.{_≡_, ap}
 use mathlib.Core.Bool.{Bool, true, false, cond}
 use mathlib.Core.List.{List}
 use Prim.Native.Nat.{ℕ, suc, _+_, _/_, _<_, _≤_}
@@ -36,9 +36,6 @@ module _ (ws : List ℕ) where
   abbrev pub judged : Answer
   judged = firstRefused (judgeAt (length ws)) ws 0 (answer (numberOf Taken) 0)
 
-  abbrev among : Bool → Answer
-  among t = cond t (refusal Oversize 0) (orElse judged (forwardFrom (routine ws) 0 (length ws)))
-
   pub words-long : mostInstructions < length ws → forwardAnswer ws ≡ refusal Oversize 0
   unfolding forwardAnswer
   words-long l = rw (lt-ltb mostInstructions (length ws) l)
@@ -46,11 +43,11 @@ module _ (ws : List ℕ) where
   module _ (l : length ws ≤ mostInstructions) where
     pub words-refused : (judged .number ≡ 0 → ⊥) → forwardAnswer ws ≡ judged
     unfolding forwardAnswer
-    words-refused f = ap among (le-ltb mostInstructions (length ws) l) ∙ or-first judged _ f
+    words-refused f = rw (le-ltb mostInstructions (length ws) l) (or-first judged _ f)
 
     pub words-taken : judged .number ≡ 0 → forwardAnswer ws ≡ forwardFrom (routine ws) 0 (length ws)
     unfolding forwardAnswer
-    words-taken z = ap among (le-ltb mostInstructions (length ws) l) ∙ or-second judged _ z
+    words-taken z = rw (le-ltb mostInstructions (length ws) l) (or-second judged _ z)
 
 -- ---- command lists: the checker's refusals, the class
 module _ (lay : Layout) (ws : List ℕ) where
