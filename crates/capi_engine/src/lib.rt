@@ -10,6 +10,10 @@ ghost use Prim.Native.Nat.{_<_, _^_};
 ghost use Rattle.capi_engine.specs.Records.{engineFrom, engineTo, runFor, recordAfter as recordAfterOf, answerTo};
 
 // The numbers of a record: registers, index and status.
+const INDEX: usize = Engine::REGISTERS;
+
+const STATUS: usize = Engine::REGISTERS + 1;
+
 const RECORD: usize = Engine::REGISTERS + 2;
 
 // A record's engine.
@@ -17,10 +21,10 @@ fn engine_of(xs: [u32; RECORD]) -> Engine
     ensures { λ r. ⌜ r ≡ engineFrom xs ⌝ }
 {
     let regs = [xs[0], xs[1], xs[2], xs[3], xs[4], xs[5], xs[6], xs[7]];
-    let status = status_of(xs[Engine::REGISTERS + 1]);
+    let status = status_of(xs[STATUS]);
     Engine {
         regs,
-        at: xs[Engine::REGISTERS],
+        at: xs[INDEX],
         status,
     }
 }
@@ -39,7 +43,7 @@ fn record_of(m: Engine) -> [u32; RECORD]
 fn record_after(m: Engine, xs: [u32; RECORD]) -> [u32; RECORD]
     ensures { λ r. ⌜ r ≡ recordAfterOf xs m ⌝ }
 {
-    let status = xs[Engine::REGISTERS + 1];
+    let status = xs[STATUS];
     if status == 0 {
         return record_of(m);
     }
