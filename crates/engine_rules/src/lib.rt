@@ -4,7 +4,7 @@ use rules::Status;
 ghost use mathlib.Core.Path.{_≡_};
 ghost use Rattle.engine_rules.specs.Engines.{engineFirst};
 
-// The engine's record: r0 to r7, the index of the next instruction, the status.
+// The engine's record: the guest's registers, the index of the next instruction, the status.
 pub struct Engine {
     pub regs: [u32; Engine::REGISTERS],
     pub at: u32,
@@ -12,7 +12,7 @@ pub struct Engine {
 }
 
 impl Engine {
-    pub const REGISTERS: usize = 8;
+    pub const REGISTERS: usize = 15;
 
     // The record at first: zeros and running.
     pub fn new() -> Engine
