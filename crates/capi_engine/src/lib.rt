@@ -20,7 +20,23 @@ const RECORD: usize = Engine::REGISTERS + 2;
 fn engine_of(xs: [u32; RECORD]) -> Engine
     ensures { λ r. ⌜ r ≡ engineFrom xs ⌝ }
 {
-    let regs = [xs[0], xs[1], xs[2], xs[3], xs[4], xs[5], xs[6], xs[7]];
+    let regs = [
+        xs[0],
+        xs[1],
+        xs[2],
+        xs[3],
+        xs[4],
+        xs[5],
+        xs[6],
+        xs[7],
+        xs[8],
+        xs[9],
+        xs[10],
+        xs[11],
+        xs[12],
+        xs[13],
+        xs[14],
+    ];
     let status = status_of(xs[STATUS]);
     Engine {
         regs,
@@ -36,7 +52,25 @@ fn record_of(m: Engine) -> [u32; RECORD]
     let r = m.regs;
     let t = m.status;
     let status = status_number(t);
-    [r[0], r[1], r[2], r[3], r[4], r[5], r[6], r[7], m.at, status]
+    [
+        r[0],
+        r[1],
+        r[2],
+        r[3],
+        r[4],
+        r[5],
+        r[6],
+        r[7],
+        r[8],
+        r[9],
+        r[10],
+        r[11],
+        r[12],
+        r[13],
+        r[14],
+        m.at,
+        status,
+    ]
 }
 
 // The record after a run. One that is not running keeps its numbers: so a status that stands for none comes back as it was.

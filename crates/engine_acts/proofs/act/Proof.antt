@@ -1,5 +1,5 @@
 use Rattle.words.proofs.Laws.{past}
-use Rattle.engine_acts.proofs.Acting.{arm, word-bounds, shift-in}
+use Rattle.engine_acts.proofs.Acting.{arm, word-bounds}
 use Rattle.engine_rules.specs.Engines.{actOf}
 use Rattle.rules.specs.Words.{kindOf, judgeAt}
 use Rattle.rules.specs.Commands.{plainOf}
@@ -28,7 +28,7 @@ act-spec =
     (λ c κs. search needs)
     (λ c κs. search needs)
     (λ c κs. search needs)
-    (λ c κs. shift-in _ _ (ok (c .before)) (c .match .keys8))
+    (λ c κs. search needs)
     (λ c κs. search needs)
     (λ c. search needs)
     (λ c κs. search needs)
