@@ -1,12 +1,12 @@
 -- From what checking, installing and rewriting answer to the facts of Facts.antt.
-use mathlib.Core.Path.{_≡_, refl, _∙_, ap}
-use mathlib.Core.Bool.{Bool, true, _||_, not, cond}
+use mathlib.Core.Path.{_≡_, refl, sym, _∙_, ap}
+use mathlib.Core.Bool.{Bool, true, false, _&&_, _||_, not, cond}
 use mathlib.Core.Logic.{_⊎_, inl, inr, ⊎-elim}
 use mathlib.Core.List.{List, [], _∷_}
 use Prim.Native.Nat.{ℕ, zero, suc, _+_, _-_, _*_, _/_, _%_, _<_, _≤_}
 use native.Mathlib.Omega.{arith}
-use borrow.Author.Tests.{ltb-true, ltb-false, leb-true, eqb-true, eqb-false, lt-ltb, le-leb, eq-eqb}
-use lib.Dec.{eqb, ltb}
+use borrow.Author.Tests.{ltb-true, ltb-false, leb-true, leb-false, eqb-true, eqb-false, lt-ltb, le-leb, eq-eqb}
+use lib.Dec.{eqb, leb, ltb}
 use lib.Count.{ones}
 use lib.ListN.{length, getD, set, length-set, List·getD-eq-default}
 use lib.Seq.{sets, length-sets, getD-set-same, getD-set-other}
@@ -15,16 +15,16 @@ use Rattle.rules.specs.declared.Answer.{Answer}
 use Rattle.rules.specs.declared.Instr.{Instr}
 use Rattle.rules.specs.declared.Instr.the-variants.{HALT, PLAIN, LOAD, STORE, GOIF, GOX, EVENT}
 use Rattle.rules.specs.Names.{mostInstructions, mostBundles, mostCommands, bundleLength, events, noArrow}
-use Rattle.rules.specs.Layouts.{rightLayout, tableEnd, landingsEnd}
+use Rattle.rules.specs.Layouts.{rightLayout, inTable, inLandings, protected, tableEnd, landingsEnd}
 use Rattle.rules.specs.Policies.{Policy, entryRight, entriesRight, rightPolicy}
 use Rattle.rules.specs.Landings.{rightLandings, landingsOf}
 use Rattle.rules.specs.Words.{kindOf, judgeAt, instrOf, routine, bundlesFor}
 use Rattle.rules.specs.Commands.{commandOf, wordOf, fetchOf}
 use Rattle.rules.specs.Bundles.{shapeOf, bundlesFrom, commandsOf, commandCount, baseRight, placeAnswer, rewriteAnswer, valid, readOff, bundleAt, isBundle, shapedAt, passesAt, checkFrom, countRight, checkAnswer}
-use Rattle.rules.specs.Claims.{SizeLaws}
+use Rattle.rules.specs.Claims.{SizeLaws, Installs}
 use Rattle.rules.specs.Machines.{machineAt, fits, installAnswer, installMemory, installMachine}
 use Rattle.rules.proofs.Facts.{Right, Valid, Bundled, Laid}
-use Rattle.rules.proofs.Bools.{no, cases, both, either, cond-ind, unless-ind}
+use Rattle.rules.proofs.Bools.{no, cases, both, join, either, cond-ind, unless-ind}
 use Rattle.rules.proofs.Refusals.{TakesEach, takes-each, taken-then}
 use Rattle.rules.proofs.Layouts.{LayoutFacts, layout-facts, outside}
 use Rattle.rules.proofs.Landings.{length-landings, marks-of}
@@ -283,6 +283,45 @@ laid-of lay pol mem e =
           ∙ sets-at (pol .table) start (lay .table) i noArrow (omega (arith, p .size, p .states, f .table)) (omega (arith, p .size, p .states));
       marks = marks-of (sets mid (lay .landings) marks) (pol .landings) (lay .landings) (λ k h. sets-at marks mid (lay .landings) k 0 (omega (arith, wide, same, f .landings)) (omega (arith, wide)));
     })
+
+-- an unprotected cell is none that installing writes
+unprotected : (lay : Layout) (i : ℕ) → protected lay i ≡ false → (i ≡ lay .cell → ⊥) × ((i < lay .table) ⊎ (tableEnd lay ≤ i)) × ((i < lay .landings) ⊎ (landingsEnd lay ≤ i))
+unfolding protected inTable inLandings
+unprotected lay i p =
+    let a = neither _ _ p in
+    let b = neither _ _ (a .1) in
+    (eqb-false i (lay .cell) (a .0), outside-of (lay .table) i (tableEnd lay) (b .0), outside-of (lay .landings) i (landingsEnd lay) (b .1))
+  where
+    neither : (a b : Bool) → (a || b) ≡ false → (a ≡ false) × (b ≡ false)
+    neither true b h = (h, no (sym h))
+    neither false b h = (refl, h)
+
+    outside-of : (low i high : ℕ) → (leb low i && ltb i high) ≡ false → (i < low) ⊎ (high ≤ i)
+    outside-of low i high h =
+        ⊎-elim (λ e. ⊎-elim (λ f. absurd (no (sym h ∙ join _ _ e f))) (λ f. inr (ltb-false i high f)) (cases (ltb i high))) (λ e. inl (leb-false low i e)) (cases (leb low i))
+
+pub install-rest : (lay : Layout) (pol : Policy) (mem : List ℕ) → installAnswer lay pol mem .number ≡ 0 → (i : ℕ) → protected lay i ≡ false → getD (installMemory lay pol mem) i 0 ≡ getD mem i 0
+unfolding installMemory
+install-rest lay pol mem e i h =
+    let o = fits-of lay pol mem e in
+    let p = policy-facts lay pol (o .1) in
+    let u = unprotected lay i h in
+    let wide = length-landings (pol .landings) in
+    rw (eq-eqb _ _ e)
+    (sets-beside (landingsOf (pol .landings)) _ (lay .landings) i (⊎-elim (λ x. inl x) (λ x. inr (omega (arith, wide))) (u .2))
+    ∙ sets-beside (pol .table) _ (lay .table) i (⊎-elim (λ x. inl x) (λ x. inr (omega (arith, p .size, p .states))) (u .1))
+    ∙ getD-set-other mem (lay .cell) i (pol .start) 0 (u .0))
+
+pub installs : Installs
+installs lay pol mem e =
+    let l = laid-of lay pol mem e in
+    record {
+      size = l .size ∙ sym (eqb-true _ _ (both (rightLayout lay) _ (fits-of lay pol mem e .0) .1));
+      cell = l .cell;
+      table = l .table;
+      landings = l .marks;
+      rest = install-rest lay pol mem e;
+    }
 
 -- ---- a right layout with a right policy
 

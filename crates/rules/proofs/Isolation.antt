@@ -1,13 +1,17 @@
 -- The claims over lists of runs, from what the parts answered: guest rule, pc, isolation.
 use mathlib.Core.Path.{_≡_, refl, sym, _∙_, ap, subst}
+use mathlib.Core.Bool.{true, false, _||_}
+use mathlib.Core.Logic.{⊎-elim}
 use mathlib.Core.List.{List, []}
-use Prim.Native.Nat.{ℕ, _+_, _*_, _/_, _^_, _<_, _≤_}
+use Prim.Native.Nat.{ℕ, _+_, _-_, _*_, _/_, _^_, _<_, _≤_}
 use native.Mathlib.Omega.{arith}
 use lib.ListN.{length}
+use borrow.Author.Tests.{ltb-true, leb-true, eqb-true}
 use Rattle.rules.specs.declared.Layout.{Layout}
 use Rattle.rules.specs.declared.Instr.{Instr}
 use Rattle.rules.specs.declared.Machine.{Machine}
 use Rattle.rules.specs.Names.{mostBundles, bundleLength}
+use Rattle.rules.specs.Layouts.{inBox, inTable, inLandings, protected, tableEnd, landingsEnd}
 use Rattle.rules.specs.Policies.{Policy, allowed}
 use Rattle.rules.specs.Words.{routine, bundlesFor}
 use Rattle.rules.specs.Bundles.{commandsOf, bundleAt}
@@ -15,10 +19,11 @@ use Rattle.rules.specs.Machines.{onward, installAnswer, installMemory}
 use Rattle.rules.specs.Guests.{Pair, guestStart}
 use Rattle.rules.specs.Runs.{Given, eventsOf, carriedOf, atFirst, afterRun, after, Served}
 use Rattle.rules.specs.Claims.{givenFor, GuestRule, NoWrap, Isolation}
+use Rattle.rules.proofs.Bools.{both, either}
 use Rattle.rules.proofs.Facts.{Right, Bundled}
 use Rattle.rules.proofs.Conditions.{passed-of, bundled-of, right-of, laid-of, machine-of, bundled-routine, right-routine}
 use Rattle.rules.proofs.Sim.{Stays}
-use Rattle.rules.proofs.Track.{recorded, stays-run, stays-runs, install, agrees-after, pc-in, allowed-runs, sound-runs, kept-runs}
+use Rattle.rules.proofs.Track.{recorded, stays-run, stays-runs, install, agrees-after, pc-in, allowed-runs, sound-runs, kept-runs, lasts}
 use Rattle.rules.proofs.Twins.{alone}
 
 -- the guest tracks an installation that answered 0
@@ -64,6 +69,27 @@ no-wrap lay pol ws mem gs v =
           no-turn (lay .base) n (c .machine .pc) _ (p .most) (ok .room) (i .1) (pc-in lay pol ws n is ok bs g0 (afterRun lay ws c (givenFor g 1)) (stays-run lay pol ws n is ok bs g0 c (givenFor g 1) _ refl lent w) .0) e;
     }
 
+-- a protected cell other than the state cell lies outside the sandbox
+protected-out : (lay : Layout) (pol : Policy) (n i : ℕ) → Right lay pol n → protected lay i ≡ true → (i ≡ lay .cell → ⊥) → inBox lay i ≡ false
+unfolding protected inTable inLandings
+protected-out lay pol n i ok p ne =
+    ⊎-elim (λ e. absurd (ne (eqb-true i (lay .cell) e)))
+    (λ q. ⊎-elim
+    (λ e.
+    let b = both _ _ e in
+    let low : lay .table ≤ i = leb-true _ _ (b .0) in
+    let high : i < tableEnd lay = ltb-true _ _ (b .1) in
+    let z : lay .table + (i - lay .table) ≡ i = omega arith in
+    rw z at (ok .table-out (i - lay .table) (omega arith)))
+    (λ e.
+    let b = both _ _ e in
+    let low : lay .landings ≤ i = leb-true _ _ (b .0) in
+    let high : i < landingsEnd lay = ltb-true _ _ (b .1) in
+    let z : lay .landings + (i - lay .landings) ≡ i = omega arith in
+    rw z at (ok .landings-out (i - lay .landings) (omega arith)))
+    (either _ _ q))
+    (either _ _ p)
+
 pub isolation : Isolation
 isolation lay pol ws mem gs v =
     let n = length ws / bundleLength in
@@ -75,6 +101,7 @@ isolation lay pol ws mem gs v =
     record {
       sound = sound-runs lay pol ws n is ok bs g0 (atFirst lay pol mem) gs (v .lends) w;
       kept = kept-runs lay pol ws n is ok bs g0 (atFirst lay pol mem) gs (v .lends) w;
+      lasting = λ i p ne. lasts lay pol ws n is ok bs g0 (atFirst lay pol mem) gs (v .lends) w i (protected-out lay pol n i ok p ne) ne p;
       allowed =
           ap (λ (ps : List Pair). allowed pol (eventsOf ps)) (sym (recorded lay ws (atFirst lay pol mem) gs))
           ∙ allowed-runs lay pol ws n is ok bs g0 (after lay pol ws mem gs) (stays lay pol ws mem gs n is ok bs v);

@@ -23,3 +23,4 @@ pub mod Moments
 pub mod Counts
 pub mod Samples
 pub mod Trial
+pub mod Proved

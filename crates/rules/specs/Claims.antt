@@ -17,15 +17,15 @@ use Rattle.rules.specs.declared.Status.the-variants.{Running, Ended, Sto
 use Rattle.rules.specs.declared.Ending.{Ending}
 use Rattle.rules.specs.declared.Ending.the-variants.{Done, NoArrow, Fault, LogFull, Silent, Spent, NoLanding, Refused}
 use Rattle.rules.specs.declared.Refusal.the-variants.{BadLayout, BadBundle, BadCount, BadBase}
-use Rattle.rules.specs.Names.{mostInstructions, mostBundles, bundleLength, bundleShift, landingCells, cellBits, guestRegisters, hidden, numberOf, answer, endingNumber}
-use Rattle.rules.specs.Layouts.{span, rightLayout, widthOf, maskOf, inBox}
+use Rattle.rules.specs.Names.{events, noArrow, mostInstructions, mostBundles, bundleLength, bundleShift, landingCells, cellBits, guestRegisters, hidden, numberOf, answer, endingNumber}
+use Rattle.rules.specs.Layouts.{span, rightLayout, widthOf, maskOf, inBox, protected}
 use Rattle.rules.specs.Policies.{Policy, allowed, stateOver}
-use Rattle.rules.specs.Landings.{listed, landingsOf, bitAt}
+use Rattle.rules.specs.Landings.{listed, landingsOf, bitAt, marked}
 use Rattle.rules.specs.Words.{routine, bundlesFor}
 use Rattle.rules.specs.Bytes.{readAnswer, readOutput, writeAnswer, writeOutput}
 use Rattle.rules.specs.Commands.{wordOf, shlOf, fetchOf}
 use Rattle.rules.specs.Bundles.{addressOf, lastAddress, positionOf, shapeWith, shapeOf, valid, bundleAt, baseRight, countRight, commandsOf, rewriteAnswer, rewriteOutput, checkAnswer}
-use Rattle.rules.specs.Machines.{State, onward, leftIn, runFrom, runOf, installMemory}
+use Rattle.rules.specs.Machines.{State, onward, leftIn, runFrom, runOf, installAnswer, installMemory}
 use Rattle.rules.specs.Guests.{Guest, guestAfter, guestStart, boxOf}
 use Rattle.rules.specs.Runs.{begunFrom, Given, Carried, afterRun, allRuns, after, Run, recordedIn, Matches, Lent, Served, pairsOf, eventsOf, waitingAt, pendingAt}
 
@@ -45,6 +45,17 @@ Masks = (lay : Layout) → rightLayout lay ≡ true → MaskLaws lay
 -- 'instruction 32k + j in bit j of cell Q + k': exactly those bits of the 32 cells are set
 abbrev pub Landings : Type 0
 Landings = (ls : List ℕ) (k j : ℕ) → k < landingCells → j < cellBits → bitAt (getD (landingsOf ls) k 0) j ≡ listed ls (cellBits * k + j)
+
+-- 'Installing writes the start state to M and the table to its cells', the landings' bits to theirs, 'nothing else'
+pub record InstallLaws (lay : Layout) (pol : Policy) (mem : List ℕ) : Type 0 where
+  pub size : length (installMemory lay pol mem) ≡ length mem
+  pub cell : getD (installMemory lay pol mem) (lay .cell) 0 ≡ pol .start
+  pub table : (i : ℕ) → i < events * lay .states → getD (installMemory lay pol mem) (lay .table + i) 0 ≡ getD (pol .table) i noArrow
+  pub landings : (j : ℕ) → j < mostBundles → marked (installMemory lay pol mem) (lay .landings) j ≡ listed (pol .landings) j
+  pub rest : (i : ℕ) → protected lay i ≡ false → getD (installMemory lay pol mem) i 0 ≡ getD mem i 0
+
+abbrev pub Installs : Type 0
+Installs = (lay : Layout) (pol : Policy) (mem : List ℕ) → installAnswer lay pol mem .number ≡ 0 → InstallLaws lay pol mem
 
 -- 'N is the smallest power of two greater than n', and at most 1,024
 pub record SizeLaws (n : ℕ) : Type 0 where
@@ -282,12 +293,13 @@ Each R (x ∷ xs) (y ∷ ys) = R x y × Each R xs ys
 abbrev pub Sound : Run → Type 0
 Sound r = endingNumber (r .ran .outcome .answer .ending) ≡ 22 → ⊥
 
--- a run leaves its memory's length and every cell outside the sandbox but the state cell as it found them;
--- beyond the counted pairs a log is as it was found
+-- a run leaves its memory's length and every cell outside the sandbox but the state cell as it found them; the pairs that it counts
+-- are in its log, the readings among those it was given; beyond the counted pairs a log is as it was found
 pub record Kept (lay : Layout) (r : Run) : Type 0 where
   pub size : length (r .ran .mem) ≡ length (r .given .memory)
   pub cells : (i : ℕ) → inBox lay i ≡ false → (i ≡ lay .cell → ⊥) → getD (r .ran .mem) i 0 ≡ getD (r .given .memory) i 0
   pub counted : 2 * r .ran .outcome .answer .pairs ≤ length (r .ran .log)
+  pub drawn : r .ran .outcome .answer .used ≤ length (r .given .readings)
   pub logSize : length (r .ran .log) ≡ length (r .given .log)
   pub logRest : (i : ℕ) → 2 * r .ran .outcome .answer .pairs ≤ i → getD (r .ran .log) i 0 ≡ getD (r .given .log) i 0
 
@@ -306,13 +318,15 @@ pub record Same (lay : Layout) (r r′ : Run) : Type 0 where
   pub box : (i : ℕ) → inBox lay i ≡ true → getD (r .memory) i 0 ≡ getD (r′ .memory) i 0
 
 -- what holds of a whole list of runs:
--- (a) no run faults; (b) each leaves every cell outside the sandbox but the state cell as it found it, and its log beyond the counted pairs;
+-- (a) no run faults; (b) each leaves every cell outside the sandbox but the state cell as it found it, and its log beyond the counted pairs,
+--     so that in the end table and landing cells are as installing left them;
 -- (c) the events of all counted pairs, log after log, are a list that the policy allows;
 -- (d) a second list, from an installation alike in sandbox and protected cells, its runs given alike, does the same run by run:
 --     free memory and what logs held before have no influence
 pub record Isolated (lay : Layout) (pol : Policy) (ws mem : List ℕ) (gs : List Given) : Type 0 where
   pub sound : Every Sound (allRuns lay pol ws mem gs)
   pub kept : Every (Kept lay) (allRuns lay pol ws mem gs)
+  pub lasting : (i : ℕ) → protected lay i ≡ true → (i ≡ lay .cell → ⊥) → getD (after lay pol ws mem gs .memory) i 0 ≡ getD (installMemory lay pol mem) i 0
   pub allowed : allowed pol (eventsOf (recordedIn (allRuns lay pol ws mem gs))) ≡ true
   pub alone :
       (pol′ : Policy) (mem′ : List ℕ) (gs′ : List Given) → Served lay pol′ ws mem′ gs′ →

@@ -14,3 +14,4 @@ pub mod Claims
 pub mod Loading
 pub mod Tray
 pub mod Sample
+pub mod Proved

@@ -1,0 +1,44 @@
+-- Every claim of this crate is proved.
+use Rattle.rules.specs.Proved.{Proved}
+use Rattle.rules.proofs.Landings.{landings}
+use Rattle.rules.proofs.Masks.{masks, sizes}
+use Rattle.rules.proofs.RoundTrip.{words-back, bytes-back}
+use Rattle.rules.proofs.Conditions.{installs}
+use Rattle.rules.proofs.Passing.{rewrite-leaves, rewritten-passes, passed-rewrites, old-refused, passed-decodes}
+use Rattle.rules.proofs.Before.{lists-before}
+use Rattle.rules.proofs.Endings.{endings}
+use Rattle.rules.proofs.Isolation.{guest-rule, isolation, no-wrap}
+use Rattle.rules.proofs.Progress.{progress}
+use Rattle.rules.proofs.Pauses.{state-cell, paused-waits, pause-rule}
+use Rattle.rules.proofs.Moments.{splits, cuts}
+use Rattle.rules.proofs.Samples.{tray-holds}
+use Rattle.rules.proofs.Trial.{sample-holds}
+
+pub proved : Proved
+proved =
+    record {
+      masks = masks;
+      landings = landings;
+      installs = installs;
+      sizes = sizes;
+      wordsBack = words-back;
+      bytesBack = bytes-back;
+      rewriteLeaves = rewrite-leaves;
+      rewrittenPasses = rewritten-passes;
+      passedRewrites = passed-rewrites;
+      oldRefused = old-refused;
+      passedDecodes = passed-decodes;
+      listsBefore = lists-before;
+      endings = endings;
+      splits = splits;
+      cuts = cuts;
+      guestRule = guest-rule;
+      progress = progress;
+      isolation = isolation;
+      noWrap = no-wrap;
+      stateCell = state-cell;
+      pausedWaits = paused-waits;
+      pauseRule = pause-rule;
+      trayHolds = tray-holds;
+      sampleHolds = sample-holds;
+    }

@@ -1,0 +1,30 @@
+-- Every claim of this crate, a field each: its one term is `proved`, in proofs/Proved.antt.
+use Rattle.rules.specs.Claims.{Masks, Landings, Installs, Sizes, WordsBack, BytesBack, RewriteLeaves, RewrittenPasses, PassedRewrites, OldRefused, PassedDecodes, ListsBefore, Endings, Splits, Cuts, GuestRule, Progress, Isolation, NoWrap, StateCell, PausedWaits, PauseRule}
+use Rattle.rules.specs.Tray.{TrayHolds}
+use Rattle.rules.specs.Sample.{SampleHolds}
+
+pub record Proved : Type 0 where
+  pub masks : Masks
+  pub landings : Landings
+  pub installs : Installs
+  pub sizes : Sizes
+  pub wordsBack : WordsBack
+  pub bytesBack : BytesBack
+  pub rewriteLeaves : RewriteLeaves
+  pub rewrittenPasses : RewrittenPasses
+  pub passedRewrites : PassedRewrites
+  pub oldRefused : OldRefused
+  pub passedDecodes : PassedDecodes
+  pub listsBefore : ListsBefore
+  pub endings : Endings
+  pub splits : Splits
+  pub cuts : Cuts
+  pub guestRule : GuestRule
+  pub progress : Progress
+  pub isolation : Isolation
+  pub noWrap : NoWrap
+  pub stateCell : StateCell
+  pub pausedWaits : PausedWaits
+  pub pauseRule : PauseRule
+  pub trayHolds : TrayHolds
+  pub sampleHolds : SampleHolds
