@@ -3,3 +3,4 @@ pub mod Policies
 pub mod Orders
 pub mod Nevers
 pub mod Samples
+pub mod Proved

@@ -1,2 +1,3 @@
 pub mod Befores
 pub mod Claims
+pub mod Proved

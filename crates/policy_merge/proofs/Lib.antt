@@ -3,3 +3,4 @@ pub mod Rename
 pub mod Swaps
 pub mod Laws
 pub mod Samples
+pub mod Proved

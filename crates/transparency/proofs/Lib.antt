@@ -1,3 +1,4 @@
 pub mod Like
 pub mod Undisturbed
 pub mod Samples
+pub mod Proved

@@ -1,0 +1,24 @@
+-- Every claim of this crate is proved.
+use Rattle.engine_rules.specs.Proved.{Proved}
+use Rattle.engine_rules.proofs.Rule.{engine-rule, engine-machine}
+use Rattle.engine_rules.proofs.Together.{engine-next, engine-endings}
+use Rattle.engine_rules.proofs.Isolation.{engine-reaches, engine-isolation, engine-cell}
+use Rattle.engine_rules.proofs.Ordered.{engine-order, engine-refuses, engine-rewriter, engine-takes}
+use Rattle.engine_rules.proofs.Samples.{sample-holds}
+
+pub proved : Proved
+proved =
+    record {
+      engineOrder = engine-order;
+      engineRefuses = engine-refuses;
+      engineRewriter = engine-rewriter;
+      engineTakes = engine-takes;
+      engineRule = engine-rule;
+      engineMachine = engine-machine;
+      engineNext = engine-next;
+      engineReaches = engine-reaches;
+      engineEndings = engine-endings;
+      engineIsolation = engine-isolation;
+      engineCell = engine-cell;
+      sampleHolds = sample-holds;
+    }

@@ -1,0 +1,20 @@
+-- Every claim of this crate is proved.
+use Rattle.forward.specs.Proved.{Proved}
+use Rattle.forward.proofs.Bound.{bounded}
+use Rattle.forward.proofs.Finish.{goes-on, finishes, finishes-in}
+use Rattle.forward.proofs.Once.{finishes-at-once}
+use Rattle.forward.proofs.Agree.{checks-agree, forward-written, forward-read, always-finish}
+
+pub proved : Proved
+proved =
+    record {
+      checksAgree = checks-agree;
+      forwardWritten = forward-written;
+      forwardRead = forward-read;
+      bounded = bounded;
+      goesOn = goes-on;
+      finishes = finishes;
+      finishesIn = finishes-in;
+      finishesAtOnce = finishes-at-once;
+      alwaysFinish = always-finish;
+    }

@@ -1,0 +1,13 @@
+-- Every claim of this crate, a field each: its one term is `proved`, in proofs/Proved.antt.
+use Rattle.forward.specs.Claims.{ChecksAgree, ForwardWritten, ForwardRead, Bounded, GoesOn, Finishes, FinishesIn, FinishesAtOnce, AlwaysFinish}
+
+pub record Proved : Type 0 where
+  pub checksAgree : ChecksAgree
+  pub forwardWritten : ForwardWritten
+  pub forwardRead : ForwardRead
+  pub bounded : Bounded
+  pub goesOn : GoesOn
+  pub finishes : Finishes
+  pub finishesIn : FinishesIn
+  pub finishesAtOnce : FinishesAtOnce
+  pub alwaysFinish : AlwaysFinish

@@ -1,0 +1,15 @@
+-- Every claim of this crate is proved.
+use Rattle.policy_determinise.specs.Proved.{Proved}
+use Rattle.policy_determinise.proofs.Runs.{taken-makes, made-right, allowed-runs, sets-are-ends, sets-exact}
+use Rattle.policy_determinise.proofs.Samples.{worked}
+
+pub proved : Proved
+proved =
+    record {
+      takenMakes = taken-makes;
+      madeRight = made-right;
+      allowedRuns = allowed-runs;
+      setsAreEnds = sets-are-ends;
+      setsExact = sets-exact;
+      worked = worked;
+    }

@@ -1,0 +1,10 @@
+-- Every claim of this crate, a field each: its one term is `proved`, in proofs/Proved.antt.
+use Rattle.policy_determinise.specs.Claims.{TakenMakes, MadeRight, AllowedRuns, SetsAreEnds, SetsExact, Worked}
+
+pub record Proved : Type 0 where
+  pub takenMakes : TakenMakes
+  pub madeRight : MadeRight
+  pub allowedRuns : AllowedRuns
+  pub setsAreEnds : SetsAreEnds
+  pub setsExact : SetsExact
+  pub worked : Worked

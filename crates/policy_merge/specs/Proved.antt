@@ -1,0 +1,13 @@
+-- Every claim of this crate, a field each: its one term is `proved`, in proofs/Proved.antt.
+use Rattle.policy_merge.specs.Claims.{TakenMerges, MergedRight, AllowedByBoth, PairsAreStates, PairsExact, CeilingsOfBoth, SideInstalls, SwapSame, Worked}
+
+pub record Proved : Type 0 where
+  pub takenMerges : TakenMerges
+  pub mergedRight : MergedRight
+  pub allowedByBoth : AllowedByBoth
+  pub pairsAreStates : PairsAreStates
+  pub pairsExact : PairsExact
+  pub ceilingsOfBoth : CeilingsOfBoth
+  pub sideInstalls : SideInstalls
+  pub swapSame : SwapSame
+  pub worked : Worked
