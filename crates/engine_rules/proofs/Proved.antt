@@ -1,6 +1,6 @@
 -- Every claim of this crate is proved.
 use Rattle.engine_rules.specs.Proved.{Proved}
-use Rattle.engine_rules.proofs.Rule.{engine-rule, engine-machine}
+use Rattle.engine_rules.proofs.Rule.{engine-rule, engine-machine, engine-paused}
 use Rattle.engine_rules.proofs.Together.{engine-next, engine-endings}
 use Rattle.engine_rules.proofs.Isolation.{engine-reaches, engine-isolation, engine-cell}
 use Rattle.engine_rules.proofs.Ordered.{engine-order, engine-refuses, engine-rewriter, engine-takes}
@@ -15,6 +15,7 @@ proved =
       engineTakes = engine-takes;
       engineRule = engine-rule;
       engineMachine = engine-machine;
+      enginePaused = engine-paused;
       engineNext = engine-next;
       engineReaches = engine-reaches;
       engineEndings = engine-endings;
