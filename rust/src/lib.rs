@@ -13,13 +13,6 @@ pub mod model;
 pub mod names;
 #[cfg(feature = "native")]
 pub mod native;
-#[cfg(feature = "native")]
-pub mod native_forward;
-pub mod native_policies;
-mod policies;
 mod types;
 
-pub use policies::{Determinised, Drawing, Merged, Side};
-pub use types::{
-    Answer, Ending, Layout, LayoutArray, Machine, Made, Policy, Record, Refusal, RunAnswer, Status,
-};
+pub use types::*;

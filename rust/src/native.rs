@@ -8,18 +8,24 @@
 //! that the library writes apart from all others.
 
 mod befores;
+mod determinise;
+mod forward;
 mod install;
+mod merge;
 mod routines;
 mod run;
 
 pub use befores::befores;
+pub use determinise::determinise;
+pub use forward::{check_forward, forward};
 pub use install::{install, install_record, load, load_record, word_right};
+pub use merge::merge;
 pub use routines::{check, read, rewrite, write};
 pub use run::{preview, preview_record, run, run_record};
 
 use crate::{Answer, Ending, Refusal, RunAnswer};
 
-pub(crate) fn answer([number, place]: [u32; 2]) -> Answer {
+fn answer([number, place]: [u32; 2]) -> Answer {
     if number == 0 {
         return Answer::Taken(place);
     }

@@ -1,81 +1,72 @@
-//! A policy from a drawing with several arrows: its states are sets of the
-//! drawing's states.
+//! Request [8], a policy from a drawing with several arrows: its states are
+//! sets of the drawing's states.
 
-use std::collections::{BTreeMap, BTreeSet};
+use std::collections::BTreeSet;
 
-use crate::{Determinised, Drawing};
+use super::exploration::explored;
+use super::outputs::{deliver, refuse, room_for, Refused};
+use crate::names::{CELL_BITS, EVENTS, MOST_STATES};
+use crate::{Answer, Determinised, Drawing, Refusal};
 
 /// States of a drawing.
 type Set = BTreeSet<u32>;
 
 /// The states whose bit is set in a map.
-fn set(map: u32) -> Set {
-    (0..32).filter(|bit| map >> bit & 1 == 1).collect()
+fn set_of(map: u32) -> Set {
+    let stands = |bit: &u32| map / (1 << bit) % 2 == 1;
+    (0..CELL_BITS).filter(stands).collect()
 }
 
-/// No start, a state count outside 1 to 16, the wrong length, or a bit at or
-/// above the state count.
-fn is_bad(drawing: Drawing) -> bool {
-    let no_start = drawing.starts == 0;
-    let count_outside = !(1..=16).contains(&drawing.states);
-    let wrong_length = drawing.arrows.len() as u64 != 16 * u64::from(drawing.states);
-    let mut maps = drawing.arrows.iter().map(|&map| u32::from(map));
-    let stray = |map: u32| set(map).into_iter().any(|state| state >= drawing.states);
-    no_start || count_outside || wrong_length || stray(drawing.starts) || maps.any(stray)
+/// '16 (bad drawing: no start, a state count outside 1 to 16, the wrong length,
+/// or a bit at or above the state count)'
+fn is_bad_drawing(drawing: &Drawing) -> bool {
+    let Drawing {
+        states,
+        starts,
+        arrows,
+    } = *drawing;
+    let has_bit_above = |map: u32| set_of(map).into_iter().any(|state| state >= states);
+    set_of(starts).is_empty()
+        || !(1..=MOST_STATES).contains(&states)
+        || arrows.len() as u64 != u64::from(EVENTS) * u64::from(states)
+        || has_bit_above(starts)
+        || arrows.iter().any(|&map| has_bit_above(u32::from(map)))
 }
 
-/// The successors of the states of a set under an event.
-fn successors(drawing: Drawing, from: &Set, event: usize) -> Set {
-    let mut all = Set::new();
-    for &state in from {
-        let map = drawing.arrows[16 * state as usize + event];
-        all.extend(set(u32::from(map)));
+/// 'Entry 16 × s + n such a map of the successors of state s under event n'; of
+/// a set, all of its states' successors.
+fn successors(drawing: &Drawing, from: &Set, event: u32) -> Set {
+    let of_state = |&state: &u32| drawing.arrows[(EVENTS * state + event) as usize];
+    from.iter()
+        .flat_map(|state| set_of(u32::from(of_state(state))))
+        .collect()
+}
+
+/// '16 comes first. 15 (more than 16 reachable sets, the empty one not counted)
+/// and then 9 follow.' 'A set with no successor under an event gets 255 there.'
+fn policy_of(drawing: &Drawing, room: usize) -> Result<Vec<u8>, Refused> {
+    if is_bad_drawing(drawing) {
+        return refuse(Refusal::BadDrawing);
     }
-    all
+    let table = explored(set_of(drawing.starts), |from, event| {
+        let to = successors(drawing, from, event);
+        (!to.is_empty()).then_some(to)
+    })?;
+    room_for(table.len(), room)?;
+    Ok(table)
 }
 
-/// Makes the policy of a drawing. Its table stands at the start of the one
-/// lent, which a refusal leaves as it was; its start state is 0.
-pub fn determinise(drawing: Drawing, table: &mut [u8]) -> Determinised {
-    let answer = |number, place, states| Determinised {
-        number,
-        place,
+/// Makes the policy of a drawing; its start is the set that was met first.
+/// 'After a reject all else handed back is 0.'
+pub fn determinise(drawing: &Drawing, table: &mut [u8]) -> Determinised {
+    let answer = deliver(policy_of(drawing, table.len()), table);
+    let states = match answer {
+        Answer::Taken(bytes) => bytes / EVENTS,
+        Answer::Refused { .. } => 0,
+    };
+    Determinised {
+        answer,
         states,
         start: 0,
-    };
-    if is_bad(drawing) {
-        return answer(16, 0, 0);
     }
-    // Sets in the order of their numbers, and the numbers of sets: a set is
-    // numbered when it is first met. Events are taken in rising order, from
-    // the lowest numbered set.
-    let mut sets = vec![set(drawing.starts)];
-    let mut numbers = BTreeMap::from([(sets[0].clone(), 0)]);
-    let mut rows: Vec<Vec<u8>> = Vec::new();
-    while rows.len() < sets.len() && sets.len() <= 16 {
-        let from = sets[rows.len()].clone();
-        let mut row = Vec::new();
-        for event in 0..16 {
-            let to = successors(drawing, &from, event);
-            if to.is_empty() {
-                row.push(255);
-                continue;
-            }
-            let number = *numbers.entry(to.clone()).or_insert(sets.len());
-            if number == sets.len() {
-                sets.push(to);
-            }
-            row.push(number as u8);
-        }
-        rows.push(row);
-    }
-    if sets.len() > 16 {
-        return answer(15, 0, 0);
-    }
-    let bytes = rows.concat();
-    let Some(output) = table.get_mut(..bytes.len()) else {
-        return answer(9, 0, 0);
-    };
-    output.copy_from_slice(&bytes);
-    answer(0, bytes.len() as u32, sets.len() as u32)
 }

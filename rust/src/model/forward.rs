@@ -1,11 +1,11 @@
 //! Request [13], routines that always finish.
 
+use super::bundles::address;
 use super::check::check;
 use super::commands::Command;
-use super::instructions::{judge_in_routine, Instr};
-use super::outputs::{answer, refuse, Refused};
-use super::rewrite::address;
-use crate::names::{BUNDLE_LENGTH, MOST_INSTRUCTIONS};
+use super::instructions::{judge_routine, Instr};
+use super::outputs::{answer, Refused};
+use crate::names::BUNDLE_LENGTH;
 use crate::{Answer, Layout, Refusal};
 
 /// 'No GOX and every GOIF going to a higher instruction than its own.'
@@ -37,23 +37,9 @@ fn lowest(mut forward: impl Iterator<Item = bool>) -> Result<(), Refused> {
 
 /// '18 comes last, whatever the places: after 5, 3, 2, 4, 8 for words.'
 fn of_words(words: &[u64]) -> Result<(), Refused> {
-    let n = words.len();
-    if n > MOST_INSTRUCTIONS {
-        return refuse(Refusal::Oversize);
-    }
-    let mut instrs = Vec::new();
-    for (place, &word) in words.iter().enumerate() {
-        match judge_in_routine(word, n) {
-            Ok(instr) => instrs.push(instr),
-            Err(refusal) => return Err((refusal, place)),
-        }
-    }
-    lowest(
-        instrs
-            .iter()
-            .enumerate()
-            .map(|(place, &instr)| is_forward(place, instr)),
-    )
+    let instrs = judge_routine(words)?;
+    let places = instrs.iter().enumerate();
+    lowest(places.map(|(place, &instr)| is_forward(place, instr)))
 }
 
 /// Checks that a routine's words are of the class.

@@ -2,34 +2,15 @@
 
 use super::layout::lent_right;
 use super::outputs::{answer, refuse, Refused};
-use crate::names::{CELL_BITS, EVENTS, LANDING_CELLS, MOST_BUNDLES, MOST_STATES, NO_ARROW};
+use super::policies::{is_bad_policy, is_entry};
+use crate::names::{CELL_BITS, LANDING_CELLS, MOST_BUNDLES, MOST_STATES};
 use crate::{Answer, Layout, Machine, Policy, Refusal};
-
-/// 'Byte 16 × s + n is the state after event n in state s, or 255 for no
-/// arrow.'
-fn is_entry(states: u32, byte: u8) -> bool {
-    u32::from(byte) < states || u32::from(byte) == NO_ARROW
-}
 
 /// Request [3]: 'it says yes exactly when S is from 1 to 16 and each of the
 /// word's four bytes is below S or 255.'
 pub fn word_right(states: u32, word: u32) -> bool {
     let bytes = word.to_le_bytes();
     (1..=MOST_STATES).contains(&states) && bytes.iter().all(|&byte| is_entry(states, byte))
-}
-
-/// '10: S not the layout's, length not 16 × S, start not below S, or a byte
-/// neither below S nor 255.'
-fn is_bad_policy(layout: &Layout, policy: &Policy) -> bool {
-    let Policy {
-        states,
-        start,
-        table,
-    } = *policy;
-    states != layout.states
-        || table.len() as u64 != u64::from(EVENTS) * u64::from(states)
-        || start >= states
-        || table.iter().any(|&byte| !is_entry(states, byte))
 }
 
 /// Request [1]: '14 (bad landing list: not strictly rising, or an entry above
@@ -51,7 +32,8 @@ fn judge(
     if !lent_right(layout, memory) {
         return refuse(Refusal::BadLayout);
     }
-    if is_bad_policy(layout, policy) {
+    // '10: S not the layout's'
+    if policy.states != layout.states || is_bad_policy(policy) {
         return refuse(Refusal::BadPolicy);
     }
     if are_bad_landings(landings) {

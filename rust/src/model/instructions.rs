@@ -1,7 +1,8 @@
 //! The guest's instructions.
 
+use super::outputs::{refuse, Refused};
 use super::words::{fields, word, Fields};
-use crate::names::{GUEST_REGISTERS, TOP_CONDITION, TOP_EVENT, TOP_SHIFT};
+use crate::names::{GUEST_REGISTERS, MOST_INSTRUCTIONS, TOP_CONDITION, TOP_EVENT, TOP_SHIFT};
 use crate::Refusal;
 
 /// The table of the guest rule: each kind with its fields.
@@ -109,10 +110,23 @@ pub fn judge(word: u64) -> Result<Instr, Refusal> {
 }
 
 /// 'Per word 3, 2, 4, 8': '8: GOIF v above n.'
-pub fn judge_in_routine(word: u64, n: usize) -> Result<Instr, Refusal> {
+fn judge_in_routine(word: u64, n: usize) -> Result<Instr, Refusal> {
     let instr = judge(word)?;
     match instr {
         Instr::GoIf { v, .. } if v as usize > n => Err(Refusal::BadLanding),
         _ => Ok(instr),
     }
+}
+
+/// A routine's instructions: '5; per word 3, 2, 4, 8'. 'Among instructions the
+/// lowest place comes first.'
+pub fn judge_routine(words: &[u64]) -> Result<Vec<Instr>, Refused> {
+    let n = words.len();
+    if n > MOST_INSTRUCTIONS {
+        return refuse(Refusal::Oversize);
+    }
+    let judged = words.iter().enumerate();
+    judged
+        .map(|(place, &word)| judge_in_routine(word, n).map_err(|refusal| (refusal, place)))
+        .collect()
 }

@@ -2,10 +2,10 @@
 
 use super::bundles::{address, alone, base_right, bundles, pch, pcl, Bundle, HALT};
 use super::commands::Command;
-use super::instructions::{judge_in_routine, Instr};
+use super::instructions::{judge_routine, Instr};
 use super::layout::layout_right;
 use super::outputs::{deliver, refuse, room_for, Refused};
-use crate::names::{BUNDLE_LENGTH, HIDDEN, MOST_INSTRUCTIONS};
+use crate::names::{BUNDLE_LENGTH, HIDDEN};
 use crate::{Answer, Layout, Refusal};
 
 /// 'ANDI 8,a,SH; ORI 8,8,SL; LOAD d,8; t. For STORE: the same two, STORE 8,b;
@@ -70,18 +70,8 @@ fn rewritten(layout: &Layout, words: &[u64], room: usize) -> Result<Vec<u64>, Re
     if !layout_right(layout) {
         return refuse(Refusal::BadLayout);
     }
-    let n = words.len();
-    if n > MOST_INSTRUCTIONS {
-        return refuse(Refusal::Oversize);
-    }
-    let mut instrs = Vec::new();
-    for (place, &word) in words.iter().enumerate() {
-        match judge_in_routine(word, n) {
-            Ok(instr) => instrs.push(instr),
-            Err(refusal) => return Err((refusal, place)),
-        }
-    }
-    let bundles = bundles(n);
+    let mut instrs = judge_routine(words)?;
+    let bundles = bundles(words.len());
     let size = BUNDLE_LENGTH * bundles;
     if !base_right(layout, size) {
         return refuse(Refusal::BadBase);

@@ -7,7 +7,7 @@ use hemdroas::names::{
     BUNDLE_LENGTH, EVENTS, GUEST_REGISTERS, HIDDEN, LANDING_CELLS, MOST_BUNDLES, MOST_CELLS,
     MOST_INSTRUCTIONS, MOST_STATES, NO_ARROW, REGISTERS,
 };
-use hemdroas::{Answer, Layout, Policy, Record};
+use hemdroas::{Answer, Ceilings, Layout, Policy, Record};
 use std::ops::Range;
 
 /// The sample routine of the rules.
@@ -81,6 +81,16 @@ pub fn policy(rng: &mut Rng, states: u32, arrows: usize) -> SomePolicy {
         start: rng.under(states),
         table,
     }
+}
+
+/// Ceilings: the least, the greatest, small ones and any.
+pub fn some_ceilings(rng: &mut Rng) -> Ceilings {
+    std::array::from_fn(|_| match rng.below(4) {
+        0 => 0,
+        1 => u32::MAX,
+        2 => rng.under(10),
+        _ => rng.word(),
+    })
 }
 
 /// A rising list of landings: all of them, none, or some, the first more often

@@ -1,8 +1,8 @@
 //! Policies from pairs of events.
 
-use crate::common::inputs::{any_record, layout_of_states, room, SomePolicy};
+use crate::common::inputs::{room, SomePolicy};
 use crate::common::{cases, Rng, Tally};
-use crate::install::install;
+use crate::install::made_installs;
 use hemdroas::{model, native, Answer, Made};
 use std::collections::BTreeSet;
 
@@ -95,16 +95,12 @@ fn lists_of_pairs(tally: &mut Tally, rng: &mut Rng) {
         if let (Answer::Taken(bytes), true) = (made.answer, rng.chance(10)) {
             table.truncate(bytes as usize);
             let (states, start) = (made.states, 0);
-            let layout = layout_of_states(rng, 1, states);
             let policy = SomePolicy {
                 states,
                 start,
                 table,
             };
-            let mut memory = rng.cells(layout.size as usize);
-            let record = any_record(rng);
-            let (answer, _) = install(tally, &layout, &policy.lend(), &[], &mut memory, record);
-            assert_eq!(answer, Answer::Taken(0), "installing {pairs:?}");
+            made_installs(tally, rng, &policy);
         }
     }
 }

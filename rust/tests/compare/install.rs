@@ -36,6 +36,15 @@ pub fn install(
     (answer, given)
 }
 
+/// A policy that was made goes to the installer as it is.
+pub fn made_installs(tally: &mut Tally, rng: &mut Rng, policy: &SomePolicy) {
+    let layout = layout_of_states(rng, 1, policy.states);
+    let mut memory = rng.cells(layout.size as usize);
+    let record = any_record(rng);
+    let (answer, _) = install(tally, &layout, &policy.lend(), &[], &mut memory, record);
+    assert_eq!(answer, Answer::Taken(0), "installing {policy:?}");
+}
+
 /// What is installed where, and in how many cells.
 pub struct Installation {
     pub layout: Layout,

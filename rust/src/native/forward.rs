@@ -1,20 +1,13 @@
-//! Safe wrappers of the library's checks of the class that always finishes.
+//! Checks of the class that always finishes.
 
-use crate::native::answer;
+use super::answer;
 use crate::{Answer, Layout, LayoutArray};
 
+#[rustfmt::skip]
 extern "C" {
     fn hemdroas_forward(words: *const u64, n: usize, answer: *mut [u32; 2]);
-    fn hemdroas_check_forward(
-        layout: *const LayoutArray,
-        commands: *const u64,
-        n: usize,
-        answer: *mut [u32; 2],
-    );
+    fn hemdroas_check_forward(layout: *const LayoutArray, commands: *const u64, n: usize, answer: *mut [u32; 2]);
 }
-
-// In each call below, the pointers come from live slices and arrays of the
-// lengths given beside them.
 
 /// Checks that a routine's words have no GOX and no GOIF to its own or a lower
 /// instruction.

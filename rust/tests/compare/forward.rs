@@ -1,25 +1,24 @@
-//! Request [13], routines that always finish: the library's two checks beside
-//! the model's, and routines of the class run to their end.
-#![cfg(feature = "native")]
+//! Routines that always finish, request [13]: the two checks, and routines of
+//! the class run to their end.
 
-mod common;
-
-use common::inputs::{
-    altered_layout, any_command, bytes_of, damage_word, damaged_routine, instr_word, landings,
+use crate::common::inputs::{
+    altered_layout, any_command, any_record, damage_word, damaged_routine, instr_word, landings,
     length, policy, rewritten, right_layout, routine, shaped_bundle, shaped_list,
 };
-use common::{cases, Rng, Tally};
+use crate::common::{cases, Rng, Tally};
+use crate::install::install;
+use crate::run::{run, Lent};
 use hemdroas::model::words::fields;
 use hemdroas::model::{self, most_steps, Instr};
 use hemdroas::names::{BUNDLE_LENGTH, MOST_INSTRUCTIONS};
-use hemdroas::{native, native_forward, Answer, Ending, Layout, Machine, Refusal, Status};
+use hemdroas::{native, Answer, Ending, Layout, Refusal, RunAnswer, Status};
 
 const OF_WORDS: [u32; 7] = [0, 2, 3, 4, 5, 8, 18];
 const OF_LISTS: [u32; 6] = [0, 7, 11, 12, 13, 18];
 
 fn forward(tally: &mut Tally, words: &[u64]) -> Answer {
     let answer = model::forward(words);
-    let given = native_forward::forward(words);
+    let given = native::forward(words);
     assert_eq!(given, answer, "checking {words:x?}");
     tally.count("forward", answer.number());
     answer
@@ -27,7 +26,7 @@ fn forward(tally: &mut Tally, words: &[u64]) -> Answer {
 
 fn check_forward(tally: &mut Tally, layout: &Layout, commands: &[u64]) -> Answer {
     let answer = model::check_forward(layout, commands);
-    let given = native_forward::check_forward(layout, commands);
+    let given = native::check_forward(layout, commands);
     assert_eq!(given, answer, "checking {commands:x?} under {layout:?}");
     tally.count("check_forward", answer.number());
     answer
@@ -103,7 +102,7 @@ fn break_class(rng: &mut Rng, words: &mut [u64]) {
 
 #[test]
 fn words_of_the_class() {
-    let (mut tally, mut rng) = Tally::new("forward words", 21);
+    let (mut tally, mut rng) = Tally::new("forward words", 17);
     for words in small_routines() {
         let _ = forward(&mut tally, &words);
     }
@@ -160,7 +159,7 @@ fn alter(rng: &mut Rng, layout: &mut Layout, bundles: usize, list: &mut Vec<u64>
 
 #[test]
 fn lists_of_the_class() {
-    let (mut tally, mut rng) = Tally::new("forward lists", 22);
+    let (mut tally, mut rng) = Tally::new("forward lists", 18);
     for _ in 0..cases(20_000) {
         let sizes = if rng.chance(2) { 11 } else { 6 };
         let bundles = 1 << rng.below(sizes);
@@ -183,106 +182,92 @@ fn lists_of_the_class() {
     tally.conclude(&[("check_forward", &OF_LISTS)]);
 }
 
-/// A loaded routine, in the library and in the model.
-struct Loaded {
+/// A routine of the class, installed, and all the steps of its runs.
+struct Installed {
     layout: Layout,
-    commands: Vec<u64>,
-    machine: Machine,
-    memory: Vec<u32>,
-    modelled: (Machine, Vec<u32>),
+    list: Vec<u64>,
+    lent: Lent,
+    /// '4 × (N − 1) + 1 counted steps over all its runs'
+    most: u64,
+    steps: u64,
 }
 
-/// What one run is lent besides the memory.
-struct Lent {
-    budget: u32,
-    readings: usize,
-    log: usize,
-}
-
-impl Loaded {
-    fn new(rng: &mut Rng, words: &[u64], layout: Layout, arrows: usize) -> Loaded {
-        let policy = policy(rng, layout.states, arrows);
-        let landings = landings(rng);
-        let bytes = bytes_of(words);
-        let mut commands = vec![0; BUNDLE_LENGTH * model::bundles(words.len())];
-        let mut memory = rng.cells(layout.size as usize);
-        let (answer, machine) = native::load(
-            &layout,
-            &policy.lend(),
-            &landings,
-            &bytes,
-            &mut commands,
-            &mut memory,
-        );
-        assert_eq!(answer, Answer::Taken(commands.len() as u32));
-        let modelled = (machine, memory.clone());
-        Loaded {
-            layout,
-            commands,
-            machine,
-            memory,
-            modelled,
-        }
-    }
-
-    /// One run, the same in library and model, counted under a name.
-    fn run(
-        &mut self,
-        tally: &mut Tally,
-        name: &'static str,
-        rng: &mut Rng,
-        lent: &Lent,
-    ) -> (Ending, u64) {
-        let readings = rng.cells(lent.readings);
-        let mut log = rng.cells(lent.log);
-        let mut model_log = log.clone();
-        let (machine, memory) = &mut self.modelled;
-        let expected = model::run(
-            &self.layout,
-            &self.commands,
-            machine,
-            memory,
-            lent.budget,
-            &readings,
-            &mut model_log,
-        );
-        let answer = native::run(
-            &self.layout,
-            &self.commands,
-            &mut self.machine,
-            &mut self.memory,
-            lent.budget,
-            &readings,
-            &mut log,
-        );
-        assert_eq!(answer, expected);
-        assert_eq!((self.machine, &self.memory), (*machine, &*memory));
-        assert_eq!(log, model_log);
-        tally.count(name, answer.ending.number());
-        (answer.ending, u64::from(answer.steps))
-    }
-
-    fn is_over(&self) -> bool {
-        matches!(self.machine.status, Status::Ended | Status::Stopped)
-    }
-}
-
-/// A routine of the class under a layout of its own.
-fn some_routine(rng: &mut Rng) -> (Layout, Vec<u64>) {
-    let n = if rng.chance(50) {
-        (1 << rng.below(7)) - 1
+/// A routine of the class under a layout of its own, of so many instructions at
+/// most; some do nothing but send events, so that they reach the most steps that
+/// there can be.
+fn installed(tally: &mut Tally, rng: &mut Rng, longest: usize, arrows: usize) -> Installed {
+    let n = if rng.chance(30) {
+        (1 << rng.below(6)) - 1
     } else {
-        length(rng)
+        length(rng).min(longest)
     };
-    let layout = right_layout(rng, model::bundles(n));
-    let words = if rng.chance(20) {
-        // No jump and no HALT: nothing is left out.
-        let straight = Instr::Event { v: rng.under(8) }.word();
-        vec![straight; n]
+    let bundles = model::bundles(n);
+    let layout = right_layout(rng, bundles);
+    let words = if rng.chance(25) {
+        (0..n)
+            .map(|_| Instr::Event { v: rng.under(16) }.word())
+            .collect()
     } else {
         forward_routine(rng, &layout, n)
     };
-    (layout, words)
+    let list = rewritten(&layout, &words);
+    assert_eq!(forward(tally, &words), Answer::Taken(0));
+    assert_eq!(check_forward(tally, &layout, &list), Answer::Taken(0));
+    let (policy, landings) = (policy(rng, layout.states, arrows), landings(rng));
+    let mut memory = rng.cells(layout.size as usize);
+    let record = any_record(rng);
+    let lend = policy.lend();
+    let (answer, record) = install(tally, &layout, &lend, &landings, &mut memory, record);
+    assert_eq!(answer, Answer::Taken(0));
+    let lent = Lent {
+        record,
+        memory,
+        log: Vec::new(),
+    };
+    Installed {
+        layout,
+        list,
+        lent,
+        most: most_steps(bundles),
+        steps: 0,
+    }
+}
+
+impl Installed {
+    /// One run more, which stays within the bound.
+    fn run(
+        &mut self,
+        tally: &mut Tally,
+        rng: &mut Rng,
+        budget: u32,
+        readings: usize,
+        log: usize,
+    ) -> RunAnswer {
+        self.lent.log = rng.cells(log);
+        let readings = rng.cells(readings);
+        let (layout, list) = (&self.layout, &self.list);
+        let answer = run(tally, layout, list, &mut self.lent, budget, &readings);
+        self.steps += u64::from(answer.steps);
+        assert!(
+            self.steps <= self.most,
+            "{} steps of {list:x?}, not more than {}",
+            self.steps,
+            self.most
+        );
+        answer
+    }
+
+    fn is_over(&self) -> bool {
+        let status = self.lent.record.to_machine().status;
+        matches!(status, Status::Ended | Status::Stopped)
+    }
+
+    /// Whether a routine of more than one instruction took all the steps that
+    /// there can be.
+    fn note_bound(&self, tally: &mut Tally) {
+        let reached = self.steps == self.most && self.most > 5;
+        tally.note("longer routines that reached the bound", u64::from(reached));
+    }
 }
 
 /// Over several runs with small logs, few readings and small budgets. Some are
@@ -290,90 +275,54 @@ fn some_routine(rng: &mut Rng) -> (Layout, Vec<u64>) {
 /// lent a free pair, a reading and a budget takes a step.
 #[test]
 fn resumed_until_over() {
-    let (mut tally, mut rng) = Tally::new("routines of the class, resumed", 23);
-    for _ in 0..cases(6_000) {
-        let (layout, words) = some_routine(&mut rng);
-        let most = most_steps(model::bundles(words.len()));
+    let (mut tally, mut rng) = Tally::new("forward routines, resumed", 19);
+    for _ in 0..cases(5_000) {
         let arrows = rng.pick(&[60, 100, 100]);
-        let mut loaded = Loaded::new(&mut rng, &words, layout, arrows);
-        assert_eq!(forward(&mut tally, &words), Answer::Taken(0));
-        assert_eq!(
-            check_forward(&mut tally, &layout, &loaded.commands),
-            Answer::Taken(0)
-        );
-        let (mut steps, mut runs, mut resumed) = (0, 0, 0);
-        while !loaded.is_over() {
+        let mut installed = installed(&mut tally, &mut rng, 300, arrows);
+        let (mut runs, mut resumed) = (0, 0);
+        while !installed.is_over() {
             let starved = rng.chance(20);
-            let lent = Lent {
-                budget: if rng.chance(50) {
-                    rng.between(1, 6) as u32
-                } else {
-                    rng.between(1, 40) as u32
-                },
-                readings: if starved { 0 } else { rng.between(1, 3) },
-                log: if starved {
-                    rng.below(2)
-                } else {
-                    rng.between(2, 6)
-                },
+            let most = rng.pick(&[6, 40]);
+            let budget = rng.between(1, most) as u32;
+            let (readings, log) = if starved {
+                (0, rng.below(2))
+            } else {
+                (rng.between(1, 3), rng.between(2, 6))
             };
-            let (ending, taken) = loaded.run(&mut tally, "run", &mut rng, &lent);
+            let answer = installed.run(&mut tally, &mut rng, budget, readings, log);
             if !starved {
-                assert!(taken >= 1, "a run that can go on takes a step");
+                assert!(answer.steps >= 1, "a run that can go on takes a step");
                 resumed += 1;
             }
-            let paused = matches!(ending, Ending::LogFull | Ending::Silent);
-            assert!(paused || loaded.is_over() || taken == u64::from(lent.budget));
-            steps += taken;
+            let paused = matches!(answer.ending, Ending::LogFull | Ending::Silent);
+            assert!(paused || installed.is_over() || answer.steps == budget);
+            assert!(resumed <= installed.most, "{resumed} runs that could go on");
             runs += 1;
-            assert!(
-                steps <= most,
-                "{steps} steps of {words:x?}, not more than {most}"
-            );
-            assert!(resumed <= most, "{resumed} runs that could go on");
         }
-        tally.add("runs", runs);
-        tally.add("steps", steps);
         tally.note("routines that took several runs", u64::from(runs > 1));
-        let reached = steps == most && words.len() > 1;
-        tally.note("longer routines that reached the bound", u64::from(reached));
+        installed.note_bound(&mut tally);
     }
     tally.conclude(&[("run", &[20, 21, 23, 24, 25])]);
 }
 
 /// By one run with budget, log and readings for every step and event that can
-/// be left, after others: it does not pause.
+/// be left, after another or at first: it does not pause.
 #[test]
 fn over_at_once() {
-    let (mut tally, mut rng) = Tally::new("routines of the class, at once", 24);
+    let (mut tally, mut rng) = Tally::new("forward routines, at once", 20);
     for _ in 0..cases(4_000) {
-        let (layout, words) = some_routine(&mut rng);
-        let bundles = model::bundles(words.len());
-        let most = most_steps(bundles);
-        let mut loaded = Loaded::new(&mut rng, &words, layout, 90);
-        let mut steps = 0;
+        let mut installed = installed(&mut tally, &mut rng, MOST_INSTRUCTIONS, 95);
         if rng.chance(50) {
-            let little = Lent {
-                budget: rng.under(9),
-                readings: rng.below(3),
-                log: rng.below(5),
-            };
-            steps += loaded.run(&mut tally, "first run", &mut rng, &little).1;
+            let (readings, log) = (rng.below(3), rng.below(5));
+            let _ = installed.run(&mut tally, &mut rng, 7, readings, log);
         }
-        let ample = Lent {
-            budget: most as u32,
-            readings: bundles - 1,
-            log: 2 * (bundles - 1),
-        };
-        let (ending, taken) = loaded.run(&mut tally, "last run", &mut rng, &ample);
-        steps += taken;
-        assert!(
-            matches!(ending, Ending::Done | Ending::NoArrow),
-            "{ending:?}"
-        );
-        assert!(loaded.is_over() && steps <= most);
-        let reached = steps == most && words.len() > 1;
-        tally.note("longer routines that reached the bound", u64::from(reached));
+        let instructions = installed.list.len() / BUNDLE_LENGTH - 1;
+        let budget = installed.most as u32;
+        let answer = installed.run(&mut tally, &mut rng, budget, instructions, 2 * instructions);
+        assert!(matches!(answer.ending, Ending::Done | Ending::NoArrow));
+        assert!(installed.is_over());
+        tally.count("last run", answer.ending.number());
+        installed.note_bound(&mut tally);
     }
     tally.conclude(&[("last run", &[20, 21])]);
 }

@@ -248,7 +248,10 @@ fn the_engine_meets_the_machine() {
             assert_eq!(answer.came, Ok(ending));
             assert_eq!(answer.instructions, 1);
             assert_eq!(world.machine.status, record.status());
-            assert_eq!(world.machine.regs[..GUEST_REGISTERS as usize], *record.regs());
+            assert_eq!(
+                world.machine.regs[..GUEST_REGISTERS as usize],
+                *record.regs()
+            );
             assert_eq!(world.memory, mine);
             assert_eq!(world.records, records);
             assert_eq!(world.used, used);

@@ -1,0 +1,33 @@
+//! Policies from drawings with several arrows.
+
+use super::answer;
+use crate::{Determinised, Drawing};
+
+#[rustfmt::skip]
+extern "C" {
+    fn hemdroas_determinise(states: u32, starts: u32, arrows: *const u16, n: usize,
+                            table: *mut u8, room: usize, made: *mut [u32; 4]);
+}
+
+/// Makes the policy of a drawing: its table at the start of the one lent, its
+/// states and its start.
+pub fn determinise(drawing: &Drawing, table: &mut [u8]) -> Determinised {
+    let mut four = [0; 4];
+    unsafe {
+        hemdroas_determinise(
+            drawing.states,
+            drawing.starts,
+            drawing.arrows.as_ptr(),
+            drawing.arrows.len(),
+            table.as_mut_ptr(),
+            table.len(),
+            &mut four,
+        );
+    }
+    let [number, place, states, start] = four;
+    Determinised {
+        answer: answer([number, place]),
+        states,
+        start,
+    }
+}

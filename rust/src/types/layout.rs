@@ -1,0 +1,60 @@
+//! Layouts.
+
+/// Where everything lies in the memory of one drum.
+///
+/// Any numbers may be written here; whether they make a right layout is for
+/// the operations to say, which refuse a wrong one with
+/// [`Refusal::BadLayout`].
+#[derive(Clone, Copy, Debug, PartialEq, Eq)]
+pub struct Layout {
+    /// U, the number of memory cells.
+    pub size: u32,
+    /// SL, the first cell of the sandbox.
+    pub low: u32,
+    /// SH, the last cell of the sandbox.
+    pub high: u32,
+    /// M, the cell that holds the policy's state.
+    pub cell: u32,
+    /// P, the first cell of the policy's table.
+    pub table: u32,
+    /// S, the number of policy states.
+    pub states: u32,
+    /// B, the address of the first command: any number, but for a list a
+    /// multiple of its length.
+    pub base: u32,
+    /// Q, the first of 32 cells with a bit for each landing.
+    pub landings: u32,
+}
+
+/// A layout as the C interface takes it: U, SL, SH, M, P, S, B, Q.
+pub type LayoutArray = [u32; 8];
+
+impl Layout {
+    /// The layout as the C interface takes it.
+    pub fn to_array(&self) -> LayoutArray {
+        [
+            self.size,
+            self.low,
+            self.high,
+            self.cell,
+            self.table,
+            self.states,
+            self.base,
+            self.landings,
+        ]
+    }
+
+    /// The layout that an array of the C interface stands for.
+    pub fn from_array([size, low, high, cell, table, states, base, landings]: LayoutArray) -> Self {
+        Layout {
+            size,
+            low,
+            high,
+            cell,
+            table,
+            states,
+            base,
+            landings,
+        }
+    }
+}
