@@ -12,7 +12,7 @@ mod quick;
 
 use hemdroas::model::words::Fields;
 use hemdroas::model::{bundles, Instr};
-use hemdroas::names::{EVENTS, GUEST_REGISTERS, MOST_BUNDLES, MOST_INSTRUCTIONS};
+use hemdroas::names::{EVENTS, GUEST_REGISTERS, MOST_BUNDLES, MOST_INSTRUCTIONS, UNLIMITED};
 use hemdroas::{native, Answer, Ending, Layout, Machine, Policy, RunAnswer};
 use std::hint::black_box;
 use std::time::{Duration, Instant};
@@ -29,6 +29,7 @@ const LAYOUT: Layout = Layout {
     states: 16,
     base: 4096,
     landings: 512,
+    ceilings: UNLIMITED,
 };
 const BUDGET: u32 = 20_000;
 

@@ -8,6 +8,8 @@ pub const MOST_STATES: u32 = 16;
 pub const EVENTS: u32 = 16;
 /// Events below this one are orders, the others readings.
 pub const ORDERS: u32 = 8;
+/// Ceilings of the orders that limit nothing.
+pub const UNLIMITED: [u32; ORDERS as usize] = [u32::MAX; ORDERS as usize];
 /// The mark of no arrow in a table.
 pub const NO_ARROW: u32 = 255;
 /// The most instructions of a routine.

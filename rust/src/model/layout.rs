@@ -61,6 +61,15 @@ pub fn lent_right(layout: &Layout, memory: &[u32]) -> bool {
     layout_right(layout) && memory.len() == layout.size as usize
 }
 
+/// What an event records of r0. Request [2]: 'an order now records the smaller
+/// of r0 and its ceiling', 'readings are untouched'.
+pub fn recorded(layout: &Layout, event: u32, r0: u32) -> u32 {
+    match layout.ceilings.get(event as usize) {
+        Some(&ceiling) => r0.min(ceiling),
+        None => r0,
+    }
+}
+
 /// 'The mask of an address e is (e AND SH) OR SL.'
 pub fn mask(layout: &Layout, address: u32) -> u32 {
     (address & layout.high) | layout.low

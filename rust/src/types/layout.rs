@@ -1,5 +1,7 @@
 //! Layouts.
 
+use super::policies::Ceilings;
+
 /// Where everything lies in the memory of one drum.
 ///
 /// Any numbers may be written here; whether they make a right layout is for
@@ -24,14 +26,19 @@ pub struct Layout {
     pub base: u32,
     /// Q, the first of 32 cells with a bit for each landing.
     pub landings: u32,
+    /// What the orders record at most: an order records the smaller of r0 and
+    /// its event's ceiling.
+    pub ceilings: Ceilings,
 }
 
-/// A layout as the C interface takes it: U, SL, SH, M, P, S, B, Q.
-pub type LayoutArray = [u32; 8];
+/// A layout as the C interface takes it: U, SL, SH, M, P, S, B, Q, and the
+/// ceilings of events 0 to 7.
+pub type LayoutArray = [u32; 16];
 
 impl Layout {
     /// The layout as the C interface takes it.
     pub fn to_array(&self) -> LayoutArray {
+        let [c0, c1, c2, c3, c4, c5, c6, c7] = self.ceilings;
         [
             self.size,
             self.low,
@@ -41,11 +48,20 @@ impl Layout {
             self.states,
             self.base,
             self.landings,
+            c0,
+            c1,
+            c2,
+            c3,
+            c4,
+            c5,
+            c6,
+            c7,
         ]
     }
 
     /// The layout that an array of the C interface stands for.
-    pub fn from_array([size, low, high, cell, table, states, base, landings]: LayoutArray) -> Self {
+    pub fn from_array(array: LayoutArray) -> Self {
+        let [size, low, high, cell, table, states, base, landings, ceilings @ ..] = array;
         Layout {
             size,
             low,
@@ -55,6 +71,7 @@ impl Layout {
             states,
             base,
             landings,
+            ceilings,
         }
     }
 }

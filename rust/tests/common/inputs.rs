@@ -5,7 +5,7 @@ use hemdroas::model::words::Fields;
 use hemdroas::model::{self, bundles, layout_right, Command, Instr};
 use hemdroas::names::{
     BUNDLE_LENGTH, EVENTS, GUEST_REGISTERS, HIDDEN, LANDING_CELLS, MOST_BUNDLES, MOST_CELLS,
-    MOST_INSTRUCTIONS, MOST_STATES, NO_ARROW, REGISTERS,
+    MOST_INSTRUCTIONS, MOST_STATES, NO_ARROW, REGISTERS, UNLIMITED,
 };
 use hemdroas::{Answer, Ceilings, Layout, Policy, Record};
 use std::ops::Range;
@@ -25,6 +25,7 @@ pub const TRIAL: Layout = Layout {
     states: 2,
     base: 4096,
     landings: 64,
+    ceilings: UNLIMITED,
 };
 pub const TRIAL_READINGS: [u32; 3] = [1800, 1950, 2100];
 
@@ -165,6 +166,7 @@ pub fn layout_of_states(rng: &mut Rng, bundles: usize, states: u32) -> Layout {
             states,
             base,
             landings,
+            ceilings: some_ceilings(rng),
         };
         assert!(layout_right(&layout), "{layout:?}");
         return layout;
@@ -191,6 +193,9 @@ fn place(
     None
 }
 
+/// How many numbers of a layout as an array come before its ceilings.
+const PLACES: usize = 8;
+
 /// A layout with one to three of its numbers altered; few of them stay right.
 pub fn altered_layout(rng: &mut Rng, layout: &Layout) -> Layout {
     let mut array = layout.to_array();
@@ -198,8 +203,10 @@ pub fn altered_layout(rng: &mut Rng, layout: &Layout) -> Layout {
         return Layout::from_array(array.map(|_| rng.word()));
     }
     for _ in 0..rng.between(1, 3) {
-        let field = rng.below(array.len());
-        let other = rng.pick(&array);
+        // Seldom a ceiling, which makes no layout wrong.
+        let fields = rng.pick(&[array.len(), PLACES, PLACES, PLACES]);
+        let field = rng.below(fields);
+        let other = rng.pick(&array[..PLACES]);
         array[field] = match rng.below(12) {
             0 => 0,
             1 => 1,
@@ -236,8 +243,8 @@ pub fn any_record(rng: &mut Rng) -> Record {
 
 /// A number that is likely to matter: addresses, bounds and their neighbours.
 pub fn number(rng: &mut Rng, layout: &Layout) -> u32 {
-    let array = layout.to_array();
-    match rng.below(12) {
+    let places = &layout.to_array()[..PLACES];
+    match rng.below(13) {
         0 => 0,
         1 => rng.under(40),
         2 => rng.between(254, 256) as u32,
@@ -251,8 +258,12 @@ pub fn number(rng: &mut Rng, layout: &Layout) -> u32 {
         ]),
         4 => rng.word(),
         5 => 1 << rng.below(32),
-        6 | 7 => rng.pick(&array).wrapping_add(rng.under(3)),
-        8 => rng.pick(&array).wrapping_sub(1 + rng.under(2)),
+        6 | 7 => rng.pick(places).wrapping_add(rng.under(3)),
+        8 => rng.pick(places).wrapping_sub(1 + rng.under(2)),
+        9 => rng
+            .pick(&layout.ceilings)
+            .wrapping_add(rng.under(3))
+            .wrapping_sub(1),
         _ => layout.low.wrapping_add(rng.under(64)),
     }
 }

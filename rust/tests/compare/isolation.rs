@@ -85,6 +85,14 @@ fn world(
         assert_eq!(memory, canaries, "under {layout:?}, list {list:x?}");
         assert_ne!(answer.ending, Ending::Fault, "a passed list never faults");
 
+        // No order is recorded above its ceiling.
+        for pair in log[..written].chunks_exact(2) {
+            if let Some(&ceiling) = layout.ceilings.get(pair[0] as usize) {
+                assert!(pair[1] <= ceiling, "{pair:?} under {layout:?}");
+                tally.note("orders at their ceiling", u64::from(pair[1] == ceiling));
+            }
+        }
+
         // The recorded events are allowed, and the state cell is where they
         // lead; between KEEP and EVENT it is one event ahead.
         events.extend(log[..written].chunks_exact(2).map(|pair| pair[0]));

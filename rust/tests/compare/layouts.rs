@@ -3,6 +3,7 @@
 use crate::check::check;
 use crate::common::inputs::{altered_layout, right_layout};
 use crate::common::{cases, Rng, Tally};
+use hemdroas::names::UNLIMITED;
 use hemdroas::Layout;
 
 const LIST: [u64; 4] = [1, 0, 0, 0];
@@ -35,6 +36,7 @@ fn small_layouts(tally: &mut Tally) {
                             states,
                             base,
                             landings,
+                            ceilings: UNLIMITED,
                         };
                         let _ = check(tally, &layout, &LIST);
                     }
@@ -56,6 +58,7 @@ fn moved_regions(tally: &mut Tally) {
         states: 1,
         base: 0,
         landings: 20,
+        ceilings: UNLIMITED,
     };
     for place in (0..64).chain(u32::MAX - 64..=u32::MAX) {
         for size in 50..=60 {

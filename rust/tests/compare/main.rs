@@ -13,6 +13,7 @@ mod quick;
 
 mod bases;
 mod befores;
+mod ceilings;
 mod check;
 mod determinise;
 mod forward;

@@ -6,7 +6,7 @@ use crate::common::inputs::{
 use hemdroas::model::{
     bundles, check, install, layout_right, mask, read, rewrite, run, write, Command, Instr,
 };
-use hemdroas::names::{HIDDEN, REGISTERS};
+use hemdroas::names::{HIDDEN, REGISTERS, UNLIMITED};
 use hemdroas::{Answer, Ending, Layout, Machine, Refusal, RunAnswer};
 
 fn sandbox(low: u32, high: u32) -> Layout {
@@ -19,6 +19,7 @@ fn sandbox(low: u32, high: u32) -> Layout {
         states: 1,
         base: 0,
         landings: 32,
+        ceilings: UNLIMITED,
     }
 }
 
@@ -62,6 +63,7 @@ fn a_layout_is_right_up_to_each_of_its_bounds() {
         states: 1,
         base: 0,
         landings: 17,
+        ceilings: UNLIMITED,
     };
     assert!(layout_right(&right));
     let wrong = [
@@ -117,6 +119,11 @@ fn a_layout_is_right_up_to_each_of_its_bounds() {
     for base in [1, 65_532, 65_535, 65_536, 65_537, u32::MAX - 3, u32::MAX] {
         assert!(layout_right(&Layout { base, ..right }));
     }
+    // No ceiling does.
+    for ceiling in [0, 1, u32::MAX] {
+        let ceilings = [ceiling; 8];
+        assert!(layout_right(&Layout { ceilings, ..right }));
+    }
     // The largest of all.
     assert!(layout_right(&Layout {
         size: 4096,
@@ -127,6 +134,7 @@ fn a_layout_is_right_up_to_each_of_its_bounds() {
         states: 16,
         base: 0,
         landings: 257,
+        ceilings: UNLIMITED,
     }));
 }
 
