@@ -25,9 +25,9 @@ pub const LANDING_CELLS: u32 = 32;
 /// The bits of a cell.
 pub const CELL_BITS: u32 = 32;
 /// The registers that a guest's fields name are those below this one.
-pub const GUEST_REGISTERS: u32 = 8;
+pub const GUEST_REGISTERS: u32 = 15;
 /// The hidden register, which no guest field names.
-pub const HIDDEN: u32 = 8;
+pub const HIDDEN: u32 = 15;
 /// The registers of a machine, as an array's length.
 pub const REGISTERS: usize = HIDDEN as usize + 1;
 /// The greatest condition.

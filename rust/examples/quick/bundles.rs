@@ -2,8 +2,8 @@
 
 use super::layout::layout_right;
 use super::words::{
-    a, b, c, command, d, guest, instruction_refusal, kind, pack, v, A, B, C, D, GUEST_COMMAND_BITS,
-    HIDDEN, IN_RANGE_CONDITION, IN_RANGE_REGISTERS,
+    a, b, c, command, d, guest, instruction_refusal, is_command, kind, names_hidden, pack, v, A, B,
+    C, D, HIDDEN, IN_RANGE_CONDITION,
 };
 use hemdroas::names::{BUNDLE_LENGTH as BUNDLE, MOST_COMMANDS, MOST_INSTRUCTIONS};
 use hemdroas::{Answer, Layout, Refusal};
@@ -19,10 +19,10 @@ pub fn bundles(instructions: usize) -> usize {
 
 /// The constants that the bundles of one list have in common.
 struct Fences {
-    /// Bring register 8 into the sandbox: the first without its register a.
+    /// Bring the hidden register into the sandbox: the first without its register a.
     to_sandbox: [u64; 2],
-    /// Bring register 8, shifted, to the first command of a bundle: the first
-    /// without its register a.
+    /// Bring the hidden register, shifted, to the first command of a bundle: the
+    /// first without its register a.
     to_bundle: [u64; 3],
     base: u32,
     /// Commands in the list.
@@ -92,10 +92,11 @@ impl Fences {
         let &[first, second, third, fourth] = bundle;
         let kind = kind(first);
         let alone = second == NOP && third == NOP && fourth == NOP;
-        let plain = || first & !GUEST_COMMAND_BITS[kind as usize] == 0;
+        let plain = || is_command(first) && !names_hidden(first, D | A | B);
         // The same word but for guest registers and a condition in some fields.
         let like = |word: u64, fields: u64, same: u64| {
-            word & !(fields & (IN_RANGE_REGISTERS | IN_RANGE_CONDITION)) == same
+            word & !(fields & (D | A | B | IN_RANGE_CONDITION)) == same
+                && !names_hidden(word, fields)
         };
         match kind {
             command::HALT => *bundle == HALT_BUNDLE,

@@ -1,7 +1,7 @@
 //! Instruction and command words: kind in bits 0–7, d 8–11, a 12–15, b 16–19,
 //! c 20–23, zero 24–31, v 32–63.
 
-use hemdroas::names::GUEST_REGISTERS;
+use hemdroas::names::{GUEST_REGISTERS, REGISTERS};
 use hemdroas::Refusal;
 
 /// The register that no guest field names, as a field.
@@ -63,10 +63,8 @@ pub const V: u64 = 0xffff_ffff << 32;
 /// The bits of the kind.
 pub const KIND: u64 = 0xff;
 
-/// The bits of the registers r0 to r7, of conditions 0 to 3, of shifts 0 to 31
-/// and of events 0 to 15: in each field, the numbers in range are just those
-/// made of these bits.
-pub const IN_RANGE_REGISTERS: u64 = 0x7_7700;
+/// The bits of conditions 0 to 3, of shifts 0 to 31 and of events 0 to 15: in
+/// each field, the numbers in range are just those made of these bits.
 pub const IN_RANGE_CONDITION: u64 = 3 << 20;
 const IN_RANGE_SHIFT: u64 = 31 << 32;
 const IN_RANGE_EVENT: u64 = 15 << 32;
@@ -88,15 +86,16 @@ pub const GUEST_FIELDS: [u64; 13] = [
     KIND | V,
 ];
 
-// The masks of registers and the carry in is_command are made for these.
-const _: () = assert!(GUEST_REGISTERS == 8 && HIDDEN == 8);
+// A register field holds any register, and the hidden one when all its bits
+// stand.
+const _: () = assert!(GUEST_REGISTERS == 15 && HIDDEN == 15 && REGISTERS == 16);
 
-/// The bits that an instruction may have.
-pub const GUEST_BITS: [u64; 13] = {
+/// The bits that an instruction may have, the hidden register aside.
+const GUEST_BITS: [u64; 13] = {
     let mut bits = GUEST_FIELDS;
     let mut kind = 0;
     while kind < bits.len() {
-        bits[kind] &= KIND | IN_RANGE_REGISTERS | IN_RANGE_CONDITION | V;
+        bits[kind] &= !C | IN_RANGE_CONDITION;
         kind += 1;
     }
     bits[guest::SAR as usize] &= !V | IN_RANGE_SHIFT;
@@ -104,7 +103,7 @@ pub const GUEST_BITS: [u64; 13] = {
     bits
 };
 
-/// The bits that a command may have, its registers aside.
+/// The bits that a command may have.
 pub const COMMAND_BITS: [u64; 20] = [
     KIND,
     KIND,
@@ -127,17 +126,6 @@ pub const COMMAND_BITS: [u64; 20] = [
     KIND | D,
     KIND | IN_RANGE_EVENT,
 ];
-
-/// Those of [`COMMAND_BITS`] that a command over guest registers may have.
-pub const GUEST_COMMAND_BITS: [u64; 20] = {
-    let mut bits = COMMAND_BITS;
-    let mut kind = 0;
-    while kind < bits.len() {
-        bits[kind] &= !(D | A | B) | IN_RANGE_REGISTERS;
-        kind += 1;
-    }
-    bits
-};
 
 /// The kind of a word.
 pub fn kind(word: u64) -> u64 {
@@ -175,6 +163,13 @@ pub const fn pack(kind: u64, d: u64, a: u64, b: u64, c: u64, v: u32) -> u64 {
     kind | d << 8 | a << 12 | b << 16 | c << 20 | (v as u64) << 32
 }
 
+/// Whether one of the register fields `fields` of a word names the hidden
+/// register.
+pub fn names_hidden(word: u64, fields: u64) -> bool {
+    const LOWEST: u64 = 0x1_1100;
+    word & word >> 1 & word >> 2 & word >> 3 & LOWEST & fields != 0
+}
+
 /// Why a word is no instruction; the place of a landing is not looked at.
 pub fn instruction_refusal(word: u64) -> Option<Refusal> {
     let kind = kind(word) as usize;
@@ -182,7 +177,7 @@ pub fn instruction_refusal(word: u64) -> Option<Refusal> {
         Some(Refusal::UnknownKind)
     } else if word & !GUEST_FIELDS[kind] != 0 {
         Some(Refusal::Foreign)
-    } else if word & !GUEST_BITS[kind] != 0 {
+    } else if word & !GUEST_BITS[kind] != 0 || names_hidden(word, D | A | B) {
         Some(Refusal::OffRange)
     } else {
         None
@@ -191,11 +186,8 @@ pub fn instruction_refusal(word: u64) -> Option<Refusal> {
 
 /// Whether a word is a command.
 pub fn is_command(word: u64) -> bool {
-    let Some(bits) = COMMAND_BITS.get(kind(word) as usize) else {
-        return false;
-    };
-    // A register field is above 8 when its top bit stands with any other. The
-    // sum carries each field's lower bits up into its top bit, and no further.
-    let above = word & ((word & 0x7_7700) + 0x7_7700) & 0x8_8800;
-    word & !bits == 0 && above == 0
+    match COMMAND_BITS.get(kind(word) as usize) {
+        Some(bits) => word & !bits == 0,
+        None => false,
+    }
 }

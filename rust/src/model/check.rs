@@ -14,7 +14,8 @@ fn commands_of(words: &[u64]) -> Option<Bundle> {
 }
 
 /// 'Shapes, of words that are commands by the step rule below, with t = NOP and
-/// guest registers 0 to 7.' Each arm is one of them.
+/// guest registers 0 to 7.' Each arm is one of them; request [6]: guest
+/// registers are 0 to 14, and 'all shapes that named 8 now name 15'.
 #[rustfmt::skip]
 fn has_shape(layout: &Layout, bundles: usize, bundle: Bundle) -> bool {
     let guests = |registers: &[u32]| registers.iter().all(|&r| r < GUEST_REGISTERS);
@@ -28,19 +29,19 @@ fn has_shape(layout: &Layout, bundles: usize, bundle: Bundle) -> bool {
         [And { d, a, b }, Nop, Nop, Nop] => guests(&[d, a, b]),
         [Or { d, a, b }, Nop, Nop, Nop] => guests(&[d, a, b]),
         [Sar { d, a, v: _ }, Nop, Nop, Nop] => guests(&[d, a]),
-        // ANDI 8,a,SH; ORI 8,8,SL; LOAD d,8; t.
+        // ANDI 15,a,SH; ORI 15,15,SL; LOAD d,15; t.
         [AndI { d: HIDDEN, a, v: and }, OrI { d: HIDDEN, a: HIDDEN, v: or }, Load { d, a: HIDDEN }, Nop] =>
             guests(&[a, d]) && and == layout.high && or == layout.low,
-        // For STORE: the same two, STORE 8,b; t.
+        // For STORE: the same two, STORE 15,b; t.
         [AndI { d: HIDDEN, a, v: and }, OrI { d: HIDDEN, a: HIDDEN, v: or }, Store { a: HIDDEN, b }, Nop] =>
             guests(&[a, b]) && and == layout.high && or == layout.low,
         // GOIF, t t t, its address B + 4g' with g' < N.
         [GoIf { a, b, c: _, v }, Nop, Nop, Nop] =>
             guests(&[a, b]) && (0..bundles).any(|g| u64::from(v) == address(layout, g)),
-        // SHL 8,d,2; ANDI 8,8,PCH; ORI 8,8,PCL; GOXR through 8 with the guest's a, b, c.
+        // SHL 15,d,2; ANDI 15,15,PCH; ORI 15,15,PCL; GOXR through 15 with the guest's a, b, c.
         [Shl { d: HIDDEN, a: d, v: 2 }, AndI { d: HIDDEN, a: HIDDEN, v: and }, OrI { d: HIDDEN, a: HIDDEN, v: or }, GoReg { d: HIDDEN, a, b, c: _ }] =>
             guests(&[d, a, b]) && and == pch(layout, bundles) && or == pcl(layout),
-        // LOOK 8,n; STOPIF 8; KEEP 8; EVENT n, one n throughout.
+        // LOOK 15,n; STOPIF 15; KEEP 15; EVENT n, one n throughout.
         [Look { d: HIDDEN, v: look }, StopIf { d: HIDDEN }, Keep { d: HIDDEN }, Event { v: event }] =>
             look == event,
         _ => false,

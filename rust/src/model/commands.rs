@@ -93,7 +93,8 @@ impl Command {
     }
 
     /// 'Register above 8, c above 3, v above its kind's bound': 31 for SAR and
-    /// SHL, 15 for LOOK and EVENT.
+    /// SHL, 15 for LOOK and EVENT. Request [6]: no register of a word is above
+    /// 15, now the last.
     fn is_off_range(self) -> bool {
         let Fields { d, a, b, c, .. } = self.fields();
         let out_of_bound = match self {
@@ -108,8 +109,8 @@ impl Command {
             || out_of_bound
     }
 
-    /// 'A word that is no command (stray bit, kind above 19, register above 8,
-    /// c above 3, v above its kind's bound)' is none.
+    /// 'A word that is no command (stray bit, kind above 19, register above
+    /// 8', now 15, 'c above 3, v above its kind's bound)' is none.
     pub fn of_word(word: u64) -> Option<Command> {
         let fields = fields(word);
         let command = Command::of_kind(fields)?;

@@ -54,8 +54,8 @@ fn landing_cells(landings: &[u32]) -> [u32; LANDING_CELLS as usize] {
 }
 
 /// 'Installing writes the start state to M and the table to its cells, nothing
-/// else, and yields a machine record: nine registers 0, pc = B, running.' After
-/// a refusal: 'installing's record faulted'.
+/// else, and yields a machine record: nine registers 0, pc = B, running'; sixteen
+/// since request [6]. After a refusal: 'installing's record faulted'.
 pub fn install(
     layout: &Layout,
     policy: &Policy,

@@ -73,7 +73,8 @@ impl Instr {
         word(self.fields())
     }
 
-    /// '4: register above 7, c above 3, SAR v above 31, EVENT v above 15.'
+    /// '4: register above 7, c above 3, SAR v above 31, EVENT v above 15'; request
+    /// [6]: '4 begins at register 15'.
     fn is_off_range(self) -> bool {
         let Fields { d, a, b, c, .. } = self.fields();
         let out_of_bound = match self {

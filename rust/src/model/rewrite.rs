@@ -9,7 +9,7 @@ use crate::names::{BUNDLE_LENGTH, HIDDEN};
 use crate::{Answer, Layout, Refusal};
 
 /// 'ANDI 8,a,SH; ORI 8,8,SL; LOAD d,8; t. For STORE: the same two, STORE 8,b;
-/// t.'
+/// t'; request [6]: 'all shapes that named 8 now name 15'.
 fn masked(layout: &Layout, a: u32, access: Command) -> Bundle {
     [
         Command::AndI {
@@ -47,14 +47,14 @@ fn bundle(layout: &Layout, bundles: usize, instr: Instr) -> Bundle {
             let v = address(layout, v as usize) as u32;
             alone(Command::GoIf { a, b, c, v })
         }
-        // 'SHL 8,d,2; ANDI 8,8,PCH; ORI 8,8,PCL; GOXR through 8 with the guest's a, b, c'
+        // SHL 15,d,2; ANDI 15,15,PCH; ORI 15,15,PCL; GOXR through 15 with the guest's a, b, c
         Instr::GoX { d, a, b, c } => [
             Command::Shl { d: HIDDEN, a: d, v: 2 },
             Command::AndI { d: HIDDEN, a: HIDDEN, v: pch(layout, bundles) },
             Command::OrI { d: HIDDEN, a: HIDDEN, v: pcl(layout) },
             Command::GoReg { d: HIDDEN, a, b, c },
         ],
-        // 'LOOK 8,n; STOPIF 8; KEEP 8; EVENT n, one n throughout'
+        // LOOK 15,n; STOPIF 15; KEEP 15; EVENT n, one n throughout
         Instr::Event { v } => [
             Command::Look { d: HIDDEN, v },
             Command::StopIf { d: HIDDEN },

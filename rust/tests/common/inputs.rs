@@ -268,13 +268,18 @@ pub fn number(rng: &mut Rng, layout: &Layout) -> u32 {
     }
 }
 
-/// Fields of a kind with registers below `registers`.
+/// Fields of a kind with registers below `registers`, more often the first of
+/// them, so that what one instruction leaves is what another finds.
 fn some_fields(rng: &mut Rng, kind: u32, registers: u32, v: u32) -> Fields {
+    let mut register = || match rng.below(3) {
+        0 => rng.under(registers),
+        _ => rng.under(5),
+    };
     Fields {
         kind,
-        d: rng.under(registers),
-        a: rng.under(registers),
-        b: rng.under(registers),
+        d: register(),
+        a: register(),
+        b: register(),
         c: rng.under(4),
         zero: 0,
         v,
