@@ -80,8 +80,8 @@ impl Fences {
             guest::EVENT => [
                 pack(command::LOOK, HIDDEN, 0, 0, 0, v),
                 STOP,
-                KEEP,
                 pack(command::EVENT, 0, 0, 0, 0, v),
+                KEEP,
             ],
             _ => unreachable!("no instruction has kind {kind}"),
         }
@@ -123,8 +123,8 @@ impl Fences {
                 event <= 15
                     && first == pack(command::LOOK, HIDDEN, 0, 0, 0, event)
                     && second == STOP
-                    && third == KEEP
-                    && fourth == pack(command::EVENT, 0, 0, 0, 0, event)
+                    && third == pack(command::EVENT, 0, 0, 0, 0, event)
+                    && fourth == KEEP
             }
             _ => false,
         }

@@ -15,7 +15,8 @@ fn commands_of(words: &[u64]) -> Option<Bundle> {
 
 /// 'Shapes, of words that are commands by the step rule below, with t = NOP and
 /// guest registers 0 to 7.' Each arm is one of them; request [6]: guest
-/// registers are 0 to 14, and 'all shapes that named 8 now name 15'.
+/// registers are 0 to 14, and 'all shapes that named 8 now name 15'; request
+/// [12]: 'the event bundle becomes LOOK, STOPIF, EVENT, KEEP'.
 #[rustfmt::skip]
 fn has_shape(layout: &Layout, bundles: usize, bundle: Bundle) -> bool {
     let guests = |registers: &[u32]| registers.iter().all(|&r| r < GUEST_REGISTERS);
@@ -41,8 +42,8 @@ fn has_shape(layout: &Layout, bundles: usize, bundle: Bundle) -> bool {
         // SHL 15,d,2; ANDI 15,15,PCH; ORI 15,15,PCL; GOXR through 15 with the guest's a, b, c.
         [Shl { d: HIDDEN, a: d, v: 2 }, AndI { d: HIDDEN, a: HIDDEN, v: and }, OrI { d: HIDDEN, a: HIDDEN, v: or }, GoReg { d: HIDDEN, a, b, c: _ }] =>
             guests(&[d, a, b]) && and == pch(layout, bundles) && or == pcl(layout),
-        // LOOK 15,n; STOPIF 15; KEEP 15; EVENT n, one n throughout.
-        [Look { d: HIDDEN, v: look }, StopIf { d: HIDDEN }, Keep { d: HIDDEN }, Event { v: event }] =>
+        // LOOK 15,n; STOPIF 15; EVENT n; KEEP 15, one n throughout.
+        [Look { d: HIDDEN, v: look }, StopIf { d: HIDDEN }, Event { v: event }, Keep { d: HIDDEN }] =>
             look == event,
         _ => false,
     }

@@ -54,12 +54,12 @@ fn bundle(layout: &Layout, bundles: usize, instr: Instr) -> Bundle {
             Command::OrI { d: HIDDEN, a: HIDDEN, v: pcl(layout) },
             Command::GoReg { d: HIDDEN, a, b, c },
         ],
-        // LOOK 15,n; STOPIF 15; KEEP 15; EVENT n, one n throughout
+        // Request [12]: 'the event bundle becomes LOOK, STOPIF, EVENT, KEEP'
         Instr::Event { v } => [
             Command::Look { d: HIDDEN, v },
             Command::StopIf { d: HIDDEN },
-            Command::Keep { d: HIDDEN },
             Command::Event { v },
+            Command::Keep { d: HIDDEN },
         ],
     }
 }

@@ -608,8 +608,8 @@ pub fn shaped_bundle(rng: &mut Rng, layout: &Layout, bundles: usize) -> [u64; BU
         _ => [
             Look { d: HIDDEN, v: event },
             StopIf { d: HIDDEN },
-            Keep { d: HIDDEN },
             Event { v: event },
+            Keep { d: HIDDEN },
         ],
     };
     bundle.map(Command::word)

@@ -1,45 +1,49 @@
-//! Lists written before request [6], with register 8 hidden: 'the checker
-//! refuses lists written before, with 11, whenever they hold a LOAD, STORE, GOX
-//! or EVENT bundle'.
+//! Lists written before. Request [6]: those that hide register 8 are refused
+//! 'with 11, whenever they hold a LOAD, STORE, GOX or EVENT bundle'; request
+//! [12]: 'lists in the old order that contain an event are refused with 11'.
 
 use crate::check::check;
 use crate::common::inputs::{layout_and_routine, rewritten};
-use crate::common::{cases, Tally};
+use crate::common::{cases, Rng, Tally};
 use hemdroas::model::words::{fields, word, Fields};
-use hemdroas::model::Instr;
-use hemdroas::names::HIDDEN;
-use hemdroas::{Answer, Refusal};
+use hemdroas::model::{Command, Instr};
+use hemdroas::names::{BUNDLE_LENGTH, HIDDEN};
+use hemdroas::{Answer, Layout, Refusal};
 
 /// The register that was hidden before.
 const HIDDEN_BEFORE: u32 = 8;
 
-/// An instruction over the registers that guests had before.
-fn over_old_registers(instruction: u64) -> u64 {
-    let old = fields(instruction);
+/// A word with each register by another name.
+fn renamed(old: u64, name: fn(u32) -> u32) -> u64 {
+    let old = fields(old);
     word(Fields {
-        d: old.d % HIDDEN_BEFORE,
-        a: old.a % HIDDEN_BEFORE,
-        b: old.b % HIDDEN_BEFORE,
+        d: name(old.d),
+        a: name(old.a),
+        b: name(old.b),
         ..old
     })
 }
 
-/// A command with register 8 where the hidden one is.
-fn hiding_register_8(command: u64) -> u64 {
-    let renamed = |register: u32| match register {
-        HIDDEN => HIDDEN_BEFORE,
-        guest => guest,
-    };
-    let now = fields(command);
-    word(Fields {
-        d: renamed(now.d),
-        a: renamed(now.a),
-        b: renamed(now.b),
-        ..now
-    })
+/// A list with register 8 where the hidden one is.
+fn hide_register_8(list: &mut [u64]) {
+    for command in list {
+        *command = renamed(*command, |register| match register {
+            HIDDEN => HIDDEN_BEFORE,
+            guest => guest,
+        });
+    }
 }
 
-/// How the tally calls a bundle that named the hidden register.
+/// A list with KEEP before EVENT.
+fn keep_before_event(list: &mut [u64]) {
+    for bundle in list.chunks_exact_mut(BUNDLE_LENGTH) {
+        if matches!(Command::of_word(bundle[2]), Some(Command::Event { .. })) {
+            bundle.swap(2, 3);
+        }
+    }
+}
+
+/// What the tally calls a bundle that names the hidden register.
 fn hides(instruction: u64) -> Option<&'static str> {
     match Instr::of_kind(fields(instruction))? {
         Instr::Load { .. } => Some("refused at a LOAD"),
@@ -50,34 +54,76 @@ fn hides(instruction: u64) -> Option<&'static str> {
     }
 }
 
-#[test]
-fn lists_that_hide_register_8() {
-    let (mut tally, mut rng) = Tally::new("lists that hide register 8", 27);
-    for _ in 0..cases(6_000) {
-        let (layout, mut words) = layout_and_routine(&mut rng);
-        // Some without any of the four.
-        let bare = rng.chance(30);
-        for instruction in &mut words {
-            *instruction = if bare && hides(*instruction).is_some() {
-                Instr::Move { d: 7, a: 0 }.word()
-            } else {
-                over_old_registers(*instruction)
-            };
+/// The same of one that has an order.
+fn is_ordered(instruction: u64) -> Option<&'static str> {
+    match Instr::of_kind(fields(instruction))? {
+        Instr::Event { .. } => hides(instruction),
+        _ => None,
+    }
+}
+
+/// A routine over the registers that guests had before; `bare` ones have
+/// nothing that was written otherwise.
+fn old_routine(rng: &mut Rng, bare: bool) -> (Layout, Vec<u64>) {
+    let (layout, mut words) = layout_and_routine(rng);
+    for instruction in &mut words {
+        *instruction = if bare && hides(*instruction).is_some() {
+            Instr::Move { d: 7, a: 0 }.word()
+        } else {
+            renamed(*instruction, |register| register % HIDDEN_BEFORE)
+        };
+    }
+    (layout, words)
+}
+
+/// Checks lists as they were, of which those that hold a bundle `written`
+/// otherwise are refused at the first such.
+fn old_lists(
+    part: &'static str,
+    own: u64,
+    make_old: &[fn(&mut [u64])],
+    written: fn(u64) -> Option<&'static str>,
+) {
+    let (mut tally, mut rng) = Tally::new(part, own);
+    for _ in 0..cases(5_000) {
+        let bare = rng.chance(20);
+        let (layout, words) = old_routine(&mut rng, bare);
+        let mut list = rewritten(&layout, &words);
+        assert_eq!(check(&mut tally, &layout, &list), Answer::Taken(0));
+        for make_old in make_old {
+            make_old(&mut list);
         }
-        let now = rewritten(&layout, &words);
-        assert_eq!(check(&mut tally, &layout, &now), Answer::Taken(0));
-        let old: Vec<u64> = now.into_iter().map(hiding_register_8).collect();
-        let expected = match words.iter().position(|&word| hides(word).is_some()) {
-            Some(place) => {
-                tally.note(hides(words[place]).expect("the place of one"), 1);
+        let mut others = words.iter().map(|&word| written(word)).enumerate();
+        let expected = match others.find_map(|(place, what)| Some((place, what?))) {
+            Some((place, what)) => {
+                tally.note(what, 1);
                 Answer::refused(Refusal::BadBundle, place)
             }
             None => {
-                tally.note("passed, for none of the four is in them", 1);
+                tally.note("passed", 1);
                 Answer::Taken(0)
             }
         };
-        assert_eq!(check(&mut tally, &layout, &old), expected, "{old:x?}");
+        let answer = check(&mut tally, &layout, &list);
+        assert_eq!(answer, expected, "{list:x?}, rewritten {words:x?}");
     }
     tally.conclude(&[("check", &[0, 11])]);
+}
+
+#[test]
+fn lists_that_hide_register_8() {
+    let make_old: [fn(&mut [u64]); 1] = [hide_register_8];
+    old_lists("lists that hide register 8", 27, &make_old, hides);
+}
+
+#[test]
+fn lists_that_keep_before_the_event() {
+    let make_old: [fn(&mut [u64]); 1] = [keep_before_event];
+    old_lists("lists in the old order", 28, &make_old, is_ordered);
+}
+
+#[test]
+fn lists_that_do_both() {
+    let make_old: [fn(&mut [u64]); 2] = [keep_before_event, hide_register_8];
+    old_lists("lists of before both", 29, &make_old, hides);
 }

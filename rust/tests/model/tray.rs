@@ -260,7 +260,7 @@ fn a_silent_probe_is_reported_before_a_full_log() {
     ] {
         let words = [Instr::Event { v: event }];
         let (_, _, answer) = perform(&sandbox(256, 511), &words, &[], 100);
-        assert_eq!((answer.ending, answer.steps), (ending, 3));
+        assert_eq!((answer.ending, answer.steps), (ending, 2));
     }
 }
 
