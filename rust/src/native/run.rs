@@ -29,8 +29,8 @@ pub fn run(
     answer
 }
 
-/// [`run`] on a record of the C interface, whose status may be any number:
-/// one above all counts as faulted and comes back as 3, unless the run is refused.
+/// [`run`] on a record of the C interface, whose status may be any number: one
+/// above all counts as faulted and comes back as it was.
 pub fn run_record(
     layout: &Layout,
     commands: &[u64],

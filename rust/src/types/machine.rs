@@ -1,6 +1,6 @@
 //! Machines.
 
-use super::answers::{Ending, RunAnswer};
+use super::answers::RunAnswer;
 use crate::names::REGISTERS;
 
 /// What a machine is doing.
@@ -103,11 +103,12 @@ impl Record {
     }
 
     /// Runs the machine that this record stands for, and keeps what becomes of
-    /// it: a status above all comes back as faulted, unless the run is refused.
+    /// it. One that is not running stays as it is, with a status above all too.
     pub fn run(&mut self, run: impl FnOnce(&mut Machine) -> RunAnswer) -> RunAnswer {
         let mut machine = self.to_machine();
+        let is_running = machine.status == Status::Running;
         let answer = run(&mut machine);
-        if answer.ending != Ending::Refused {
+        if is_running {
             *self = machine.to_record();
         }
         answer

@@ -10,7 +10,7 @@ use crate::install::install;
 use crate::quick;
 use hemdroas::model::{self, Command};
 use hemdroas::names::{EVENTS, MOST_CELLS, REGISTERS};
-use hemdroas::{native, Answer, Ending, Layout, Machine, Record, RunAnswer};
+use hemdroas::{native, Answer, Ending, Layout, Machine, Record, RunAnswer, Status};
 
 const NUMBERS: [u32; 8] = [7, 20, 21, 22, 23, 24, 25, 26];
 
@@ -21,6 +21,8 @@ pub struct Lent {
     pub memory: Vec<u32>,
     pub log: Vec<u32>,
 }
+
+const ABOVE: &str = "run and preview of a status above 4";
 
 type Run = fn(&Layout, &[u64], &mut Machine, &mut [u32], u32, &[u32], &mut [u32]) -> RunAnswer;
 
@@ -80,6 +82,12 @@ pub fn run(
     assert_eq!(seen.memory, lent.memory, "a preview keeps the memory");
 
     let number = answer.ending.number();
+    if lent.record.0[Record::STATUS] > Status::Strayed.number() {
+        // It counts as faulted, and comes back as it was.
+        let zeros = (answer.steps, answer.pairs, answer.readings);
+        assert_eq!((&left, zeros), (&*lent, (0, 0, 0)), "{}", input());
+        tally.count(ABOVE, number);
+    }
     tally.count("run", number);
     tally.count("preview", number);
     tally.add("steps", u64::from(answer.steps));
@@ -259,8 +267,6 @@ fn hand_made_runs(tally: &mut Tally, rng: &mut Rng) {
             memory[layout.cell as usize] = rng.under(layout.states + 1);
         }
         let record = hand_made_record(rng, &layout, list.len());
-        let above = record.0[Record::STATUS] > 4;
-        tally.note("records with a status above 4", u64::from(above));
         match rng.below(30) {
             0 => layout = altered_layout(rng, &layout),
             1 => {
@@ -350,7 +356,8 @@ fn running() {
     each_look(&mut tally, &mut rng);
     hand_made_runs(&mut tally, &mut rng);
     long_memories(&mut tally, &mut rng);
-    tally.conclude(&[("run", &NUMBERS), ("preview", &NUMBERS)]);
+    let above = (ABOVE, &[7, 22][..]);
+    tally.conclude(&[("run", &NUMBERS), ("preview", &NUMBERS), above]);
 }
 
 #[test]
