@@ -10,7 +10,7 @@
 #include <string.h>
 #include <time.h>
 
-enum { REGISTERS = 8, RECORD = REGISTERS + 2, MACHINE = REGISTERS + 3 };
+enum { REGISTERS = 15, RECORD = REGISTERS + 2, MACHINE = REGISTERS + 3 };
 
 typedef void Run(const uint32_t layout[16], const uint64_t *, size_t, uint32_t engine[RECORD], uint32_t *, size_t, uint32_t,
                  const uint32_t *, size_t, uint32_t *, size_t, uint32_t answer[5]);

@@ -4,14 +4,13 @@
 set -euo pipefail
 cd "$(dirname "$0")/.."
 rt staticlib capi > /dev/null
-rt staticlib capi_engine > /dev/null
 mkdir -p target/bench
 for o in O2 O3; do gcc -$o -DRUN=run_$o -c bench/machine.c -o target/bench/machine_$o.o; done
 gcc -O2 -Wall -Wextra -Iinclude bench/main.c target/bench/machine_O2.o target/bench/machine_O3.o target/staticlib/libcapi.a -o target/bench/bench
 for o in O2 O3; do gcc -$o -DRUN=engine_$o -c bench/engine.c -o target/bench/engine_$o.o; done
 rustc -O -C panic=abort bench/engine.rs -o target/bench/libengine_rust.a
 gcc -O2 -Wall -Wextra -Iinclude bench/engines.c target/bench/engine_O2.o target/bench/engine_O3.o target/bench/libengine_rust.a \
-    target/staticlib/libcapi_engine.a target/staticlib/libcapi.a -lpthread -ldl -lm -o target/bench/engines
+    target/staticlib/libcapi.a -lpthread -ldl -lm -o target/bench/engines
 target/bench/bench "$@"
 target/bench/engines "$@"
 if command -v lua5.4 > /dev/null; then lua5.4 bench/turn.lua; fi

@@ -156,7 +156,7 @@ void hemdroas_preview(const uint32_t layout[16], const uint64_t *commands, size_
  * that hemdroas_install or hemdroas_load left in memory. Words are judged once,
  * before the first instruction. Log and readings are as for hemdroas_run.
  *
- * engine[10]: r0 to r7, the index of the next instruction, status. At first all
+ * engine[17]: r0 to r14, the index of the next instruction, status. At first all
  * zeros. Status is as in machine; a record that is not running comes back as it
  * was, with any number above 4 too.
  *
@@ -165,7 +165,7 @@ void hemdroas_preview(const uint32_t layout[16], const uint64_t *commands, size_
  * it, 7, 5, then for the first word at fault 3, 2, 4 or 8 with its place, and
  * three zeros; a refusal changes nothing. A run of budget 1 shows one
  * instruction. */
-void hemdroas_engine (const uint32_t layout[16], const uint64_t *words, size_t n, uint32_t engine[10], uint32_t *memory, size_t cells,
+void hemdroas_engine (const uint32_t layout[16], const uint64_t *words, size_t n, uint32_t engine[17], uint32_t *memory, size_t cells,
                       uint32_t budget, const uint32_t *readings, size_t r, uint32_t *log, size_t g, uint32_t answer[5]);
 
 /* Makes the policy of a list of n / 2 pairs of events, pairs[2 * i] before

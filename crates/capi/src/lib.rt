@@ -21,6 +21,7 @@ ghost use Rattle.befores.specs.Befores.{makeOf, makeTable};
 ghost use Rattle.forward.specs.Forward.{forwardAnswer, checkForwardAnswer};
 ghost use Rattle.policy_determinise.specs.Drawings.{drawingOf, determiniseOf, determiniseTable};
 ghost use Rattle.policy_merge.specs.Pairs.{mergeTable};
+ghost use Rattle.capi_engine.specs.Records.{runFor as engineFor, recordAfter as engineAfter, answerTo as engineAnswerTo};
 ghost use Rattle.capi_policies.specs.Numbers.{madeTo as policyTo, policyFrom, mergeFor, mergedTo};
 ghost use Rattle.capi.specs.Hosts.{runFor, yesOrNo, madeTo};
 
@@ -233,6 +234,26 @@ pub extern "C" fn hemdroas_preview(
     let out = preview::preview(lay, commands, m, memory, budget, readings, log);
     *after = record_after(out.machine, given);
     *answer = run_answer_of(out.answer);
+}
+
+// Runs guest words as they are written.
+#[no_mangle]
+pub extern "C" fn hemdroas_engine(
+    layout: &[u32; 16],
+    words: &[u64],
+    engine: &mut [u32; capi_engine::RECORD],
+    memory: &mut [u32],
+    budget: u32,
+    readings: &[u32],
+    log: &mut [u32],
+    answer: &mut [u32; 5],
+)
+    ensures answer { λ _. ⌜ now (answer .exit) ≡ engineAnswerTo (engineFor (now (layout .entry)) (now (words .entry)) (now (engine .entry)) (now (memory .entry)) budget (now (readings .entry)) (now (log .entry)) .outcome) ⌝ }
+    ensures engine { λ _. ⌜ now (engine .exit) ≡ engineAfter (now (engine .entry)) (engineFor (now (layout .entry)) (now (words .entry)) (now (engine .entry)) (now (memory .entry)) budget (now (readings .entry)) (now (log .entry)) .outcome .engine) ⌝ }
+    ensures memory { λ _. ⌜ now (memory .exit) ≡ engineFor (now (layout .entry)) (now (words .entry)) (now (engine .entry)) (now (memory .entry)) budget (now (readings .entry)) (now (log .entry)) .mem ⌝ }
+    ensures log { λ _. ⌜ now (log .exit) ≡ engineFor (now (layout .entry)) (now (words .entry)) (now (engine .entry)) (now (memory .entry)) budget (now (readings .entry)) (now (log .entry)) .log ⌝ }
+{
+    capi_engine::run(layout, words, engine, memory, budget, readings, log, answer);
 }
 
 // Makes the policy of pairs of events, each first before its second.

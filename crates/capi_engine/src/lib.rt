@@ -1,4 +1,4 @@
-// The engine for a C host: its record and answer as numbers.
+// The engine over a C host's numbers, for the C interface: record and answer as arrays of u32.
 use engine_rules::Engine;
 use hosts::layout_of;
 use hosts::status_number;
@@ -14,7 +14,7 @@ const INDEX: usize = Engine::REGISTERS;
 
 const STATUS: usize = Engine::REGISTERS + 1;
 
-const RECORD: usize = Engine::REGISTERS + 2;
+pub const RECORD: usize = Engine::REGISTERS + 2;
 
 // A record's engine.
 fn engine_of(xs: [u32; RECORD]) -> Engine
@@ -98,8 +98,7 @@ fn answer_of(a: Answer, steps: u32, pairs: usize, used: usize) -> [u32; 5]
 }
 
 // Runs guest words as they are written.
-#[no_mangle]
-pub extern "C" fn hemdroas_engine(
+pub fn run(
     layout: &[u32; 16],
     words: &[u64],
     engine: &mut [u32; RECORD],

@@ -1,8 +1,8 @@
 use denote.Ref.{now}
 use Rattle.capi_engine.proofs.Hosting.{narrow, left}
 use borrow.Author.Needs.{needs}
-use Rattle.capi_engine.proofs.hemdroas_engine.Statement.{statement}
-use Rattle.capi_engine.proofs.hemdroas_engine.Tie as tie
+use Rattle.capi_engine.proofs.run.Statement.{statement}
+use Rattle.capi_engine.proofs.run.Tie as tie
 
 answer-of-requires : tie.Need-answer-of-requires
 answer-of-requires c κs =
@@ -18,8 +18,8 @@ returns c =
     let s = l .before .before .before .before .before in
     left _ (now (s .args .engine)) _ _ _ _ _ _ _ _ _ _ (l .layout-of .ensures) (m .engine-of .ensures) (v .run .ensures) _ _ (c .before .record-after .ensures) (c .answer-of .ensures)
 
-pub hemdroas-engine-spec : {M : Type 1} → statement M
-hemdroas-engine-spec =
+pub run-spec : {M : Type 1} → statement M
+run-spec =
     tie.close
     (tie.spec
     (λ c κs. search needs)
