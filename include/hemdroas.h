@@ -178,7 +178,7 @@ void hemdroas_engine (const uint32_t layout[16], const uint64_t *words, size_t n
  * written, its states, and a map of the events that no allowed list holds: bit
  * e is set for event e, as where pairs make a ring. A refusal, 17 before 9, has
  * three zeros behind it. */
-void hemdroas_befores(const uint8_t *pairs, size_t n, uint8_t *table, size_t room, uint32_t made[4]);
+void hemdroas_precedence(const uint8_t *pairs, size_t n, uint8_t *table, size_t room, uint32_t made[4]);
 
 /* Makes the policy of a drawing in which a state may have several arrows for
  * one event, and of which several states may be starts. Bit s of starts is set

@@ -15,12 +15,12 @@ use Rattle.rules.specs.Policies.{Policy}
 use Rattle.rules.specs.Bundles.{rewriteAnswer, rewriteOutput, checkAnswer}
 use Rattle.rules.specs.Machines.{fits, installAnswer, installMachine, installMemory, installOf, Ran, ranOf, runOf}
 use Rattle.rules.specs.Loading.{loadAnswer, loadCommands, loadMemory, loadMachine, loadOf}
-use Rattle.hosts.specs.Numbers.{layoutFrom, machineFrom, machineTo, answerTo, runAnswerTo, statusKnown, recordAfter}
+use Rattle.capi_numbers.specs.Numbers.{layoutFrom, machineFrom, machineTo, answerTo, runAnswerTo, statusKnown, recordAfter}
 use Rattle.rules.proofs.Counts.{Bounded, RunCounts, run-counts}
-use Rattle.preview.proofs.Laws.{Previewed}
-use Rattle.befores.specs.declared.Made.{Made}
-use Rattle.befores.specs.Befores.{makeOf}
-use Rattle.befores.proofs.Policies.{place-most}
+use Rattle.machine_preview.proofs.Laws.{Previewed}
+use Rattle.policy_precedence.specs.declared.Made.{Made}
+use Rattle.policy_precedence.specs.Precedence.{makeOf}
+use Rattle.policy_precedence.proofs.Policies.{place-most}
 use Rattle.forward.specs.Forward.{forwardAnswer, checkForwardAnswer}
 use Rattle.forward.proofs.Places.{forward-bound, check-forward-bound}
 use Rattle.capi.specs.Hosts.{runFor}

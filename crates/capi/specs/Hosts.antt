@@ -3,8 +3,8 @@ use Prim.Native.Nat.{ℕ}
 use mathlib.Core.Bool.{Bool, true, false}
 use mathlib.Core.List.{List, [], _∷_}
 use Rattle.rules.specs.Machines.{Ran, runOf}
-use Rattle.hosts.specs.Numbers.{layoutFrom, machineFrom}
-use Rattle.befores.specs.declared.Made.{Made}
+use Rattle.capi_numbers.specs.Numbers.{layoutFrom, machineFrom}
+use Rattle.policy_precedence.specs.declared.Made.{Made}
 
 -- a run for the numbers of layout and record
 abbrev pub runFor : List ℕ → List ℕ → List ℕ → List ℕ → ℕ → List ℕ → List ℕ → Ran

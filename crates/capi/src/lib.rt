@@ -1,10 +1,10 @@
 // The C interface: the sandbox's parts over numbers, arrays and slices.
-use befores::Made;
-use hosts::RECORD;
-use hosts::layout_of;
-use hosts::machine_of;
-use hosts::record_after;
-use hosts::record_of;
+use capi_numbers::RECORD;
+use capi_numbers::layout_of;
+use capi_numbers::machine_of;
+use capi_numbers::record_after;
+use capi_numbers::record_of;
+use policy_precedence::Made;
 use rules::Answer;
 use rules::Policy;
 use rules::RunAnswer;
@@ -16,8 +16,8 @@ ghost use Rattle.rules.specs.Bytes.{readAnswer, readOutput, writeAnswer, writeO
 ghost use Rattle.rules.specs.Bundles.{rewriteAnswer, rewriteOutput, checkAnswer};
 ghost use Rattle.rules.specs.Machines.{installAnswer, installMachine, installMemory};
 ghost use Rattle.rules.specs.Loading.{loadAnswer, loadMachine, loadCommands, loadMemory};
-ghost use Rattle.hosts.specs.Numbers.{layoutFrom, machineTo, answerTo, runAnswerTo, recordAfter};
-ghost use Rattle.befores.specs.Befores.{makeOf, makeTable};
+ghost use Rattle.capi_numbers.specs.Numbers.{layoutFrom, machineTo, answerTo, runAnswerTo, recordAfter};
+ghost use Rattle.policy_precedence.specs.Precedence.{makeOf, makeTable};
 ghost use Rattle.forward.specs.Forward.{forwardAnswer, checkForwardAnswer};
 ghost use Rattle.policy_determinise.specs.Drawings.{drawingOf, determiniseOf, determiniseTable};
 ghost use Rattle.policy_merge.specs.Pairs.{mergeTable};
@@ -231,7 +231,7 @@ pub extern "C" fn hemdroas_preview(
     let lay = layout_of(layout);
     let given = *machine;
     let m = machine_of(given);
-    let out = preview::preview(lay, commands, m, memory, budget, readings, log);
+    let out = machine_preview::preview(lay, commands, m, memory, budget, readings, log);
     *after = record_after(out.machine, given);
     *answer = run_answer_of(out.answer);
 }
@@ -258,11 +258,11 @@ pub extern "C" fn hemdroas_engine(
 
 // Makes the policy of pairs of events, each first before its second.
 #[no_mangle]
-pub extern "C" fn hemdroas_befores(pairs: &[u8], table: &mut [u8], made: &mut [u32; 4])
+pub extern "C" fn hemdroas_precedence(pairs: &[u8], table: &mut [u8], made: &mut [u32; 4])
     ensures made { λ _. ⌜ now (made .exit) ≡ madeTo (makeOf (now (pairs .entry)) (length (now (table .entry)))) ⌝ }
     ensures table { λ _. ⌜ now (table .exit) ≡ makeTable (now (pairs .entry)) (now (table .entry)) ⌝ }
 {
-    *made = made_of(befores::make(pairs, table));
+    *made = made_of(policy_precedence::make(pairs, table));
 }
 
 // Makes the policy of a drawing with several arrows and starts.

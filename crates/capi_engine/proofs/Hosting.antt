@@ -11,8 +11,8 @@ use Rattle.rules.specs.declared.Layout.{Layout}
 use Rattle.rules.specs.declared.Answer.{Answer}
 use Rattle.rules.specs.declared.Status.{Status}
 use Rattle.rules.specs.Names.{guestRegisters}
-use Rattle.hosts.specs.Numbers.{numbersFrom, layoutFrom, statusFrom, statusNumber}
-use Rattle.hosts.proofs.Numbers.{spelt}
+use Rattle.capi_numbers.specs.Numbers.{numbersFrom, layoutFrom, statusFrom, statusNumber}
+use Rattle.capi_numbers.proofs.Numbers.{spelt}
 use Rattle.engine_rules.specs.declared.Engine.{Engine}
 use Rattle.engine_rules.specs.declared.EngineOutcome.{EngineOutcome}
 use Rattle.engine_rules.specs.Engines.{engineOf, Ran, ranOf, outcomeOf, runOf, refusalOf}

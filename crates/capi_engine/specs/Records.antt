@@ -5,7 +5,7 @@ use mathlib.Core.List.{List, [], _∷_, _++_}
 use lib.ListN.{getD, take}
 use lib.Dec.{eqb}
 use Rattle.rules.specs.Names.{guestRegisters}
-use Rattle.hosts.specs.Numbers.{layoutFrom, statusFrom, statusNumber}
+use Rattle.capi_numbers.specs.Numbers.{layoutFrom, statusFrom, statusNumber}
 use Rattle.engine_rules.specs.declared.Engine.{Engine}
 use Rattle.engine_rules.specs.declared.EngineOutcome.{EngineOutcome}
 use Rattle.engine_rules.specs.Engines.{engineOf, Ran, runOf}

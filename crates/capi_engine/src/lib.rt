@@ -1,8 +1,8 @@
 // The engine over a C host's numbers, for the C interface: record and answer as arrays of u32.
+use capi_numbers::layout_of;
+use capi_numbers::status_number;
+use capi_numbers::status_of;
 use engine_rules::Engine;
-use hosts::layout_of;
-use hosts::status_number;
-use hosts::status_of;
 use rules::Answer;
 ghost use mathlib.Core.Path.{_≡_};
 ghost use mathlib.Core.List.{[], _∷_};

@@ -18,7 +18,7 @@ fn passes(l: Layout, n: usize, commands: &[u64], h: usize) -> bool
     ensures { λ r. ⌜ r ≡ passesAt l n (now (commands .entry)) h ⌝ }
 {
     let at = Bundle::LENGTH * h;
-    shapes::passes_words(
+    checker_shapes::passes_words(
         l,
         n,
         commands[at],

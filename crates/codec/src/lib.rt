@@ -1,3 +1,3 @@
 // A routine's bytes: reading them into words, and writing words in them.
-pub use reader::read;
-pub use writer::write;
+pub use codec_read::read;
+pub use codec_write::write;

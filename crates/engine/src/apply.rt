@@ -24,8 +24,8 @@ fn put(regs: &mut [u32; Engine::REGISTERS], i: usize, x: u32)
 fn keep(layout: Layout, v: u32, memory: &mut [u32])
     ensures { λ _. ⌜ now (memory .exit) ≡ set (now (memory .entry)) (layout .cell) (entryAt layout (now (memory .entry)) v) ⌝ }
 {
-    let x = cells::peek(memory, engine_acts::entry(layout, v, memory));
-    cells::poke(memory, layout.cell as usize, x);
+    let x = words_arith::peek(memory, engine_acts::entry(layout, v, memory));
+    words_arith::poke(memory, layout.cell as usize, x);
 }
 
 fn onward(mut at: Point) -> Point
@@ -74,9 +74,9 @@ fn probe(v: u32, regs: &mut [u32; Engine::REGISTERS], at: Point, readings: &[u32
     requires { ⌜ (at .pairs < 2 ^ 62) × (length (now regs) ≡ guestRegisters) ⌝ }
     ensures { λ _. ⌜ (now (regs .exit) ≡ set (now (regs .entry)) 0 (getD (now (readings .entry)) (at .used) 0)) × (now (log .exit) ≡ withPair (now (log .entry)) (at .pairs) v (getD (now (readings .entry)) (at .used) 0)) ⌝ }
 {
-    let x = cells::peek(readings, at.used);
+    let x = words_arith::peek(readings, at.used);
     put(regs, 0, x);
-    cells::pairs::put(log, at.pairs, v, x);
+    words_arith::pairs::put(log, at.pairs, v, x);
 }
 
 // The state after an effect. Words that were judged set no register that there is not, so none is tested here.
@@ -100,12 +100,12 @@ pub fn apply(
             next
         }
         Effect::Cell(i, x) => {
-            cells::poke(memory, i, x);
+            words_arith::poke(memory, i, x);
             next
         }
         Effect::Order(v) => {
             keep(layout, v, memory);
-            cells::pairs::order(&layout.ceilings, v, regs[0], log, at.pairs);
+            words_arith::pairs::order(&layout.ceilings, v, regs[0], log, at.pairs);
             ordered(at)
         }
         Effect::Probe(v) => {

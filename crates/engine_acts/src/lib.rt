@@ -22,7 +22,7 @@ ghost use Rattle.engine_rules.specs.Engines.{Judged, jumpOf, sendOf, actOf, nex
 pub fn entry(layout: Layout, v: u32, memory: &[u32]) -> usize
     ensures { λ r. ⌜ r ≡ layout .table + events * getD (now (memory .entry)) (layout .cell) 0 + v ⌝ }
 {
-    let state = cells::peek(memory, layout.cell as usize);
+    let state = words_arith::peek(memory, layout.cell as usize);
     layout.table as usize + Policy::EVENTS as usize * (state as usize) + v as usize
 }
 
@@ -42,10 +42,10 @@ fn send(
     if i >= memory.len() {
         return Effect::End(Status::Faulted);
     }
-    if cells::peek(memory, i) == Policy::NO_ARROW {
+    if words_arith::peek(memory, i) == Policy::NO_ARROW {
         return Effect::End(Status::Stopped);
     }
-    effects::event(v, free, left)
+    machine_effects::event(v, free, left)
 }
 
 // A jump if the condition holds, else on to the next instruction.
@@ -62,7 +62,7 @@ fn branch(c: u64, x: u32, y: u32, to: u32, at: u32) -> Effect
 fn lands(j: u32, landings: u32, memory: &[u32]) -> bool
     ensures { λ r. ⌜ r ≡ marked (now (memory .entry)) landings j ⌝ }
 {
-    let bits = cells::peek(memory, landings as usize + (j / Layout::CELL_BITS) as usize);
+    let bits = words_arith::peek(memory, landings as usize + (j / Layout::CELL_BITS) as usize);
     (bits >> (j % Layout::CELL_BITS)) % 2 == 1
 }
 
@@ -133,7 +133,7 @@ fn act(
         7 => Effect::Put(d, arith::sar(x, v)),
         8 => Effect::Put(
             d,
-            cells::peek(memory, layout::mask(x, layout.low, layout.high) as usize),
+            words_arith::peek(memory, layout::mask(x, layout.low, layout.high) as usize),
         ),
         9 => Effect::Cell(layout::mask(x, layout.low, layout.high) as usize, y),
         10 => branch(c, x, y, v, at),

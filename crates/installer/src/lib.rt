@@ -225,7 +225,7 @@ pub fn install(
         return refused(Refusal::BAD_LANDINGS);
     }
     let marks = landing_cells(landings);
-    cells::poke(memory, layout.cell as usize, policy.start);
+    words_arith::poke(memory, layout.cell as usize, policy.start);
     store_table(memory, layout.table, table);
     store_cells(memory, layout.landings, &marks);
     let machine = Machine::new(layout.base);

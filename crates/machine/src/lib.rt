@@ -38,7 +38,7 @@ pub fn run_value(
     if !(layout::right(layout) & (memory.len() == layout.size as usize)) {
         return refused(machine);
     }
-    runs::run_on(layout, commands, machine, memory, budget, readings, log)
+    machine_loop::run_on(layout, commands, machine, memory, budget, readings, log)
 }
 
 // One step: a run of budget 1.

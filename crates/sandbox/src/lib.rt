@@ -147,7 +147,7 @@ pub fn run(
 ) -> Outcome
     ensures { λ r. ⌜ ranOf r (now (memory .exit)) (now (log .exit)) ≡ runOf layout (now (commands .entry)) machine (now (memory .entry)) budget (now (readings .entry)) (now (log .entry)) ⌝ }
 {
-    lent::run_lent(layout, commands, machine, memory, budget, readings, log)
+    machine_lent::run_lent(layout, commands, machine, memory, budget, readings, log)
 }
 
 // One step of it.

@@ -5,7 +5,7 @@ use Prim.Native.Nat.{ℕ, _%_, _^_}
 use native.Mathlib.Omega.{arith}
 use Rattle.rules.specs.declared.Fields.{Fields}
 use Rattle.rules.specs.Words.{judgeOf}
-use Rattle.packing.specs.Cut.{cutOf}
+use Rattle.words_fields.specs.Cut.{cutOf}
 use Rattle.rules.proofs.WordLaws.{bounds}
 
 -- packing cuts nothing off an instruction that is not refused

@@ -1,4 +1,4 @@
 // The count of a list's bundles, and the base that fits it.
-pub use counts::base_right;
-pub use counts::bundles;
-pub use counts::count_right;
+pub use words_count::base_right;
+pub use words_count::bundles;
+pub use words_count::count_right;

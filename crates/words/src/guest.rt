@@ -1,11 +1,11 @@
 // The words of a guest's instructions: their fields, their first refusal, the instruction that they stand for.
-pub use guests::judge_all;
-pub use guests::judge_at;
-pub use guests::judge_word;
-pub use instructions::instruction;
-pub use packing::fields;
-pub use packing::pack;
-pub use refusals::TOP_CONDITION;
-pub use refusals::TOP_SHIFT;
-pub use refusals::TOP_WORD;
-pub use refusals::judge;
+pub use words_fields::fields;
+pub use words_fields::instruction;
+pub use words_fields::pack;
+pub use words_guest::judge_all;
+pub use words_guest::judge_at;
+pub use words_guest::judge_word;
+pub use words_refusals::TOP_CONDITION;
+pub use words_refusals::TOP_SHIFT;
+pub use words_refusals::TOP_WORD;
+pub use words_refusals::judge;

@@ -1,4 +1,4 @@
 // The test of a layout, and the mask that keeps an address in its block.
-pub use layouts::right;
-pub use masks::mask;
-pub use masks::width;
+pub use words_layout::mask;
+pub use words_layout::right;
+pub use words_layout::width;

@@ -5,4 +5,4 @@ pub mod count;
 pub mod guest;
 pub mod layout;
 
-pub use cells::arith;
+pub use words_arith::arith;

@@ -1,6 +1,6 @@
 use Rattle.capi_policies.proofs.Laws.{narrow-merged}
 use mathlib.Core.Path.{_∙_, ap}
-use Rattle.hosts.specs.Numbers.{answerTo}
+use Rattle.capi_numbers.specs.Numbers.{answerTo}
 use borrow.Author.Needs.{needs}
 use Rattle.capi.proofs.hemdroas_merge.Statement.{statement}
 use Rattle.capi.proofs.hemdroas_merge.Tie as tie

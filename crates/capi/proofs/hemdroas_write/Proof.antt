@@ -2,7 +2,7 @@ use lib.Dec.{lit<}
 use Rattle.rules.proofs.Counts.{write-bound}
 use Rattle.capi.proofs.Hosting.{narrow}
 use mathlib.Core.Path.{_∙_, ap}
-use Rattle.hosts.specs.Numbers.{answerTo}
+use Rattle.capi_numbers.specs.Numbers.{answerTo}
 use borrow.Author.Needs.{needs}
 use Rattle.capi.proofs.hemdroas_write.Statement.{statement}
 use Rattle.capi.proofs.hemdroas_write.Tie as tie

@@ -1,3 +1,0 @@
-pub mod Befores
-pub mod Claims
-pub mod Proved

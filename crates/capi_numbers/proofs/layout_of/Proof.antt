@@ -1,0 +1,28 @@
+use borrow.Author.Needs.{needs}
+use Rattle.capi_numbers.specs.Numbers.{layoutFrom}
+use Rattle.capi_numbers.proofs.layout_of.Statement.{statement}
+use Rattle.capi_numbers.proofs.layout_of.Tie as tie
+
+pub layout-of-spec : {M : Type 1} → statement M
+unfolding layoutFrom
+layout-of-spec =
+    tie.close
+    (tie.spec
+    (λ c. search needs)
+    (λ c. search needs)
+    (λ c. search needs)
+    (λ c. search needs)
+    (λ c. search needs)
+    (λ c. search needs)
+    (λ c. search needs)
+    (λ c. search needs)
+    (λ c. search needs)
+    (λ c. search needs)
+    (λ c. search needs)
+    (λ c. search needs)
+    (λ c. search needs)
+    (λ c. search needs)
+    (λ c. search needs)
+    (λ c. search needs)
+    (λ c κs. search needs)
+    (λ c. c .new .ensures))

@@ -1,0 +1,13 @@
+use Rattle.capi_numbers.proofs.Numbers.{is-status, no-status}
+use borrow.Author.Needs.{needs}
+use Rattle.capi_numbers.proofs.record_after.Statement.{statement}
+use Rattle.capi_numbers.proofs.record_after.Tie as tie
+
+pub record-after-spec : {M : Type 1} → statement M
+record-after-spec =
+    tie.close
+    (tie.spec
+    (λ c. search needs)
+    (λ c κs. search needs)
+    (λ c. search (is-status, needs))
+    (λ c. search (no-status, needs)))

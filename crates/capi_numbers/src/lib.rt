@@ -1,0 +1,130 @@
+// The numbers of a C host: layouts and machine records as arrays of u32, and back.
+use rules::Layout;
+use rules::Machine;
+use rules::Status;
+ghost use mathlib.Core.Path.{_≡_};
+ghost use mathlib.Core.Bool.{cond};
+ghost use Rattle.capi_numbers.specs.Numbers.{layoutFrom, statusFrom, statusNumber, machineFrom, machineTo, statusKnown};
+
+// Where pc and status stand in a record, after its registers, and how many numbers it has.
+const PC: usize = Machine::REGISTERS;
+
+const STATUS: usize = PC + 1;
+
+pub const RECORD: usize = STATUS + 1;
+
+// A layout.
+pub fn layout_of(xs: &[u32; 16]) -> Layout
+    ensures { λ r. ⌜ r ≡ layoutFrom (now (xs .entry)) ⌝ }
+{
+    let low = xs[1];
+    let base = xs[6];
+    let ceilings = [xs[8], xs[9], xs[10], xs[11], xs[12], xs[13], xs[14], xs[15]];
+    Layout::new(
+        xs[0],
+        low,
+        xs[2],
+        xs[3],
+        xs[4],
+        xs[5],
+        base,
+        xs[7],
+        ceilings,
+    )
+}
+
+const STATUSES: u32 = 5;
+
+// A status; any number above 4 counts as faulted.
+pub fn status_of(x: u32) -> Status
+    ensures { λ r. ⌜ r ≡ statusFrom x ⌝ }
+{
+    match x {
+        0 => Status::Running,
+        1 => Status::Ended,
+        2 => Status::Stopped,
+        4 => Status::Strayed,
+        _ => Status::Faulted,
+    }
+}
+
+pub fn status_number(t: Status) -> u32
+    ensures { λ r. ⌜ r ≡ statusNumber t ⌝ }
+{
+    match t {
+        Status::Running => 0,
+        Status::Ended => 1,
+        Status::Stopped => 2,
+        Status::Faulted => 3,
+        Status::Strayed => 4,
+    }
+}
+
+// A record's machine.
+pub fn machine_of(xs: [u32; RECORD]) -> Machine
+    ensures { λ r. ⌜ r ≡ machineFrom xs ⌝ }
+{
+    let regs = [
+        xs[0],
+        xs[1],
+        xs[2],
+        xs[3],
+        xs[4],
+        xs[5],
+        xs[6],
+        xs[7],
+        xs[8],
+        xs[9],
+        xs[10],
+        xs[11],
+        xs[12],
+        xs[13],
+        xs[14],
+        xs[15],
+    ];
+    let status = status_of(xs[STATUS]);
+    Machine {
+        regs,
+        pc: xs[PC],
+        status,
+    }
+}
+
+// A machine's record.
+pub fn record_of(m: Machine) -> [u32; RECORD]
+    ensures { λ r. ⌜ r ≡ machineTo m ⌝ }
+{
+    let r = m.regs;
+    let t = m.status;
+    let status = status_number(t);
+    [
+        r[0],
+        r[1],
+        r[2],
+        r[3],
+        r[4],
+        r[5],
+        r[6],
+        r[7],
+        r[8],
+        r[9],
+        r[10],
+        r[11],
+        r[12],
+        r[13],
+        r[14],
+        r[15],
+        m.pc,
+        status,
+    ]
+}
+
+// The record after a run. One whose status number is no status was not run, and comes back as it was.
+pub fn record_after(m: Machine, xs: [u32; RECORD]) -> [u32; RECORD]
+    ensures { λ r. ⌜ r ≡ cond (statusKnown xs) (machineTo m) xs ⌝ }
+{
+    if xs[STATUS] < STATUSES {
+        return record_of(m);
+    }
+    xs
+}

@@ -1,0 +1,10 @@
+use borrow.Author.Needs.{needs}
+use Rattle.checker_shapes.proofs.shape.is_word.Statement.{statement}
+use Rattle.checker_shapes.proofs.shape.is_word.Tie as tie
+
+pub is-word-spec : {M : Type 1} → statement M
+is-word-spec =
+    tie.close
+    (tie.spec
+    (λ c κs. search needs)
+    (λ c. rw (c .pack .ensures)))

@@ -1,0 +1,118 @@
+// A routine's bytes read into words.
+use codec_decode::read_one;
+use rules::Answer;
+use rules::Instr;
+use rules::One;
+use rules::Refusal;
+ghost use mathlib.Core.Path.{_≡_};
+ghost use Prim.Native.Nat.{_≤_, _<_};
+ghost use lib.ListN.{length, take};
+ghost use lib.Seq.{sets as stores};
+ghost use Rattle.rules.specs.Names.{mostInstructions};
+ghost use Rattle.rules.specs.Bytes.{scanOf, wordsOf, countOf, wordsIn, readAnswer, readOutput};
+
+fn index(x: u8) -> usize
+    ensures { λ r. ⌜ (r ≡ x) × (r < 256) ⌝ }
+{
+    x as usize
+}
+
+// What n instructions from s on answer; their words are stored, up to the first that is refused.
+fn scan(s: &[u8], n: usize, words: &mut [u64]) -> Answer
+    requires { ⌜ n ≤ length (now words) ⌝ }
+    ensures answer { λ r. ⌜ r ≡ scanOf n 0 (now (s .entry)) ⌝ }
+    ensures content { λ _. ⌜ now (words .exit) ≡ stores (now (words .entry)) 0 (wordsOf n (now (s .entry))) ⌝ }
+{
+    let mut t = s;
+    let mut i: usize = 0;
+    while i < n {
+        let o = read_one(t);
+        match o {
+            One::Word(w, used) => {
+                words[i] = w;
+                t = &t[used..];
+                i += 1;
+            }
+            One::Bad(x) => {
+                return Answer {
+                    number: x,
+                    place: i,
+                };
+            }
+        }
+    }
+    if t.len() == 0 {
+        Answer {
+            number: Refusal::TAKEN,
+            place: n,
+        }
+    } else {
+        Answer {
+            number: Refusal::TRAILING,
+            place: 0,
+        }
+    }
+}
+
+// Stores the first n of some words.
+fn copy(from: &[u64], n: usize, words: &mut [u64])
+    requires { ⌜ (n ≤ length (now from)) × (n ≤ length (now words)) ⌝ }
+    ensures { λ _. ⌜ now (words .exit) ≡ stores (now (words .entry)) 0 (take n (now (from .entry))) ⌝ }
+{
+    let mut i: usize = 0;
+    while i < n {
+        words[i] = from[i];
+        i += 1;
+    }
+}
+
+// n in two bytes, low first.
+fn count(s: &[u8]) -> usize
+    requires { ⌜ 2 ≤ length (now s) ⌝ }
+    ensures { λ r. ⌜ r ≡ countOf (now (s .entry)) ⌝ }
+{
+    index(s[0]) + 256 * index(s[1])
+}
+
+// What reading answers; the words are stored aside.
+fn read_check(bytes: &[u8], room: usize, aside: &mut [u64]) -> Answer
+    requires { ⌜ mostInstructions ≤ length (now aside) ⌝ }
+    ensures answer { λ r. ⌜ r ≡ readAnswer (now (bytes .entry)) room ⌝ }
+    ensures content { λ r. ⌜ (r .number ≡ 0 → now (aside .exit) ≡ stores (now (aside .entry)) 0 (wordsIn (now (bytes .entry)))) ⌝ }
+{
+    if bytes.len() < 2 {
+        return Answer {
+            number: Refusal::SHORT,
+            place: 0,
+        };
+    }
+    let n = count(bytes);
+    if n > Instr::MOST {
+        return Answer {
+            number: Refusal::OVERSIZE,
+            place: 0,
+        };
+    }
+    if room < n {
+        return Answer {
+            number: Refusal::SMALL_OUTPUT,
+            place: 0,
+        };
+    }
+    scan(&bytes[2..], n, aside)
+}
+
+// Reads a routine: the words from the start of the output, which a refusal leaves as it was; hence they are read aside,
+// so that one pass does.
+pub fn read(bytes: &[u8], words: &mut [u64]) -> Answer
+    ensures answer { λ r. ⌜ r ≡ readAnswer (now (bytes .entry)) (length (now (words .entry))) ⌝ }
+    ensures content { λ _. ⌜ now (words .exit) ≡ readOutput (now (bytes .entry)) (now (words .entry)) ⌝ }
+{
+    let mut aside = [0u64; Instr::MOST];
+    let a = read_check(bytes, words.len(), &mut aside);
+    let refused = a.number;
+    if refused == Refusal::TAKEN {
+        copy(&aside, a.place, words);
+    }
+    a
+}

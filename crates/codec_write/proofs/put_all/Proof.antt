@@ -1,0 +1,18 @@
+use borrow.Author.Needs.{needs}
+use native.Mathlib.Omega.{arith}
+use lib.ListN.{length-set}
+use Rattle.codec_write.proofs.Writing.{put-length, put-routine}
+use Rattle.codec_write.proofs.put_all.Statement.{statement}
+use Rattle.codec_write.proofs.put_all.Tie as tie
+
+pub put-all-spec : {M : Type 1} → statement M
+put-all-spec =
+    tie.close
+    (tie.spec
+    (λ c. search needs)
+    (λ c. search needs)
+    (λ c. search needs)
+    (λ c. simp length-set (omega arith))
+    (λ c κs. simp length-set (omega arith))
+    (λ c. search (put-length, needs))
+    (λ c. search (put-routine, needs)))

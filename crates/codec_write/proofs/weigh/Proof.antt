@@ -1,0 +1,75 @@
+use borrow.Author.Needs.{needs}
+use Rattle.rules.proofs.Bytes.{length-routine}
+use Rattle.rules.proofs.Refusals.{refused-more, refused-stop}
+use Rattle.codec_write.proofs.Writing.{weigh-done, weigh-more}
+use mathlib.Core.Path.{_≡_}
+use Prim.Native.Nat.{_≤_, _-_, _+_, _*_}
+use lib.ListN.{length, drop}
+use Rattle.rules.specs.Names.{answer}
+use Rattle.rules.specs.Words.{judgeWord, firstRefused}
+use Rattle.rules.specs.Bytes.{bytesOf, routineOf}
+use Rattle.codec_write.proofs.weigh.Statement.{statement}
+use Rattle.codec_write.proofs.weigh.Tie as tie
+use Rattle.codec_write.proofs.weigh.Reads as reads
+use Rattle.codec_write.proofs.weigh.Lts as lts
+use Rattle.words.proofs.guest.judge_word.Reads as judge-word-reads
+use Rattle.codec_write.proofs.weight_word.Reads as weight-word-reads
+
+abbrev Inv-loop : tie.InvT-loop
+Inv-loop words i₀ z₀ i z =
+    let k = length (routineOf words) in
+    (i ≤ length words) × (z ≤ 2 + 10 * i) × (k ≡ z + length (bytesOf (drop i words))) × (firstRefused judgeWord words 0 (answer 0 k) ≡ firstRefused judgeWord (drop i words) i (answer 0 k))
+
+abbrev μ-loop : tie.MeasureT-loop
+μ-loop words i₀ z₀ i z = length words - i
+
+loop-holds : tie.Need-loop-holds Inv-loop μ-loop
+loop-holds c = search (length-routine, needs)
+
+mul-w : tie.Need-mul-w Inv-loop μ-loop
+mul-w c = search needs
+
+shared-slice-read-w : tie.Need-shared-slice-read-w Inv-loop μ-loop
+shared-slice-read-w c = search needs
+
+judge-word-requires : tie.Need-judge-word-requires Inv-loop μ-loop
+judge-word-requires c κs = search needs
+
+returns : tie.Need-returns Inv-loop μ-loop
+returns c = search (refused-stop, needs)
+
+weight-word-requires : tie.Need-weight-word-requires Inv-loop μ-loop
+weight-word-requires c κs = search needs
+
+add-z : tie.Need-add-z Inv-loop μ-loop
+add-z c = search needs
+
+add-i : tie.Need-add-i Inv-loop μ-loop
+add-i c = search needs
+
+loop-less : tie.Need-loop-less Inv-loop μ-loop
+loop-less c = search needs
+
+loop-again : tie.Need-loop-again Inv-loop μ-loop
+loop-again c = search (weigh-more, refused-more, needs)
+
+returns-2 : tie.Need-returns-2 Inv-loop μ-loop
+returns-2 c = search (weigh-done, needs)
+
+pub weigh-spec : {M : Type 1} → statement M
+weigh-spec =
+    tie.close
+    (tie.spec
+    Inv-loop
+    μ-loop
+    loop-holds
+    mul-w
+    shared-slice-read-w
+    judge-word-requires
+    returns
+    weight-word-requires
+    add-z
+    add-i
+    loop-less
+    loop-again
+    returns-2)

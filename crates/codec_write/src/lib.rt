@@ -1,0 +1,108 @@
+// A routine's words written in bytes.
+use codec_encode::put_one;
+use codec_map::map_of;
+use codec_map::size_of;
+use rules::Answer;
+use rules::Instr;
+use rules::Refusal;
+use words::guest::fields;
+use words::guest::judge_word;
+ghost use mathlib.Core.Path.{_≡_};
+ghost use Prim.Native.Nat.{_+_, _≤_};
+ghost use lib.ListN.{length};
+ghost use lib.Seq.{sets as stores};
+ghost use Rattle.rules.specs.Names.{mostInstructions, answer};
+ghost use Rattle.rules.specs.Words.{judgeWord, firstRefused};
+ghost use Rattle.rules.specs.Bytes.{oneOut, bytesOf, routineOf, writeAnswer, writeOutput};
+
+// How many bytes a word takes.
+fn weight_word(w: u64) -> usize
+    ensures { λ r. ⌜ (r ≡ length (oneOut w)) × (r ≤ 10) ⌝ }
+{
+    size_of(map_of(fields(w)))
+}
+
+// The first refusal among the words, or the number of the routine's bytes.
+fn weigh(words: &[u64]) -> Answer
+    requires { ⌜ length (now words) ≤ mostInstructions ⌝ }
+    ensures { λ r. ⌜ r ≡ firstRefused judgeWord (now (words .entry)) 0 (answer 0 (length (routineOf (now (words .entry))))) ⌝ }
+{
+    let mut i: usize = 0;
+    let mut z: usize = 2;
+    while i < words.len() {
+        let w = words[i];
+        let x = judge_word(w);
+        if x != Refusal::TAKEN {
+            return Answer {
+                number: x,
+                place: i,
+            };
+        }
+        z += weight_word(w);
+        i += 1;
+    }
+    Answer {
+        number: Refusal::TAKEN,
+        place: z,
+    }
+}
+
+fn emit(words: &[u64], bytes: &mut [u8], at: usize)
+    requires { ⌜ at + length (bytesOf (now words)) ≤ length (now bytes) ⌝ }
+    ensures { λ _. ⌜ now (bytes .exit) ≡ stores (now (bytes .entry)) at (bytesOf (now (words .entry))) ⌝ }
+{
+    let mut to = at;
+    let mut i: usize = 0;
+    while i < words.len() {
+        to = put_one(bytes, to, words[i]);
+        i += 1;
+    }
+}
+
+// The count and the words' bytes.
+fn put_all(words: &[u64], bytes: &mut [u8])
+    requires { ⌜ (2 + length (bytesOf (now words)) ≤ length (now bytes)) × (length (now words) ≤ mostInstructions) ⌝ }
+    ensures { λ _. ⌜ now (bytes .exit) ≡ stores (now (bytes .entry)) 0 (routineOf (now (words .entry))) ⌝ }
+{
+    bytes[0] = (words.len() % 256) as u8;
+    bytes[1] = (words.len() / 256) as u8;
+    emit(words, bytes, 2);
+}
+
+// What writing answers.
+fn write_check(words: &[u64], room: usize) -> Answer
+    ensures { λ r. ⌜ r ≡ writeAnswer (now (words .entry)) room ⌝ }
+{
+    if words.len() > Instr::MOST {
+        return Answer {
+            number: Refusal::OVERSIZE,
+            place: 0,
+        };
+    }
+    let a = weigh(words);
+    let x = a.number;
+    if x != Refusal::TAKEN {
+        return a;
+    }
+    let z = a.place;
+    if room < z {
+        return Answer {
+            number: Refusal::SMALL_OUTPUT,
+            place: 0,
+        };
+    }
+    a
+}
+
+// Writes a routine: its bytes from the start of the output, which a refusal leaves as it was.
+pub fn write(words: &[u64], bytes: &mut [u8]) -> Answer
+    ensures answer { λ r. ⌜ r ≡ writeAnswer (now (words .entry)) (length (now (bytes .entry))) ⌝ }
+    ensures content { λ _. ⌜ now (bytes .exit) ≡ writeOutput (now (words .entry)) (now (bytes .entry)) ⌝ }
+{
+    let a = write_check(words, bytes.len());
+    let number = a.number;
+    if number == Refusal::TAKEN {
+        put_all(words, bytes);
+    }
+    a
+}

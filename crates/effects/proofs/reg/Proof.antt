@@ -1,7 +1,0 @@
-use native.Mathlib.Omega.{arith}
-use borrow.Author.Needs.{needs}
-use Rattle.effects.proofs.reg.Statement.{statement}
-use Rattle.effects.proofs.reg.Tie as tie
-
-pub reg-spec : {M : Type 1} → statement M
-reg-spec = tie.close (tie.spec (λ c. search needs) (λ c. search needs) (λ c. search needs))

@@ -1,0 +1,240 @@
+-- Laws of words and fetching that the functions' proofs cite.
+use Prim.Native.Nat.{ℕ, _+_, _-_, _*_, _/_, _%_, _^_, _≤_, _<_}
+use mathlib.Core.Path.{_≡_, refl, _∙_, ap, subst}
+use mathlib.Core.Bool.{Bool, true, false, _&&_, cond}
+use mathlib.Core.List.{List}
+use native.Mathlib.Omega.{arith}
+use borrow.Author.Tests.{lt-ltb, le-ltb, le-leb, lt-leb, ne-eqb, leb-true}
+use lib.Dec.{eqb, leb, ltb}
+use mir.Val.{Fits as Held}
+use mir.Syntax.{w32}
+use lib.ListN.{length, getD, List·getD-eq-default}
+use native.Mathlib.Nat.{zero-div}
+use Rattle.rules.specs.declared.Effect.{Effect}
+use Rattle.rules.specs.declared.Command.{Command}
+use Rattle.rules.specs.declared.Command.the-variants.{Nop, Halt, Plain, Load, Store, GoIf, GoReg, Look, StopIf, Keep, Event, Stray}
+use Rattle.rules.specs.declared.Effect.the-variants.{Go, Put, Cell, End}
+use Rattle.rules.specs.declared.Status.the-variants.{Ended, Stopped, Faulted, Strayed}
+use Rattle.rules.specs.Names.{mostBundles, bundleLength, cellBits, registers, events, noArrow, topWord}
+use Rattle.rules.specs.Landings.{bitAt, marked}
+use Rattle.rules.specs.Words.{kindOf, dOf, aOf, bOf, vOf}
+use Rattle.rules.specs.Commands.{addOf, plainOf, holdsOf, isCommand, commandOf, fetchOf}
+use Rattle.rules.specs.Machines.{View, viewOf, onward, landsAt, effectOf, eventEffect}
+use Rattle.rules.proofs.Bools.{cond-ind}
+use Rattle.words.proofs.Laws.{named-in}
+use Rattle.machine_effects.specs.Sounds.{Sound}
+
+-- the command of a word is sound
+pub sound-command : (w : ℕ) → w < 2 ^ 64 → Sound (commandOf w)
+unfolding commandOf Sound
+sound-command w l =
+    let v : vOf w ≤ topWord = omega arith in
+    cond-ind Sound (isCommand w)
+    (λ ok. let n = named-in w ok in
+    let d : dOf w < registers = omega (arith, n .d) in
+    let a : aOf w < registers = omega (arith, n .a) in
+    let b : bOf w < registers = omega (arith, n .b) in
+    cond-ind Sound (eqb (kindOf w) 0) (λ _. tt)
+    (λ _. cond-ind Sound (eqb (kindOf w) 1) (λ _. tt)
+    (λ _. cond-ind Sound (ltb (kindOf w) 12) (λ _. (a, b, v))
+    (λ _. cond-ind Sound (eqb (kindOf w) 12) (λ _. a)
+    (λ _. cond-ind Sound (eqb (kindOf w) 13) (λ _. (a, b))
+    (λ _. cond-ind Sound (eqb (kindOf w) 14) (λ _. (a, b, v))
+    (λ _. cond-ind Sound (eqb (kindOf w) 15) (λ _. (d, a, b))
+    (λ _. cond-ind Sound (eqb (kindOf w) 16) (λ _. v)
+    (λ _. cond-ind Sound (eqb (kindOf w) 17) (λ _. d)
+    (λ _. cond-ind Sound (eqb (kindOf w) 18) (λ _. d)
+    (λ _. cond-ind Sound (eqb (kindOf w) 19) (λ _. v) (λ _. tt))))))))))))
+    (λ _. tt)
+
+-- a word's effect is its command's
+pub decoded : (w : ℕ) (c : Command) (s : View) (r : Effect) → c ≡ commandOf w → r ≡ effectOf c s → r ≡ effectOf (commandOf w) s
+decoded w c s r e q = q ∙ ap (λ (x : Command). effectOf x s) e
+
+-- what the numbers of a sound command are
+module _ (c : Command) (s : Sound c) where
+  pub plain-a : (k d a b v : ℕ) → c ≡ Plain k d a b v → a < registers
+  unfolding Sound
+  plain-a k d a b v e = subst Sound e s .0
+
+  pub plain-b : (k d a b v : ℕ) → c ≡ Plain k d a b v → b < registers
+  unfolding Sound
+  plain-b k d a b v e = subst Sound e s .1
+
+  pub plain-v : (k d a b v : ℕ) → c ≡ Plain k d a b v → v ≤ topWord
+  unfolding Sound
+  plain-v k d a b v e = subst Sound e s .2
+
+  pub load-a : (d a : ℕ) → c ≡ Load d a → a < registers
+  unfolding Sound
+  load-a d a e = subst Sound e s
+
+  pub store-a : (a b : ℕ) → c ≡ Store a b → a < registers
+  unfolding Sound
+  store-a a b e = subst Sound e s .0
+
+  pub store-b : (a b : ℕ) → c ≡ Store a b → b < registers
+  unfolding Sound
+  store-b a b e = subst Sound e s .1
+
+  pub jump-a : (a b k v : ℕ) → c ≡ GoIf a b k v → a < registers
+  unfolding Sound
+  jump-a a b k v e = subst Sound e s .0
+
+  pub jump-b : (a b k v : ℕ) → c ≡ GoIf a b k v → b < registers
+  unfolding Sound
+  jump-b a b k v e = subst Sound e s .1
+
+  pub jump-v : (a b k v : ℕ) → c ≡ GoIf a b k v → v ≤ topWord
+  unfolding Sound
+  jump-v a b k v e = subst Sound e s .2
+
+  pub turn-d : (d a b k : ℕ) → c ≡ GoReg d a b k → d < registers
+  unfolding Sound
+  turn-d d a b k e = subst Sound e s .0
+
+  pub turn-a : (d a b k : ℕ) → c ≡ GoReg d a b k → a < registers
+  unfolding Sound
+  turn-a d a b k e = subst Sound e s .1
+
+  pub turn-b : (d a b k : ℕ) → c ≡ GoReg d a b k → b < registers
+  unfolding Sound
+  turn-b d a b k e = subst Sound e s .2
+
+  pub look-v : (d v : ℕ) → c ≡ Look d v → v ≤ topWord
+  unfolding Sound
+  look-v d v e = subst Sound e s
+
+  pub stop-d : (d : ℕ) → c ≡ StopIf d → d < registers
+  unfolding Sound
+  stop-d d e = subst Sound e s
+
+  pub keep-d : (d : ℕ) → c ≡ Keep d → d < registers
+  unfolding Sound
+  keep-d d e = subst Sound e s
+
+  pub event-v : (v : ℕ) → c ≡ Event v → v ≤ topWord
+  unfolding Sound
+  event-v v e = subst Sound e s
+
+pub word-fits : (v : ℕ) → v ≤ topWord → Held w32 v
+word-fits v h = record { fits = omega arith }
+
+-- a kind that is not plain puts nothing of its own
+pub other-kind : (k x y v : ℕ) → (k ≡ 2 → ⊥) → (k ≡ 3 → ⊥) → (k ≡ 4 → ⊥) → (k ≡ 5 → ⊥) → (k ≡ 6 → ⊥) → (k ≡ 7 → ⊥) → (k ≡ 8 → ⊥) → (k ≡ 9 → ⊥) → (k ≡ 10 → ⊥) → (k ≡ 11 → ⊥)
+    → 0 ≡ plainOf k x y v
+unfolding plainOf
+other-kind k x y v a b c d e f g h i j =
+    rw (ne-eqb k 2 a, ne-eqb k 3 b, ne-eqb k 4 c, ne-eqb k 5 d, ne-eqb k 6 e, ne-eqb k 7 f, ne-eqb k 8 g, ne-eqb k 9 h, ne-eqb k 10 i, ne-eqb k 11 j)
+
+-- each command's effect
+module _ (regs : List ℕ) (pc : ℕ) (mem : List ℕ) (cell table base landings free left : ℕ) (c : Command) where
+  abbrev view : View
+  view = viewOf regs pc mem cell table base landings free left
+
+  pub does-nop : c ≡ Nop → (u : ℕ) → u ≡ addOf pc 1 → Go u ≡ effectOf c view
+  unfolding effectOf
+  does-nop e u q = rw (e, q)
+
+  pub does-halt : c ≡ Halt → End Ended ≡ effectOf c view
+  unfolding effectOf
+  does-halt e = rw e
+
+  pub does-stray : c ≡ Stray → End Faulted ≡ effectOf c view
+  unfolding effectOf
+  does-stray e = rw e
+
+  pub does-plain : (k d a b v x y u : ℕ) → c ≡ Plain k d a b v → x ≡ getD regs a 0 → y ≡ getD regs b 0 → u ≡ plainOf k x y v → Put d u ≡ effectOf c view
+  unfolding effectOf
+  does-plain k d a b v x y u e p q r = rw (e, r, p, q)
+
+  pub does-load : (d a x : ℕ) (r : Effect) → c ≡ Load d a → x ≡ getD regs a 0 → r ≡ cond (ltb x (length mem)) (Put d (getD mem x 0)) (End Faulted) → r ≡ effectOf c view
+  unfolding effectOf
+  does-load d a x r e p q = rw (q, e, p)
+
+  pub does-store : (a b x y : ℕ) (r : Effect) → c ≡ Store a b → x ≡ getD regs a 0 → y ≡ getD regs b 0 → r ≡ cond (ltb x (length mem)) (Cell x y) (End Faulted) → r ≡ effectOf c view
+  unfolding effectOf
+  does-store a b x y r e p o q = rw (q, e, p, o)
+
+  pub does-jump : (a b d v x y : ℕ) (r : Effect) → c ≡ GoIf a b d v → x ≡ getD regs a 0 → y ≡ getD regs b 0 → r ≡ Go (cond (holdsOf d x y) v (onward pc)) → r ≡ effectOf c view
+  unfolding effectOf
+  does-jump a b d v x y r e p o q = rw (q, e, p, o)
+
+  pub does-turn : (t a b d x y z : ℕ) (r : Effect) → c ≡ GoReg t a b d → x ≡ getD regs a 0 → y ≡ getD regs b 0 → z ≡ getD regs t 0
+      → r ≡ cond (holdsOf d x y) (cond (landsAt mem base landings z) (Go z) (End Strayed)) (Go (onward pc)) → r ≡ effectOf c view
+  unfolding effectOf
+  does-turn t a b d x y z r e p o n q = rw (q, e, p, o, n)
+
+  pub does-look : (d v : ℕ) (r : Effect) → c ≡ Look d v
+      → r ≡ cond (ltb cell (length mem)) (cond (ltb (table + events * getD mem cell 0 + v) (length mem)) (Put d (getD mem (table + events * getD mem cell 0 + v) 0)) (End Faulted)) (End Faulted)
+      → r ≡ effectOf c view
+  unfolding effectOf
+  does-look d v r e q = rw (q, e)
+
+  pub does-stop : (d x : ℕ) (r : Effect) → c ≡ StopIf d → x ≡ getD regs d 0 → r ≡ cond (eqb x noArrow) (End Stopped) (Go (onward pc)) → r ≡ effectOf c view
+  unfolding effectOf
+  does-stop d x r e p q = rw (q, e, p)
+
+  pub does-keep : (d x : ℕ) (r : Effect) → c ≡ Keep d → x ≡ getD regs d 0 → r ≡ cond (ltb cell (length mem)) (Cell cell x) (End Faulted) → r ≡ effectOf c view
+  unfolding effectOf
+  does-keep d x r e p q = rw (q, e, p)
+
+  pub does-event : (v : ℕ) (r : Effect) → c ≡ Event v → r ≡ eventEffect v free left → r ≡ effectOf c view
+  unfolding effectOf
+  does-event v r e q = rw (q, e)
+
+-- the place of pc in the list, at 64 bits: a pc below the base lies past any list
+pub fetch-in : (ws : List ℕ) (base pc at : ℕ) → (at + base) % 2 ^ 64 ≡ pc → base < 2 ^ 32 → pc < 2 ^ 32 → length ws < 2 ^ 63 → at < length ws
+    → fetchOf ws base pc ≡ commandOf (getD ws at 0)
+unfolding fetchOf
+fetch-in ws base pc at e b p n h =
+    let i : base ≤ pc = omega arith in
+    let j : pc - base ≡ at = omega arith in
+    rw (le-leb _ _ i, j, lt-ltb _ _ h)
+
+pub fetch-out : (ws : List ℕ) (base pc at : ℕ) → (at + base) % 2 ^ 64 ≡ pc → base < 2 ^ 32 → pc < 2 ^ 32 → at < 2 ^ 64 → length ws ≤ at
+    → fetchOf ws base pc ≡ Stray
+unfolding fetchOf
+fetch-out ws base pc at e b p n h = go (leb base pc) refl
+  where
+    go : (t : Bool) → leb base pc ≡ t → cond (t && ltb (pc - base) (length ws)) (commandOf (getD ws (pc - base) 0)) Stray ≡ Stray
+    go true q = let i : base ≤ pc = leb-true base pc q in let j : pc - base ≡ at = omega arith in rw (j, le-ltb _ _ h)
+    go false q = refl
+
+-- ---- a jump through a register
+
+module _ (mem : List ℕ) (b q to : ℕ) where
+  pub lands-below : to < b → false ≡ landsAt mem b q to
+  unfolding landsAt
+  lands-below h = rw (lt-leb b to h)
+
+  module _ (h : b ≤ to) where
+    pub lands-off : ((to - b) % bundleLength ≡ 0 → ⊥) → false ≡ landsAt mem b q to
+    unfolding landsAt
+    lands-off k = rw (le-leb b to h, ne-eqb ((to - b) % bundleLength) 0 k)
+
+    module _ (k : (to - b) % bundleLength ≡ 0) where
+      pub lands-high : mostBundles ≤ (to - b) / bundleLength → false ≡ landsAt mem b q to
+      unfolding landsAt
+      lands-high l = rw (le-leb b to h, k, le-ltb ((to - b) / bundleLength) mostBundles l)
+
+      module _ (l : (to - b) / bundleLength < mostBundles) where
+        pub lands-in : q + (to - b) / bundleLength / cellBits < length mem → bitAt (getD mem (q + (to - b) / bundleLength / cellBits) 0) ((to - b) / bundleLength % cellBits) ≡ landsAt mem b q to
+        unfolding landsAt marked
+        lands-in m = rw (le-leb b to h, k, lt-ltb ((to - b) / bundleLength) mostBundles l)
+
+        pub lands-out : length mem ≤ q + (to - b) / bundleLength / cellBits → false ≡ landsAt mem b q to
+        unfolding landsAt marked
+        lands-out m =
+            let z : 0 / 2 ^ ((to - b) / bundleLength % cellBits) % 2 ≡ 0 = ap (λ (x : ℕ). x % 2) (zero-div (2 ^ ((to - b) / bundleLength % cellBits))) in
+            rw (le-leb b to h, k, lt-ltb ((to - b) / bundleLength) mostBundles l, List·getD-eq-default mem 0 m, z)
+
+module _ (t l t′ l′ : Bool) (x y z : Effect) (et : t ≡ t′) where
+  pub jump-lands : l ≡ l′ → t ≡ true → l ≡ true → x ≡ cond t′ (cond l′ x y) z
+  jump-lands el ht hl = rw (← et, ← el, ht, hl)
+
+  pub jump-strays : l ≡ l′ → t ≡ true → l ≡ false → y ≡ cond t′ (cond l′ x y) z
+  jump-strays el ht hl = rw (← et, ← el, ht, hl)
+
+pub jump-stays : (t t′ : Bool) (v w z : Effect) → t ≡ t′ → t ≡ false → w ≡ z → w ≡ cond t′ v z
+jump-stays t t′ v w z et ht e = e ∙ rw (← et, ht)

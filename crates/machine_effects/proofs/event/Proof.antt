@@ -1,0 +1,13 @@
+use Rattle.machine_effects.proofs.Tests.{tests}
+use Rattle.machine_effects.proofs.event.Statement.{statement}
+use Rattle.machine_effects.proofs.event.Tie as tie
+
+pub event-spec : {M : Type 1} → statement M
+event-spec =
+    tie.close
+    (tie.spec
+    (λ c _. tt)
+    (λ c. search tests)
+    (λ c. search tests)
+    (λ c _. tt)
+    (λ c. search tests))

@@ -1,0 +1,13 @@
+use Rattle.machine_effects.proofs.Tests.{tests}
+use borrow.Author.Needs.{needs}
+use Rattle.machine_effects.proofs.load.Statement.{statement}
+use Rattle.machine_effects.proofs.load.Tie as tie
+
+pub load-spec : {M : Type 1} → statement M
+load-spec =
+    tie.close
+    (tie.spec
+    (λ c. search needs)
+    (λ c. search needs)
+    (λ c. search tests)
+    (λ c. search tests))

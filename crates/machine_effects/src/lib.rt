@@ -1,0 +1,269 @@
+// What the word at pc would do: a pure decision, applied by the machine.
+use rules::Bundle;
+use rules::Command;
+use rules::Effect;
+use rules::Ending;
+use rules::Layout;
+use rules::Machine;
+use rules::Policy;
+use rules::Status;
+use words::arith;
+use words::command;
+ghost use mathlib.Core.Path.{_≡_};
+ghost use mathlib.Core.Bool.{cond};
+ghost use Prim.Native.Nat.{_+_, _*_, _<_};
+ghost use lib.ListN.{length, getD};
+ghost use lib.Dec.{ltb, eqb};
+ghost use Rattle.rules.specs.declared.Status.the-variants.{Stopped, Faulted, Strayed};
+ghost use Rattle.rules.specs.declared.Effect.the-variants.{Go, Put, Cell, End};
+ghost use Rattle.rules.specs.Names.{registers, events, noArrow};
+ghost use Rattle.rules.specs.Commands.{commandOf, plainOf, holdsOf, fetchOf};
+ghost use Rattle.machine_effects.specs.Sounds.{Sound};
+ghost use Rattle.rules.specs.Machines.{onward, viewOf, landsAt, effectOf, eventEffect, ifRoom};
+
+// The next pc is formed only in the arms that need it, which keeps a register free across the match.
+fn target(c: u64, x: u32, y: u32, to: u32, pc: u32) -> Effect
+    ensures { λ r. ⌜ r ≡ Go (cond (holdsOf c x y) to (onward pc)) ⌝ }
+{
+    if arith::holds(c, x, y) {
+        return Effect::Go(to);
+    }
+    Effect::Go(arith::add(pc, 1))
+}
+
+const LENGTH: u32 = Bundle::LENGTH as u32;
+
+const MOST: u32 = Bundle::MOST as u32;
+
+// Whether an address is B + 4j and bit j of the landing cells stands.
+fn lands(to: u32, base: u32, landings: u32, memory: &[u32]) -> bool
+    ensures { λ r. ⌜ r ≡ landsAt (now (memory .entry)) base landings to ⌝ }
+{
+    if to < base {
+        return false;
+    }
+    let off = to - base;
+    let j = off / LENGTH;
+    if off % LENGTH != 0 {
+        return false;
+    }
+    if j >= MOST {
+        return false;
+    }
+    let at = landings as usize + (j / Layout::CELL_BITS) as usize;
+    if at < memory.len() {
+        return (memory[at] >> (j % Layout::CELL_BITS)) % 2 == 1;
+    }
+    false
+}
+
+// A jump through a register: only to a landing.
+fn jump(
+    c: u64,
+    x: u32,
+    y: u32,
+    to: u32,
+    pc: u32,
+    base: u32,
+    landings: u32,
+    memory: &[u32],
+) -> Effect
+    ensures { λ r. ⌜ r ≡ cond (holdsOf c x y) (cond (landsAt (now (memory .entry)) base landings to) (Go to) (End Strayed)) (Go (onward pc)) ⌝ }
+{
+    if arith::holds(c, x, y) {
+        if lands(to, base, landings, memory) {
+            return Effect::Go(to);
+        }
+        return Effect::End(Status::Strayed);
+    }
+    Effect::Go(arith::add(pc, 1))
+}
+
+fn load(d: usize, at: u32, memory: &[u32]) -> Effect
+    ensures { λ r. ⌜ r ≡ cond (ltb at (length (now (memory .entry)))) (Put d (getD (now (memory .entry)) at 0)) (End Faulted) ⌝ }
+{
+    let i = at as usize;
+    if i < memory.len() {
+        return Effect::Put(d, memory[i]);
+    }
+    Effect::End(Status::Faulted)
+}
+
+fn store(at: u32, x: u32, memory: &[u32]) -> Effect
+    ensures { λ r. ⌜ r ≡ cond (ltb at (length (now (memory .entry)))) (Cell at x) (End Faulted) ⌝ }
+{
+    let i = at as usize;
+    if i < memory.len() {
+        return Effect::Cell(i, x);
+    }
+    Effect::End(Status::Faulted)
+}
+
+// The policy's entry for event v in the present state; the address is summed without wrap.
+fn look(d: usize, cell: u32, table: u32, v: u32, memory: &[u32]) -> Effect
+    ensures { λ r. ⌜ r ≡ cond (ltb cell (length (now (memory .entry)))) (cond (ltb (table + events * getD (now (memory .entry)) cell 0 + v) (length (now (memory .entry)))) (Put d (getD (now (memory .entry)) (table + events * getD (now (memory .entry)) cell 0 + v) 0)) (End Faulted)) (End Faulted) ⌝ }
+{
+    let i = cell as usize;
+    if i < memory.len() {
+        let at = table as usize + Policy::EVENTS as usize * (memory[i] as usize) + v as usize;
+        if at < memory.len() {
+            return Effect::Put(d, memory[at]);
+        }
+        return Effect::End(Status::Faulted);
+    }
+    Effect::End(Status::Faulted)
+}
+
+fn stop_if(x: u32, pc: u32) -> Effect
+    ensures { λ r. ⌜ r ≡ cond (eqb x noArrow) (End Stopped) (Go (onward pc)) ⌝ }
+{
+    if x == Policy::NO_ARROW {
+        return Effect::End(Status::Stopped);
+    }
+    Effect::Go(arith::add(pc, 1))
+}
+
+// An event's effect, or the pause before it for want of two free log cells.
+fn in_room(free: usize, e: Effect) -> Effect
+    ensures { λ r. ⌜ r ≡ ifRoom free e ⌝ }
+{
+    if free < 2 {
+        return Effect::Wait(Ending::LogFull);
+    }
+    e
+}
+
+// An event, or the pause before it: a silent probe comes before a full log.
+pub fn event(v: u32, free: usize, left: usize) -> Effect
+    ensures { λ r. ⌜ r ≡ eventEffect v free left ⌝ }
+{
+    if v < Policy::ORDERS {
+        return in_room(free, Effect::Order(v));
+    }
+    if left == 0 {
+        return Effect::Wait(Ending::Silent);
+    }
+    in_room(free, Effect::Probe(v))
+}
+
+// A register's number.
+fn reg(regs: &[u32; Machine::REGISTERS], i: u64) -> u32
+    requires { ⌜ i < registers ⌝ }
+    ensures { λ r. ⌜ r ≡ getD (now (regs .entry)) i 0 ⌝ }
+{
+    regs[i as usize]
+}
+
+// What a plain command puts.
+fn value(k: u64, x: u32, y: u32, v: u32) -> u32
+    ensures { λ r. ⌜ r ≡ plainOf k x y v ⌝ }
+{
+    match k {
+        2 => v,
+        3 => x,
+        4 => arith::add(x, y),
+        5 => arith::sub(x, y),
+        6 => arith::and(x, y),
+        7 => arith::or(x, y),
+        8 => arith::sar(x, v),
+        9 => arith::and(x, v),
+        10 => arith::or(x, v),
+        11 => arith::shl(x, v),
+        _ => 0,
+    }
+}
+
+// What a command would do.
+fn act(
+    c: Command,
+    regs: &[u32; Machine::REGISTERS],
+    pc: u32,
+    cell: u32,
+    table: u32,
+    base: u32,
+    landings: u32,
+    memory: &[u32],
+    free: usize,
+    left: usize,
+) -> Effect
+    requires { ⌜ Sound c ⌝ }
+    ensures { λ r. ⌜ r ≡ effectOf c (viewOf (now (regs .entry)) pc (now (memory .entry)) cell table base landings free left) ⌝ }
+{
+    match c {
+        Command::Nop => Effect::Go(arith::add(pc, 1)),
+        Command::Halt => Effect::End(Status::Ended),
+        Command::Plain(k, d, a, b, v) => {
+            Effect::Put(d as usize, value(k, reg(regs, a), reg(regs, b), v as u32))
+        }
+        Command::Load(d, a) => load(d as usize, reg(regs, a), memory),
+        Command::Store(a, b) => store(reg(regs, a), reg(regs, b), memory),
+        Command::GoIf(a, b, c, v) => { target(c, reg(regs, a), reg(regs, b), v as u32, pc) }
+        Command::GoReg(d, a, b, c) => jump(
+            c,
+            reg(regs, a),
+            reg(regs, b),
+            reg(regs, d),
+            pc,
+            base,
+            landings,
+            memory,
+        ),
+        Command::Look(d, v) => look(d as usize, cell, table, v as u32, memory),
+        Command::StopIf(d) => stop_if(reg(regs, d), pc),
+        Command::Keep(d) => store(cell, reg(regs, d), memory),
+        Command::Event(v) => event(v as u32, free, left),
+        Command::Stray => Effect::End(Status::Faulted),
+    }
+}
+
+// What a word would do: it goes through the decoder.
+fn decide(
+    w: u64,
+    regs: &[u32; Machine::REGISTERS],
+    pc: u32,
+    cell: u32,
+    table: u32,
+    base: u32,
+    landings: u32,
+    memory: &[u32],
+    free: usize,
+    left: usize,
+) -> Effect
+    ensures { λ r. ⌜ r ≡ effectOf (commandOf w) (viewOf (now (regs .entry)) pc (now (memory .entry)) cell table base landings free left) ⌝ }
+{
+    let c = command::command(w);
+    act(c, regs, pc, cell, table, base, landings, memory, free, left)
+}
+
+// What the word at pc would do; the list stands at the base. A pc below it is far past the list's end.
+pub fn next_effect(
+    commands: &[u64],
+    base: u32,
+    regs: &[u32; Machine::REGISTERS],
+    pc: u32,
+    cell: u32,
+    table: u32,
+    landings: u32,
+    memory: &[u32],
+    free: usize,
+    left: usize,
+) -> Effect
+    ensures { λ r. ⌜ r ≡ effectOf (fetchOf (now (commands .entry)) base pc) (viewOf (now (regs .entry)) pc (now (memory .entry)) cell table base landings free left) ⌝ }
+{
+    let at = std::num::wrapping_sub_usize(pc as usize, base as usize);
+    if at < commands.len() {
+        return decide(
+            commands[at],
+            regs,
+            pc,
+            cell,
+            table,
+            base,
+            landings,
+            memory,
+            free,
+            left,
+        );
+    }
+    Effect::End(Status::Faulted)
+}

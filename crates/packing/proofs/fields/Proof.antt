@@ -1,6 +1,0 @@
-use mathlib.Core.Path.{refl}
-use Rattle.packing.proofs.fields.Statement.{statement}
-use Rattle.packing.proofs.fields.Tie as tie
-
-pub fields-spec : {M : Type 1} → statement M
-fields-spec = tie.close (tie.spec (λ c. refl))

@@ -1,0 +1,32 @@
+use Prim.Native.Nat.{_-_, _≤_, zero-le}
+use mathlib.Core.Path.{_≡_}
+use borrow.Author.Needs.{needs}
+use lib.ListN.{length}
+use Rattle.rules.specs.Names.{events}
+use Rattle.policy_maps.specs.Maps.{mapOf}
+use Rattle.policy_precedence.specs.Precedence.{namedIn}
+use Rattle.policy_precedence.proofs.Laws.{names-none, names-more, names-done}
+use Rattle.policy_precedence.proofs.names.Statement.{statement}
+use Rattle.policy_precedence.proofs.names.Tie as tie
+
+-- the events so far
+abbrev Inv-loop : tie.InvT-loop
+Inv-loop pairs map₀ i₀ map i = (map ≡ mapOf (namedIn pairs i) events) × (i ≤ length pairs)
+
+abbrev μ-loop : tie.MeasureT-loop
+μ-loop pairs map₀ i₀ map i = length pairs - i
+
+pub names-spec : {M : Type 1} → statement M
+names-spec =
+    tie.close
+    (tie.spec
+    Inv-loop
+    μ-loop
+    (λ c. (names-none _, zero-le))
+    (λ c. search needs)
+    (λ c κs. search needs)
+    (λ c κs. search needs)
+    (λ c. search needs)
+    (λ c. search needs)
+    (λ c. (search (names-more, needs), search needs))
+    (λ c. search (names-done, needs)))

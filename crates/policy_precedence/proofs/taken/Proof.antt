@@ -1,0 +1,17 @@
+use denote.Ref.{now}
+use borrow.Author.Needs.{needs}
+use Rattle.policy_precedence.proofs.Laws.{states-fit, never-fits, taken-is}
+use Rattle.policy_precedence.proofs.taken.Statement.{statement}
+use Rattle.policy_precedence.proofs.taken.Tie as tie
+
+pub taken-spec : {M : Type 1} → statement M
+taken-spec =
+    tie.close
+    (tie.spec
+    (λ c κs. search needs)
+    (λ c κs. search needs)
+    (λ c. let start = c .before .before .before in record { fits = states-fit (now (start .args .pairs)) _ _ (start .pre .0) (start .pre .1) })
+    (λ c. record { fits = never-fits _ _ (c .stuck-all .ensures) })
+    (λ c.
+    let start = c .before .before .before in
+    taken-is (now (start .args .pairs)) (start .args .bytes) _ _ _ (start .pre .1) (c .before .full .ensures .0) (c .stuck-all .ensures)))

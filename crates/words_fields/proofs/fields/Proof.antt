@@ -1,0 +1,6 @@
+use mathlib.Core.Path.{refl}
+use Rattle.words_fields.proofs.fields.Statement.{statement}
+use Rattle.words_fields.proofs.fields.Tie as tie
+
+pub fields-spec : {M : Type 1} → statement M
+fields-spec = tie.close (tie.spec (λ c. refl))

@@ -1,0 +1,55 @@
+-- Laws of a guest word's first refusal.
+use mathlib.Core.Path.{_≡_, sym, _∙_}
+use mathlib.Core.Bool.{Bool, true, false, _&&_}
+use Prim.Native.Nat.{ℕ, _≤_, _<_, _^_}
+use lib.Bits.{bitAnd}
+use lib.Dec.{ltb, eqb}
+use borrow.Author.Tests.{eq-eqb, ne-eqb, eqb-true, ltb-true}
+use Rattle.rules.specs.declared.Fields.{Fields}
+use Rattle.rules.specs.declared.Refusal.the-variants.{Taken, BadLanding}
+use Rattle.rules.specs.Names.{guestRegisters, topKind, numberOf}
+use Rattle.rules.specs.Words.{guestLimits, judgeOf, fieldsOf, kindOf, dOf, aOf, bOf, vOf, zeroOf, judgeWord, judgeAt}
+use Rattle.rules.proofs.WordLaws.{judged}
+use Rattle.words_fields.specs.Strays.{strayOf}
+use Rattle.words_fields.proofs.Tables.{and-left, and-right}
+use Rattle.words_guest.proofs.Masks.{guest-within}
+
+-- what is said of the fields, said of the word
+pub word-judged : (w : ℕ) (f : Fields) → f ≡ fieldsOf w → (x : ℕ) → x ≡ judgeOf (ltb 0 (zeroOf w)) f → x ≡ judgeWord w
+word-judged w f e x ex = ex ∙ rw e
+
+-- ---- a word without a stray bit
+
+pub clean-good : (w : ℕ) → w < 2 ^ 64 → kindOf w ≤ topKind → (s : ℕ) → s ≡ strayOf (guestLimits (kindOf w))
+    → (eqb (bitAnd w s) 0 && ltb (dOf w) guestRegisters && ltb (aOf w) guestRegisters && ltb (bOf w) guestRegisters) ≡ true → judgeWord w ≡ 0
+clean-good w fits h s es t =
+    let m = eqb (bitAnd w s) 0 in
+    let d = ltb (dOf w) guestRegisters in
+    let a = ltb (aOf w) guestRegisters in
+    let b = ltb (bOf w) guestRegisters in
+    let tb = and-left (m && d && a) b t in
+    let ta = and-left (m && d) a tb in
+    let i =
+    guest-within w fits h (rw es at (eqb-true (bitAnd w s) 0 (and-left m d ta))) (ltb-true _ _ (and-right m d ta)) (ltb-true _ _ (and-right (m && d) a tb))
+    (ltb-true _ _ (and-right (m && d && a) b t)) in
+    judged (ltb 0 (zeroOf w)) (fieldsOf w)
+    (record { kind = h; clean = rw (i .zero); kept = record { d = i .d; a = i .a; b = i .b; c = i .c; v = i .v } })
+
+pub clean-judged : (w : ℕ) (r : Bool) → (r ≡ true → judgeWord w ≡ 0) → r ≡ true → numberOf Taken ≡ judgeWord w
+clean-judged w r f e = sym (f e)
+
+-- ---- the refusal of a word among n
+
+module _ (n w x : ℕ) (e : x ≡ judgeWord w) where
+  pub at-bad : (x ≡ 0 → ⊥) → x ≡ judgeAt n w
+  unfolding judgeAt
+  at-bad h = rw (← e, ne-eqb x 0 h)
+
+  module _ (z : x ≡ 0) where
+    pub at-landing : (eqb (kindOf w) 10 && ltb n (vOf w)) ≡ true → numberOf BadLanding ≡ judgeAt n w
+    unfolding judgeAt
+    at-landing h = rw (← e, eq-eqb x 0 z, h)
+
+    pub at-good : (eqb (kindOf w) 10 && ltb n (vOf w)) ≡ false → numberOf Taken ≡ judgeAt n w
+    unfolding judgeAt
+    at-good h = rw (← e, eq-eqb x 0 z, h)

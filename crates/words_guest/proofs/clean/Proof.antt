@@ -1,0 +1,13 @@
+use mathlib.Core.Bool.{false≢true}
+use borrow.Author.Needs.{needs}
+use Rattle.words_guest.proofs.Judging.{clean-good}
+use Rattle.words_guest.proofs.clean.Statement.{statement}
+use Rattle.words_guest.proofs.clean.Tie as tie
+
+pub clean-spec : {M : Type 1} → statement M
+clean-spec =
+    tie.close
+    (tie.spec
+    (λ c e. absurd (false≢true e))
+    (λ c κs. search needs)
+    (λ c. clean-good _ (c .before .before .fits .w .fits) (c .before .if1 .left) _ (c .stray-bits .ensures)))

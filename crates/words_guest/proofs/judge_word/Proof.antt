@@ -1,0 +1,14 @@
+use borrow.Author.Needs.{needs}
+use Rattle.words_guest.proofs.Judging.{word-judged, clean-judged}
+use Rattle.words_guest.proofs.judge_word.Statement.{statement}
+use Rattle.words_guest.proofs.judge_word.Tie as tie
+
+pub judge-word-spec : {M : Type 1} → statement M
+judge-word-spec =
+    tie.close
+    (tie.spec
+    (λ c κs. search needs)
+    (λ c. search (clean-judged, needs))
+    (λ c κs. search needs)
+    (λ c κs. search needs)
+    (λ c. search (word-judged, needs)))

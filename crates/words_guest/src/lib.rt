@@ -1,0 +1,98 @@
+// The first refusal of a guest word, alone and among others.
+use rules::Answer;
+use rules::Machine;
+use rules::Refusal;
+use words_fields::fields;
+use words_refusals::TOP_KIND;
+use words_refusals::judge;
+ghost use mathlib.Core.Path.{_≡_};
+ghost use mathlib.Core.Bool.{true};
+ghost use Prim.Native.Nat.{_≤_};
+ghost use lib.ListN.{length};
+ghost use Rattle.rules.specs.Names.{topKind};
+ghost use Rattle.rules.specs.Words.{guestLimits, judgeWord, judgeAt, firstRefused};
+ghost use Rattle.words_fields.specs.Strays.{strayOf};
+
+// The kind with a landing.
+const GOIF: u64 = 10;
+
+// The hidden register, which is also the count of the guest's.
+const HIDDEN: u64 = Machine::HIDDEN as u64;
+
+// The bits that no instruction of a kind has: those of the fields that it lacks, and those above the bounds of c and v.
+fn stray_bits(k: u64) -> u64
+    requires { ⌜ k ≤ topKind ⌝ }
+    ensures { λ r. ⌜ r ≡ strayOf (guestLimits k) ⌝ }
+{
+    match k {
+        0 => 0xFFFF_FFFF_FFFF_FF00,
+        1 => 0x0000_0000_FFFF_F000,
+        2 => 0xFFFF_FFFF_FFFF_0000,
+        3 => 0xFFFF_FFFF_FFF0_0000,
+        4 => 0xFFFF_FFFF_FFF0_0000,
+        5 => 0xFFFF_FFFF_FFF0_0000,
+        6 => 0xFFFF_FFFF_FFF0_0000,
+        7 => 0xFFFF_FFE0_FFFF_0000,
+        8 => 0xFFFF_FFFF_FFFF_0000,
+        9 => 0xFFFF_FFFF_FFF0_0F00,
+        10 => 0x0000_0000_FFC0_0F00,
+        11 => 0xFFFF_FFFF_FFC0_0000,
+        12 => 0xFFFF_FFF0_FFFF_FF00,
+        _ => 0,
+    }
+}
+
+// Whether one AND and its registers show that a word is an instruction, which is the common case. A register field
+// that the kind lacks is 0, and passes.
+fn clean(w: u64) -> bool
+    ensures { λ r. ⌜ (r ≡ true → judgeWord w ≡ 0) ⌝ }
+{
+    let k = w % 256;
+    if k > TOP_KIND {
+        return false;
+    }
+    (w & stray_bits(k) == 0)
+        & ((w >> 8) % 16 < HIDDEN)
+        & ((w >> 12) % 16 < HIDDEN)
+        & ((w >> 16) % 16 < HIDDEN)
+}
+
+pub fn judge_word(w: u64) -> u8
+    ensures { λ r. ⌜ r ≡ judgeWord w ⌝ }
+{
+    if clean(w) {
+        return Refusal::TAKEN;
+    }
+    judge((w >> 24) % 256 > 0, fields(w))
+}
+
+// The first refusal of a word among n instructions, 3, 2, 4 or 8, or 0.
+pub fn judge_at(n: usize, w: u64) -> u8
+    ensures { λ r. ⌜ r ≡ judgeAt n w ⌝ }
+{
+    let number = judge_word(w);
+    let landing_bad = (w % 256 == GOIF) & ((n as u64) < w >> 32);
+    if number != 0 {
+        return number;
+    }
+    if landing_bad {
+        return Refusal::BAD_LANDING;
+    }
+    Refusal::TAKEN
+}
+
+// The first refusal among the words, or what is answered where there is none.
+pub fn judge_all(words: &[u64], taken: Answer) -> Answer
+    ensures { λ r. ⌜ r ≡ firstRefused (judgeAt (length (now (words .entry)))) (now (words .entry)) 0 taken ⌝ }
+{
+    let n = words.len();
+    let mut i: usize = 0;
+    while i < n {
+        let number = judge_at(n, words[i]);
+        if number != 0 {
+            return Answer { number, place: i };
+        }
+        i += 1;
+    }
+    taken
+}
