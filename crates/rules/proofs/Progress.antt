@@ -26,7 +26,7 @@ use Rattle.rules.specs.Bundles.{at4, addressOf, positionOf, shapeOf, bun
 use Rattle.rules.specs.Machines.{State, Ran, View, regAt, ifCell, landsAt, ifLanding, ifRoom, entryOf, onward, effectOf, applyOf, seen, nextOf, stepOf, runFrom, startOf, runOf, fits, installMemory}
 use Rattle.rules.specs.Guests.{Pair, Guest, rOf, guestStart}
 use Rattle.rules.specs.Runs.{begins, begunFrom, runOn, afterTaken, afterRun, after}
-use Rattle.rules.specs.Claims.{Stands, Progress}
+use Rattle.rules.specs.Claims.{Stands, Resumes, Progress}
 use Rattle.rules.proofs.Facts.{Right, Bundled}
 use Rattle.rules.proofs.Bools.{no, cases, cond-ind}
 use Rattle.rules.proofs.Conditions.{bundled-of, right-of, layout-of}
@@ -263,11 +263,6 @@ module _ (lay : Layout) (pol : Policy) (ws : List ℕ) (n : ℕ) (is : ℕ → I
   sim-moves s g k b run (over f st h p lh lp si pc q bk) = absurd (f .0 (sym st ∙ run))
   sim-moves s g k b run (live gg st h p lh lp pc m) = rw (fetched lay pol ws n is ok bs s h p lh lp pc) (mid-moves lay rd s pol n g h k b (is h) p m)
 
-  -- a first command, by its bundle
-  sim-start : (s : State) (g : Guest) (k b : ℕ) → s .status ≡ Running → positionOf lay (s .pc) ≡ 0 → Sim lay pol n is g k b s → (h : ℕ) × (h < n) × (s .pc ≡ addressOf lay h + 0)
-  sim-start s g k b run z (over f st h p lh lp si pc q bk) = absurd (f .0 (sym st ∙ run))
-  sim-start s g k b run z (live gg st h p lh lp pc m) = (h, lh, omega arith)
-
   -- room up to the third command: no command of the bundle pauses, and before the third none takes it
   goes-at : (s : State) (h p : ℕ) → h < n → p < bundleLength → s .pc ≡ addressOf lay h + p → (p ≤ 2 → Room rd s) → Goes (nextOf lay ws rd s)
   goes-at s h p lh lp pc r =
@@ -301,23 +296,32 @@ module _ (lay : Layout) (pol : Policy) (ws : List ℕ) (n : ℕ) (is : ℕ → I
       came-then lay ws rd (suc r) k b b₂ b₂ s run go z
       (⊎-elim (λ y. ⊎-elim (λ l. more y l) (λ l. now (inr l)) (running (stepOf lay ws rd s .status))) (λ y. now y) (sim-moves s _ (t .0) b run (t .1 .sim) go))
 
-  from-stand : (b : ℕ) (s : State) → Known lay pol n is past u0 rd g0 b s → s .status ≡ Running → StandsIn lay s → Room rd s → Came lay ws rd bundleLength 0 b (b + 1) s
-  from-stand b s w run (inr x) room = absurd (x run)
-  from-stand b s w run (inl x) room =
-      let t = tracks lay pol ws n is ok bs past u0 rd g0 b s w in
-      let q = sim-start s _ (t .0) b run x (t .1 .sim) in
-      reach 3 0 (q .0) 0 b (b + 1) s refl (q .1) (ap (λ (y : ℕ). b + y) (first-yes lay (s .pc) x)) w run (q .2) (λ _. room)
+  -- from wherever it is
+  from-here : (b : ℕ) (s : State) (g : Guest) (k : ℕ) → Known lay pol n is past u0 rd g0 b s → s .status ≡ Running → Room rd s → Sim lay pol n is g k b s → Came lay ws rd bundleLength 0 b (b + begins lay (s .pc)) s
+  from-here b s g k w run room (over f st h p lh lp si pc q bk) = absurd (f .0 (sym st ∙ run))
+  from-here b s g k w run room (live gg st h p lh lp pc m) =
+      let y = reach (3 - p) p h 0 b (b + begins lay (s .pc)) s (omega arith) lh refl w run pc (λ _. room) in
+      record { j = y .j; few = omega (arith, y .few); stands = y .stands; begun = y .begun }
 
-pub progress : Progress
+pub resumes : Resumes
 unfolding afterRun afterTaken runOn runOf
-progress lay pol ws mem gs v x run g lent len ll lr =
+resumes lay pol ws mem gs v run g lent len ll lr =
     let n = length ws / bundleLength in
     let is = bundleAt lay ws in
     let ok = right-of lay pol ws mem (v .passed) (v .installed) in
     let bs = bundled-of lay ws (v .passed) in
     let g0 = guestStart lay pol (installMemory lay pol mem) in
     let c = after lay pol ws mem gs in
+    let s = startOf (c .machine) (g .memory) (g .log) in
     let w = enter lay pol ws n is ok bs g0 c g len lent (stays lay pol ws mem gs n is ok bs v) in
-    let y = from-stand lay pol ws n is ok bs (c .records) (c .used) (g .readings) g0 (c .begun) (startOf (c .machine) (g .memory) (g .log)) w run x (omega arith, omega arith) in
+    let k = tracks lay pol ws n is ok bs (c .records) (c .used) (g .readings) g0 (c .begun) s w in
+    let y = from-here lay pol ws n is ok bs (c .records) (c .used) (g .readings) g0 (c .begun) s _ (k .0) w run (omega arith, omega arith) (k .1 .sim) in
     let t : fits lay (g .memory) ≡ true = rw (layout-of lay ws (v .passed), eq-eqb (length (g .memory)) (lay .size) len) in
     record { budget = y .j; few = y .few; stands = rw t (y .stands); begun = rw t (y .begun) }
+
+pub progress : Progress
+progress lay pol ws mem gs v x run g lent len ll lr =
+    let c = after lay pol ws mem gs in
+    let y = resumes lay pol ws mem gs v run g lent len ll lr in
+    let one : begins lay (c .machine .pc) ≡ 1 = ⊎-elim (λ z. first-yes lay (c .machine .pc) z) (λ z. absurd (z run)) x in
+    record { budget = y .budget; few = y .few; stands = y .stands; begun = y .begun ∙ ap (λ (k : ℕ). c .begun + k) one }

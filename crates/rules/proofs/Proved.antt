@@ -8,7 +8,7 @@ use Rattle.rules.proofs.Passing.{rewrite-leaves, rewritten-passes, pass
 use Rattle.rules.proofs.Before.{lists-before}
 use Rattle.rules.proofs.Endings.{endings}
 use Rattle.rules.proofs.Isolation.{guest-rule, isolation, no-wrap}
-use Rattle.rules.proofs.Progress.{progress}
+use Rattle.rules.proofs.Progress.{resumes, progress}
 use Rattle.rules.proofs.Pauses.{state-cell, paused-waits, pause-rule}
 use Rattle.rules.proofs.Moments.{splits, cuts}
 use Rattle.rules.proofs.Samples.{tray-holds}
@@ -33,6 +33,7 @@ proved =
       splits = splits;
       cuts = cuts;
       guestRule = guest-rule;
+      resumes = resumes;
       progress = progress;
       isolation = isolation;
       noWrap = no-wrap;

@@ -27,7 +27,7 @@ use Rattle.rules.specs.Commands.{wordOf, shlOf, fetchOf}
 use Rattle.rules.specs.Bundles.{addressOf, lastAddress, positionOf, shapeWith, shapeOf, valid, bundleAt, baseRight, countRight, commandsOf, rewriteAnswer, rewriteOutput, checkAnswer}
 use Rattle.rules.specs.Machines.{State, onward, leftIn, runFrom, runOf, installAnswer, installMemory}
 use Rattle.rules.specs.Guests.{Guest, guestAfter, guestStart, boxOf}
-use Rattle.rules.specs.Runs.{begunFrom, Given, Carried, afterRun, allRuns, after, Run, recordedIn, Matches, Lent, Served, pairsOf, eventsOf, waitingAt, pendingAt}
+use Rattle.rules.specs.Runs.{begins, begunFrom, Given, Carried, afterRun, allRuns, after, Run, recordedIn, Matches, Lent, Served, pairsOf, eventsOf, waitingAt, pendingAt}
 
 -- ---- masks and sizes
 
@@ -261,20 +261,29 @@ GuestRule =
 
 -- ---- progress: a machine that can go on reaches the next place of comparison in at most four steps
 
--- after a run of at most four steps the machine stands again, one bundle on
-pub record Proceeds (lay : Layout) (ws : List ℕ) (c : Carried) (g : Given) : Type 0 where
+-- after a run of at most four steps the machine stands again, with b bundles begun
+pub record Proceeds (lay : Layout) (ws : List ℕ) (c : Carried) (g : Given) (b : ℕ) : Type 0 where
   pub budget : ℕ
   pub few : budget ≤ bundleLength
   pub stands : Stands lay (afterRun lay ws c (givenFor g budget) .machine)
-  pub begun : afterRun lay ws c (givenFor g budget) .begun ≡ c .begun + 1
+  pub begun : afterRun lay ws c (givenFor g budget) .begun ≡ b
 
--- a machine that stands and runs, lent its memory, two log cells and a reading, comes to the next place of comparison
+-- a machine that runs, wherever in a bundle it is, as after a pause, lent its memory, two log cells and a reading: it comes to the next
+-- place of comparison; no bundle is begun on the way but the one on whose first command it is
+abbrev pub Resumes : Type 0
+Resumes =
+    (lay : Layout) (pol : Policy) (ws mem : List ℕ) (gs : List Given) → Served lay pol ws mem gs →
+    let c = after lay pol ws mem gs in
+    c .machine .status ≡ Running → (g : Given) → Lent lay c g → length (g .memory) ≡ lay .size → 2 ≤ length (g .log) → 1 ≤ length (g .readings) →
+    Proceeds lay ws c g (c .begun + begins lay (c .machine .pc))
+
+-- so one that stands comes one bundle on
 abbrev pub Progress : Type 0
 Progress =
     (lay : Layout) (pol : Policy) (ws mem : List ℕ) (gs : List Given) → Served lay pol ws mem gs →
     let c = after lay pol ws mem gs in
     Stands lay (c .machine) → c .machine .status ≡ Running →
-    (g : Given) → Lent lay c g → length (g .memory) ≡ lay .size → 2 ≤ length (g .log) → 1 ≤ length (g .readings) → Proceeds lay ws c g
+    (g : Given) → Lent lay c g → length (g .memory) ≡ lay .size → 2 ≤ length (g .log) → 1 ≤ length (g .readings) → Proceeds lay ws c g (c .begun + 1)
 
 -- ---- isolation
 

@@ -1,5 +1,5 @@
 -- Every claim of this crate, a field each: its one term is `proved`, in proofs/Proved.antt.
-use Rattle.rules.specs.Claims.{Masks, Landings, Installs, Sizes, WordsBack, BytesBack, RewriteLeaves, RewrittenPasses, PassedRewrites, OldRefused, PassedDecodes, ListsBefore, Endings, Splits, Cuts, GuestRule, Progress, Isolation, NoWrap, StateCell, PausedWaits, PauseRule}
+use Rattle.rules.specs.Claims.{Masks, Landings, Installs, Sizes, WordsBack, BytesBack, RewriteLeaves, RewrittenPasses, PassedRewrites, OldRefused, PassedDecodes, ListsBefore, Endings, Splits, Cuts, GuestRule, Resumes, Progress, Isolation, NoWrap, StateCell, PausedWaits, PauseRule}
 use Rattle.rules.specs.Tray.{TrayHolds}
 use Rattle.rules.specs.Sample.{SampleHolds}
 
@@ -20,6 +20,7 @@ pub record Proved : Type 0 where
   pub splits : Splits
   pub cuts : Cuts
   pub guestRule : GuestRule
+  pub resumes : Resumes
   pub progress : Progress
   pub isolation : Isolation
   pub noWrap : NoWrap

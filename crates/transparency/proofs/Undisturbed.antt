@@ -10,6 +10,7 @@ use lib.Dec.{eqb}
 use lib.ListN.{length, getD, take, drop, length-take, length-drop}
 use lib.Seq.{getD-take, getD-drop, getD-set-other}
 use Rattle.rules.specs.declared.Layout.{Layout}
+use Rattle.rules.specs.Names.{guestRegisters}
 use Rattle.rules.specs.Landings.{landingsOf}
 use Rattle.rules.specs.Layouts.{span, rightLayout, inBox}
 use Rattle.rules.specs.Policies.{Policy}
@@ -17,7 +18,8 @@ use Rattle.rules.specs.Words.{routine, bundlesFor}
 use Rattle.rules.specs.Bundles.{commandsOf}
 use Rattle.rules.specs.Machines.{installMemory, installAnswer}
 use Rattle.rules.specs.Guests.{Guest, guestAfter, guestStart, boxOf}
-use Rattle.rules.specs.Runs.{after}
+use Rattle.rules.specs.Runs.{Given, after, Served}
+use Rattle.rules.specs.Claims.{AgreesAt}
 use Rattle.rules.proofs.Bools.{both}
 use Rattle.rules.proofs.Facts.{Laid}
 use Rattle.rules.proofs.Conditions.{fits-of, laid-of, policy-facts, sets-beside}
@@ -25,13 +27,14 @@ use Rattle.rules.proofs.Landings.{length-landings}
 use Rattle.rules.proofs.Layouts.{LayoutFacts, layout-facts, in-box}
 use Rattle.rules.proofs.Masks.{masks}
 use Rattle.rules.proofs.Isolation.{guest-rule}
+use Rattle.rules.proofs.Pauses.{pause-rule}
 use Rattle.rules.proofs.Progress.{progress}
 use Rattle.engine_rules.specs.Claims.{after as engineAfter}
 use Rattle.engine_rules.specs.Engines.{refusalBy}
 use Rattle.engine_rules.proofs.Rule.{engine-rule, same-guest}
 use Rattle.engine_rules.proofs.Together.{run-counts-one}
 use Rattle.transparency.specs.Raw.{Raw, rawAfter, rawStart, BehavesFor}
-use Rattle.transparency.specs.Claims.{SameBox, Begins, Alike, Undisturbed, EngineUndisturbed, UndisturbedNext, EngineUndisturbedNext}
+use Rattle.transparency.specs.Claims.{SameBox, Begins, Alike, Undisturbed, EngineUndisturbed, UndisturbedPaused, UndisturbedNext, EngineUndisturbedNext}
 use Rattle.transparency.proofs.Like.{Like, after-like}
 
 -- a cell of the sandbox, among the memory's and among the sandbox's own
@@ -93,18 +96,30 @@ module _ (lay : Layout) (pol : Policy) (mem raw : List ℕ) (z : installAnswer l
   same-box g r m l e i h =
       sym (box-cell lay m i (facts .ordered) h) ∙ ap (λ (y : List ℕ). getD y (i - lay .low) 0) e ∙ sym (l .box i h)
 
+-- a machine that is the guest after k instructions is the raw run
+module _ (lay : Layout) (pol : Policy) (code mem raw : List ℕ) (gs : List Given) (reads : List ℕ) (s : SameBox lay mem raw) (v : Served lay pol (commandsOf lay code) mem gs) (p k : ℕ) where
+  alike : let c = after lay pol (commandsOf lay code) mem gs in
+      Begins (c .used) reads → BehavesFor lay pol (bundlesFor (length code)) (routine code) reads (rawStart raw) k
+      → AgreesAt lay p (guestAfter lay pol (bundlesFor (length code)) (routine code) (c .used) (guestStart lay pol (installMemory lay pol mem)) k) c
+      → Alike lay (rawAfter lay (routine code) reads (rawStart raw) k) (take guestRegisters (c .machine .regs)) (c .memory) (c .records) (length (c .used)) (c .machine .status)
+  alike b h a =
+      let c = after lay pol (commandsOf lay code) mem gs in
+      let l = raw-like lay pol mem raw (v .installed) s code (c .used) reads k b (a .used) h in
+      record {
+        ending = a .ending ∙ sym (l .status);
+        registers = a .regs ∙ sym (l .regs);
+        box = same-box lay pol mem raw (v .installed) s _ _ (c .memory) l (a .box);
+        recorded = a .records ∙ sym (l .records);
+        readings = a .used ∙ sym (l .used);
+      }
+
 pub undisturbed : Undisturbed
 undisturbed lay pol code mem raw room gs reads w s v b h x =
-    let c = after lay pol (commandsOf lay code) mem gs in
-    let a = guest-rule lay pol code mem room gs w v x in
-    let l = raw-like lay pol mem raw (v .installed) s code (c .used) reads (c .begun) b (a .used) h in
-    record {
-      ending = a .ending ∙ sym (l .status);
-      registers = a .regs ∙ sym (l .regs);
-      box = same-box lay pol mem raw (v .installed) s _ _ (c .memory) l (a .box);
-      recorded = a .records ∙ sym (l .records);
-      readings = a .used ∙ sym (l .used);
-    }
+    alike lay pol code mem raw gs reads s v 0 _ b h (guest-rule lay pol code mem room gs w v x)
+
+pub undisturbed-paused : UndisturbedPaused
+undisturbed-paused lay pol code mem raw room gs reads w s v b h x =
+    alike lay pol code mem raw gs reads s v 2 _ b h (pause-rule lay pol code mem room gs w v x .agrees)
 
 pub undisturbed-next : UndisturbedNext
 undisturbed-next lay pol code mem raw room gs reads w s v b h x t g lg n =

@@ -1,5 +1,5 @@
 -- What is claimed of a routine that behaves: the sandbox does not disturb it, in the machine and in the engine.
-use Prim.Native.Nat.{ℕ, _+_, _<_}
+use Prim.Native.Nat.{ℕ, _+_, _-_, _<_}
 use mathlib.Core.Path.{_≡_}
 use mathlib.Core.Bool.{true}
 use mathlib.Core.List.{List}
@@ -14,7 +14,7 @@ use Rattle.rules.specs.Words.{routine, bundlesFor}
 use Rattle.rules.specs.Bundles.{rewriteAnswer, commandsOf}
 use Rattle.rules.specs.Guests.{Pair}
 use Rattle.rules.specs.Runs.{Given, Lent, Served, after}
-use Rattle.rules.specs.Claims.{Stands, Proceeds, givenFor}
+use Rattle.rules.specs.Claims.{Stands, Waiting, Proceeds, givenFor}
 use Rattle.engine_rules.specs.Claims.{Enough, Served as EngineServed, Lent as EngineLent, after as engineAfter, afterRun as engineRun}
 use Rattle.transparency.specs.Raw.{Raw, rawAfter, rawStart, BehavesFor}
 
@@ -58,8 +58,21 @@ EngineUndisturbed =
     EngineServed lay pol code mem gs → Begins (c .used) reads → BehavesFor lay pol (bundlesFor (length code)) is reads (rawStart raw) (c .counted) →
     Alike lay (rawAfter lay is reads (rawStart raw) (c .counted)) (c .engine .regs) (c .memory) (c .records) (length (c .used)) (c .engine .status)
 
+-- at a pause for log or probe, on the third command of an event bundle, beside the raw run after the bundles wholly behind
+abbrev pub UndisturbedPaused : Type 0
+UndisturbedPaused =
+    (lay : Layout) (pol : Policy) (code mem raw : List ℕ) (room : ℕ) (gs : List Given) (reads : List ℕ) →
+    rewriteAnswer lay code room .number ≡ 0 → SameBox lay mem raw →
+    let ws = commandsOf lay code in
+    let c = after lay pol ws mem gs in
+    let is = routine code in
+    Served lay pol ws mem gs → Begins (c .used) reads → BehavesFor lay pol (bundlesFor (length code)) is reads (rawStart raw) (c .begun - 1) →
+    Waiting lay ws (c .machine) →
+    Alike lay (rawAfter lay is reads (rawStart raw) (c .begun - 1)) (take guestRegisters (c .machine .regs)) (c .memory) (c .records) (length (c .used)) (c .machine .status)
+
 -- 'A pause is no instruction, and a run that can go on follows it': where the raw run is not over, the caged one, lent its memory,
--- two log cells and a reading, comes to the next place of comparison in at most four steps, one bundle on
+-- two log cells and a reading, comes to the next place of comparison in at most four steps, one bundle on; from a pause by `Resumes`,
+-- with the bundle that it had begun
 abbrev pub UndisturbedNext : Type 0
 UndisturbedNext =
     (lay : Layout) (pol : Policy) (code mem raw : List ℕ) (room : ℕ) (gs : List Given) (reads : List ℕ) →
@@ -69,7 +82,7 @@ UndisturbedNext =
     let is = routine code in
     Served lay pol ws mem gs → Begins (c .used) reads → BehavesFor lay pol (bundlesFor (length code)) is reads (rawStart raw) (c .begun) →
     Stands lay (c .machine) → rawAfter lay is reads (rawStart raw) (c .begun) .status ≡ Running →
-    (g : Given) → Lent lay c g → Enough lay g → Proceeds lay ws c g
+    (g : Given) → Lent lay c g → Enough lay g → Proceeds lay ws c g (c .begun + 1)
 
 -- and the engine counts one more instruction
 abbrev pub EngineUndisturbedNext : Type 0
