@@ -1,4 +1,5 @@
-//! Links the static library of the C interface when the feature `native` is on.
+//! Links the static libraries of the C interface when the feature `native` is
+//! on.
 
 use std::path::Path;
 
@@ -9,8 +10,10 @@ fn main() {
     }
     let package = std::env::var("CARGO_MANIFEST_DIR").expect("cargo names the package's folder");
     let folder = Path::new(&package).join("../target/staticlib");
-    let library = folder.join("libcapi.a");
-    println!("cargo:rerun-if-changed={}", library.display());
     println!("cargo:rustc-link-search=native={}", folder.display());
-    println!("cargo:rustc-link-lib=static=capi");
+    for library in ["capi", "capi_engine"] {
+        let file = folder.join(format!("lib{library}.a"));
+        println!("cargo:rerun-if-changed={}", file.display());
+        println!("cargo:rustc-link-lib=static={library}");
+    }
 }

@@ -9,6 +9,7 @@
 
 mod befores;
 mod determinise;
+mod engine;
 mod forward;
 mod install;
 mod merge;
@@ -17,6 +18,7 @@ mod run;
 
 pub use befores::befores;
 pub use determinise::determinise;
+pub use engine::{engine, engine_record};
 pub use forward::{check_forward, forward};
 pub use install::{install, install_record, load, load_record, word_right};
 pub use merge::merge;

@@ -1,9 +1,10 @@
 //! Installing a policy and a list of landings.
 
+use super::landings::{are_bad_landings, landing_cells};
 use super::layout::lent_right;
 use super::outputs::{answer, refuse, Refused};
 use super::policies::{is_bad_policy, is_entry};
-use crate::names::{CELL_BITS, LANDING_CELLS, MOST_BUNDLES, MOST_STATES};
+use crate::names::MOST_STATES;
 use crate::{Answer, Layout, Machine, Policy, Refusal};
 
 /// Request [3]: 'it says yes exactly when S is from 1 to 16 and each of the
@@ -11,15 +12,6 @@ use crate::{Answer, Layout, Machine, Policy, Refusal};
 pub fn word_right(states: u32, word: u32) -> bool {
     let bytes = word.to_le_bytes();
     (1..=MOST_STATES).contains(&states) && bytes.iter().all(|&byte| is_entry(states, byte))
-}
-
-/// Request [1]: '14 (bad landing list: not strictly rising, or an entry above
-/// 1,023)'.
-fn are_bad_landings(landings: &[u32]) -> bool {
-    landings.windows(2).any(|next| next[0] >= next[1])
-        || landings
-            .iter()
-            .any(|&landing| landing as usize >= MOST_BUNDLES)
 }
 
 /// 'Installing: 7, 10'; request [1]: '14 comes after 10'.
@@ -40,17 +32,6 @@ fn judge(
         return refuse(Refusal::BadLandings);
     }
     Ok(())
-}
-
-/// 'Instruction 32k + j in bit j of cell Q + k'; 'sets exactly those bits and
-/// clears all others in the 32 cells'.
-fn landing_cells(landings: &[u32]) -> [u32; LANDING_CELLS as usize] {
-    let mut cells = [0; LANDING_CELLS as usize];
-    for landing in landings {
-        let (k, j) = (landing / CELL_BITS, landing % CELL_BITS);
-        cells[k as usize] += 1 << j;
-    }
-    cells
 }
 
 /// 'Installing writes the start state to M and the table to its cells, nothing

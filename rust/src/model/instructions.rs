@@ -1,5 +1,6 @@
 //! The guest's instructions.
 
+use super::arithmetic::{add, and, or, sar, sub};
 use super::outputs::{refuse, Refused};
 use super::words::{fields, word, Fields};
 use crate::names::{GUEST_REGISTERS, MOST_INSTRUCTIONS, TOP_CONDITION, TOP_EVENT, TOP_SHIFT};
@@ -87,6 +88,22 @@ impl Instr {
             .any(|&register| register >= GUEST_REGISTERS)
             || c > TOP_CONDITION
             || out_of_bound
+    }
+}
+
+/// What one of the kinds 1 to 7 puts into which register: 'rd becomes v', 'rd
+/// becomes ra', and so on.
+pub fn outcome(instr: Instr, regs: &[u32; GUEST_REGISTERS as usize]) -> (u32, u32) {
+    let get = |register: u32| regs[register as usize];
+    match instr {
+        Instr::Set { d, v } => (d, v),
+        Instr::Move { d, a } => (d, get(a)),
+        Instr::Add { d, a, b } => (d, add(get(a), get(b))),
+        Instr::Sub { d, a, b } => (d, sub(get(a), get(b))),
+        Instr::And { d, a, b } => (d, and(get(a), get(b))),
+        Instr::Or { d, a, b } => (d, or(get(a), get(b))),
+        Instr::Sar { d, a, v } => (d, sar(get(a), v)),
+        other => unreachable!("{other:?} does more than that"),
     }
 }
 

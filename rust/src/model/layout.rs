@@ -61,6 +61,12 @@ pub fn lent_right(layout: &Layout, memory: &[u32]) -> bool {
     layout_right(layout) && memory.len() == layout.size as usize
 }
 
+/// The table's cell for an event in a state: 'P + 16 × cell M + v', 'summed
+/// without wrap'.
+pub fn entry_address(layout: &Layout, state: u32, event: u32) -> u64 {
+    u64::from(layout.table) + u64::from(EVENTS) * u64::from(state) + u64::from(event)
+}
+
 /// What an event records of r0. Request [2]: 'an order now records the smaller
 /// of r0 and its ceiling', 'readings are untouched'.
 pub fn recorded(layout: &Layout, event: u32, r0: u32) -> u32 {

@@ -1,7 +1,6 @@
-//! The engine of the C library (`hemdroas_engine`), wrapped as [`crate::native`]
-//! wraps the other functions.
+//! Running a routine as it is written.
 
-use crate::{Ending, EngineAnswer, EngineRecord, Layout, LayoutArray, Refusal};
+use crate::{Ending, Engine, EngineAnswer, EngineRecord, Layout, LayoutArray, Refusal};
 
 #[rustfmt::skip]
 extern "C" {
@@ -11,10 +10,12 @@ extern "C" {
 }
 
 fn engine_answer([number, place, instructions, pairs, readings]: [u32; 5]) -> EngineAnswer {
-    let came = match (Ending::from_number(number), Refusal::from_number(number)) {
-        (_, Some(refusal)) => Err((refusal, place)),
-        (Some(ending), None) if place == 0 => Ok(ending),
-        _ => panic!("the library answered {number} at {place}"),
+    let came = match (Refusal::from_number(number), Ending::from_number(number)) {
+        (Some(refusal), _) => Err((refusal, place)),
+        (None, Some(ending)) if place == 0 => Ok(ending),
+        _ => {
+            panic!("the library answered {number} at {place}, which is neither refusal nor ending")
+        }
     };
     EngineAnswer {
         came,
@@ -24,8 +25,25 @@ fn engine_answer([number, place, instructions, pairs, readings]: [u32; 5]) -> En
     }
 }
 
-/// Runs guest words as they are written, until they end, pause or have used up
-/// the budget of instructions.
+/// Runs a routine's words as they are written, until they end, pause or have
+/// used up the budget of instructions.
+pub fn engine(
+    layout: &Layout,
+    words: &[u64],
+    engine: &mut Engine,
+    memory: &mut [u32],
+    budget: u32,
+    readings: &[u32],
+    log: &mut [u32],
+) -> EngineAnswer {
+    let mut record = engine.to_record();
+    let answer = engine_record(layout, words, &mut record, memory, budget, readings, log);
+    *engine = record.to_engine();
+    answer
+}
+
+/// [`engine`] on a record of the C interface, whose status may be any number:
+/// one above all counts as faulted and comes back as it was.
 pub fn engine_record(
     layout: &Layout,
     words: &[u64],
@@ -36,9 +54,6 @@ pub fn engine_record(
     log: &mut [u32],
 ) -> EngineAnswer {
     let mut five = [0; 5];
-    // The pointers come from live slices and arrays of the lengths given beside
-    // them, and Rust's borrowing keeps those that the library writes apart from
-    // all others.
     unsafe {
         hemdroas_engine(
             &layout.to_array(),

@@ -1,39 +1,69 @@
-//! The types of the engine, which runs a routine as it is written.
+//! Engines, which run a routine as it is written.
 
+use super::answers::{Ending, Refusal};
+use super::machine::{numbers, parts, Status};
 use crate::names::GUEST_REGISTERS;
-use crate::{Ending, Refusal, Status};
 
-/// An engine between two runs, as the C interface holds it: the guest's
-/// registers, the index of the next instruction, status. A host may have
-/// written any number into any of them.
+const REGISTERS: usize = GUEST_REGISTERS as usize;
+
+/// An engine between two runs.
+#[derive(Clone, Copy, Debug, PartialEq, Eq)]
+pub struct Engine {
+    /// The guest's registers.
+    pub regs: [u32; REGISTERS],
+    /// The index of the next instruction.
+    pub at: u32,
+    /// What the engine is doing.
+    pub status: Status,
+}
+
+impl Engine {
+    /// An engine before its first run.
+    pub const FIRST: Engine = Engine {
+        regs: [0; REGISTERS],
+        at: 0,
+        status: Status::Running,
+    };
+
+    /// The engine as the C interface holds it.
+    pub fn to_record(&self) -> EngineRecord {
+        EngineRecord(numbers(&self.regs, self.at, self.status))
+    }
+}
+
+/// An engine as the C interface holds it: its registers, the index of the next
+/// instruction, status. A host may have written any number into any of them.
 #[derive(Clone, Copy, Debug, PartialEq, Eq)]
 pub struct EngineRecord(pub [u32; EngineRecord::LENGTH]);
 
 impl EngineRecord {
+    /// The place of the index, which follows the registers.
+    pub const AT: usize = REGISTERS;
+    /// The place of the status.
+    pub const STATUS: usize = REGISTERS + 1;
     /// The numbers of a record.
-    pub const LENGTH: usize = GUEST_REGISTERS as usize + 2;
+    pub const LENGTH: usize = REGISTERS + 2;
 
-    /// 'At first zeros and running.'
-    pub const FIRST: EngineRecord = EngineRecord([0; EngineRecord::LENGTH]);
-
-    /// The guest's registers.
-    pub fn regs(&self) -> &[u32] {
-        &self.0[..GUEST_REGISTERS as usize]
+    /// The engine that this record stands for.
+    pub fn to_engine(&self) -> Engine {
+        let (regs, at, status) = parts(&self.0);
+        Engine { regs, at, status }
     }
 
-    /// The index of the next instruction.
-    pub fn at(&self) -> u32 {
-        self.0[GUEST_REGISTERS as usize]
-    }
-
-    /// What the engine is doing; a number that stands for nothing counts as
-    /// faulted.
-    pub fn status(&self) -> Status {
-        Status::from_number(self.0[EngineRecord::LENGTH - 1])
+    /// Runs the engine that this record stands for, and keeps what becomes of
+    /// it. One that is not running stays as it is, with a status above all too.
+    pub fn run(&mut self, run: impl FnOnce(&mut Engine) -> EngineAnswer) -> EngineAnswer {
+        let mut engine = self.to_engine();
+        let is_running = engine.status == Status::Running;
+        let answer = run(&mut engine);
+        if is_running {
+            *self = engine.to_record();
+        }
+        answer
     }
 }
 
-/// The answer of a run of the engine. A refused run has zeros beside it.
+/// The answer of an engine's run. A refused run has three zeros behind it.
 #[derive(Clone, Copy, Debug, PartialEq, Eq)]
 #[must_use]
 pub struct EngineAnswer {

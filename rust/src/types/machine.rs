@@ -3,7 +3,7 @@
 use super::answers::RunAnswer;
 use crate::names::REGISTERS;
 
-/// What a machine is doing.
+/// What a machine or an engine is doing.
 #[derive(Clone, Copy, Debug, PartialEq, Eq)]
 pub enum Status {
     /// 0: it has steps left to do.
@@ -42,6 +42,27 @@ impl Status {
     }
 }
 
+/// A record's numbers: registers, the place of what comes next, status.
+pub(super) fn numbers<const REGISTERS: usize, const LENGTH: usize>(
+    regs: &[u32; REGISTERS],
+    place: u32,
+    status: Status,
+) -> [u32; LENGTH] {
+    let mut numbers = [0; LENGTH];
+    numbers[..REGISTERS].copy_from_slice(regs);
+    numbers[REGISTERS..].copy_from_slice(&[place, status.number()]);
+    numbers
+}
+
+/// What a record's numbers stand for.
+pub(super) fn parts<const REGISTERS: usize, const LENGTH: usize>(
+    numbers: &[u32; LENGTH],
+) -> ([u32; REGISTERS], u32, Status) {
+    let regs = std::array::from_fn(|register| numbers[register]);
+    let status = Status::from_number(numbers[REGISTERS + 1]);
+    (regs, numbers[REGISTERS], status)
+}
+
 /// A machine between two runs.
 #[derive(Clone, Copy, Debug, PartialEq, Eq)]
 pub struct Machine {
@@ -72,11 +93,7 @@ impl Machine {
 
     /// The machine as the C interface holds it.
     pub fn to_record(&self) -> Record {
-        let mut record = Record([0; Record::LENGTH]);
-        record.0[..REGISTERS].copy_from_slice(&self.regs);
-        record.0[Record::PC] = self.pc;
-        record.0[Record::STATUS] = self.status.number();
-        record
+        Record(numbers(&self.regs, self.pc, self.status))
     }
 }
 
@@ -95,11 +112,8 @@ impl Record {
 
     /// The machine that this record stands for.
     pub fn to_machine(&self) -> Machine {
-        Machine {
-            regs: std::array::from_fn(|register| self.0[register]),
-            pc: self.0[Record::PC],
-            status: Status::from_number(self.0[Record::STATUS]),
-        }
+        let (regs, pc, status) = parts(&self.0);
+        Machine { regs, pc, status }
     }
 
     /// Runs the machine that this record stands for, and keeps what becomes of

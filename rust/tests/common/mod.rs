@@ -8,6 +8,7 @@
 pub mod inputs;
 pub mod rng;
 pub mod tally;
+pub mod world;
 
 use std::io::Write;
 

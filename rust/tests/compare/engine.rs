@@ -1,20 +1,22 @@
-//! The engine of the C library against the model, and beside the machine.
+//! Running a routine as it is written, request [5]; and beside the machine.
 
-mod common;
-
-use common::inputs::{
+use crate::ceilings::{about, beside_its_ceiling};
+use crate::common::inputs::{
     altered_layout, damaged_routine, landings, layout_and_routine, length, policy, rewritten,
     right_layout, routine,
 };
-use common::{cases, Rng, Tally};
-use hemdroas::model::{self, bundles};
-use hemdroas::names::{BUNDLE_LENGTH, GUEST_REGISTERS};
-use hemdroas::{
-    native, native_engine, Answer, Ending, EngineAnswer, EngineRecord, Layout, Machine, Status,
-};
+use crate::common::world::World;
+use crate::common::{cases, Rng, Tally};
+use crate::run::{some_budget, some_log, some_readings};
+use hemdroas::model::{self, bundles, Instr};
+use hemdroas::names::{EVENTS, GUEST_REGISTERS, NO_ARROW, ORDERS};
+use hemdroas::{native, Answer, Ending, Engine, EngineAnswer, EngineRecord, Layout, Status};
 
-/// Refusals 2, 3, 4, 5, 7, 8, and every ending.
+/// Refusals 2, 3, 4, 5, 7 and 8, and every ending.
 const NUMBERS: [u32; 13] = [2, 3, 4, 5, 7, 8, 20, 21, 22, 23, 24, 25, 26];
+
+/// With a status above all, if it is not refused: it counts as faulted.
+const ABOVE: (&str, &[u32]) = ("engine with a status above 4", &[22]);
 
 /// What a run is lent beside layout, words and readings.
 #[derive(Clone, Debug, PartialEq)]
@@ -24,8 +26,7 @@ struct Lent {
     log: Vec<u32>,
 }
 
-/// Runs both, compares all, and hands on what they left.
-fn run(
+fn engine(
     tally: &mut Tally,
     layout: &Layout,
     words: &[u64],
@@ -33,233 +34,293 @@ fn run(
     budget: u32,
     readings: &[u32],
 ) -> EngineAnswer {
-    let (mut ours, mut theirs) = (lent.clone(), lent.clone());
-    let answer = model::engine_record(
-        layout,
-        words,
-        &mut ours.record,
-        &mut ours.memory,
-        budget,
-        readings,
-        &mut ours.log,
-    );
-    let given = native_engine::engine_record(
-        layout,
-        words,
-        &mut theirs.record,
-        &mut theirs.memory,
-        budget,
-        readings,
-        &mut theirs.log,
-    );
+    let mut left = lent.clone();
+    let (memory, log) = (&mut left.memory, &mut left.log);
+    let answer = left
+        .record
+        .run(|engine| model::engine(layout, words, engine, memory, budget, readings, log));
+
+    let mut theirs = lent.clone();
+    let Lent {
+        record,
+        memory,
+        log,
+    } = &mut theirs;
+    let given = native::engine_record(layout, words, record, memory, budget, readings, log);
     let input = || format!("{words:x?} from {lent:?} under {layout:?}, {budget}, {readings:?}");
     assert_eq!(given, answer, "running {}", input());
-    assert_eq!(theirs, ours, "what was lent to {}", input());
-    if answer.came.is_err() {
-        assert_eq!(&ours, lent, "a refused run of {}", input());
+    assert_eq!(theirs, left, "what was lent to {}", input());
+
+    let status = lent.record.0[EngineRecord::STATUS];
+    if answer.came.is_err() || status != 0 {
         let zeros = (answer.instructions, answer.pairs, answer.readings);
-        assert_eq!(zeros, (0, 0, 0), "a refused run of {}", input());
+        assert_eq!((&left, zeros), (&*lent, (0, 0, 0)), "{}", input());
     }
-    if lent.record.status() != Status::Running {
-        assert_eq!(ours, *lent, "an engine that is over, {}", input());
+    if answer.came.is_ok() && status > Status::Strayed.number() {
+        tally.count(ABOVE.0, answer.number());
     }
     tally.count("engine", answer.number());
     tally.add("instructions", u64::from(answer.instructions));
     tally.add("pairs", u64::from(answer.pairs));
-    *lent = ours;
+    tally.add("readings", u64::from(answer.readings));
+    *lent = left;
     answer
 }
 
-fn some_budget(rng: &mut Rng) -> u32 {
-    let budget = match rng.below(8) {
-        0 => 0,
-        1 | 2 => 1,
-        3 => rng.between(2, 12),
-        _ => rng.between(13, 400),
-    };
-    budget as u32
-}
-
-/// A memory as installing leaves it, or any.
-fn some_memory(rng: &mut Rng, layout: &Layout) -> Vec<u32> {
+/// A memory with a policy and landings installed.
+fn installed(rng: &mut Rng, layout: &Layout) -> Vec<u32> {
     let mut memory = rng.cells(layout.size as usize);
-    if rng.chance(85) {
-        let arrows = rng.between(60, 100);
-        let policy = policy(rng, layout.states, arrows);
-        let landings = landings(rng);
-        let (answer, _) = model::install(layout, &policy.lend(), &landings, &mut memory);
-        assert_eq!(answer, Answer::Taken(0));
-    }
+    let arrows = rng.between(60, 100);
+    let policy = policy(rng, layout.states, arrows);
+    let landings = landings(rng);
+    let (answer, _) = model::install(layout, &policy.lend(), &landings, &mut memory);
+    assert_eq!(answer, Answer::Taken(0));
     memory
 }
 
-#[test]
-fn the_engine_is_the_model() {
-    let (mut tally, mut rng) = Tally::new("engine", 30);
-    for _ in 0..cases(12_000) {
-        let n = length(&mut rng);
-        let right = right_layout(&mut rng, bundles(n));
-        let words = if rng.chance(35) {
-            damaged_routine(&mut rng, &right, n)
+/// A record about a routine of `n`: any registers, the index inside it more
+/// often than not, any status.
+fn some_record(rng: &mut Rng, n: usize) -> EngineRecord {
+    let mut record = EngineRecord(std::array::from_fn(|_| rng.word() >> rng.below(32)));
+    let bundles = bundles(n);
+    record.0[EngineRecord::AT] = match rng.below(8) {
+        0 => rng.pick(&[bundles as u32, bundles as u32 + 1, 1024, u32::MAX]),
+        _ => rng.below(bundles) as u32,
+    };
+    record.0[EngineRecord::STATUS] = match rng.below(5) {
+        0 => rng.between(1, 4) as u32,
+        1 => rng.pick(&[5, 6, 255, 256, 1 << 16, 1 << 31, u32::MAX]),
+        _ => 0,
+    };
+    record
+}
+
+/// Routines, some of them damaged, with records and memories as they are after
+/// installing or made by hand, run several times.
+fn routines(tally: &mut Tally, rng: &mut Rng) {
+    for _ in 0..cases(20_000) {
+        let n = length(rng);
+        let mut layout = right_layout(rng, bundles(n));
+        let words = if rng.chance(40) {
+            damaged_routine(rng, &layout, n)
         } else {
-            routine(&mut rng, &right, n)
+            routine(rng, &layout, n)
         };
-        let mut memory = some_memory(&mut rng, &right);
-        let layout = if rng.chance(6) {
-            altered_layout(&mut rng, &right)
+        let mut memory = if rng.chance(85) {
+            installed(rng, &layout)
         } else {
-            right
+            rng.cells(layout.size as usize)
         };
-        if rng.chance(3) {
-            memory.push(0);
+        match rng.below(30) {
+            0 => layout = altered_layout(rng, &layout),
+            1 => {
+                let cells = memory.len();
+                memory.resize(rng.pick(&[cells - 1, cells + 1, 0, 2 * cells]), 0);
+            }
+            // The engine looks at no code base.
+            2 => layout.base = rng.word(),
+            _ => {}
         }
-        let mut record = EngineRecord::FIRST;
-        if rng.chance(15) {
-            record.0 = std::array::from_fn(|_| rng.word() % 2000);
-            record.0[EngineRecord::LENGTH - 1] = rng.pick(&[0, 0, 0, 1, 2, 3, 4, 5, 9, u32::MAX]);
-        }
-        let room = rng.below(30);
+        let record = if rng.chance(30) {
+            some_record(rng, n)
+        } else {
+            Engine::FIRST.to_record()
+        };
         let mut lent = Lent {
             record,
             memory,
-            log: rng.cells(room),
+            log: Vec::new(),
         };
         for _ in 0..rng.between(1, 4) {
-            let budget = some_budget(&mut rng);
-            let count = rng.below(12);
-            let readings = rng.cells(count);
-            let answer = run(&mut tally, &layout, &words, &mut lent, budget, &readings);
+            lent.log = some_log(rng);
+            let (budget, readings) = (some_budget(rng), some_readings(rng));
+            let answer = engine(tally, &layout, &words, &mut lent, budget, &readings);
             if answer.came.is_err() {
                 break;
             }
-            let room = rng.below(30);
-            lent.log = rng.cells(room);
         }
     }
-    tally.conclude(&[("engine", &NUMBERS)]);
+}
+
+/// Each event with each table cell that matters, each pause at its bound and
+/// budget or none. Whatever the log and the readings, a table address of U or
+/// more faults, and then no arrow stops.
+fn each_event(tally: &mut Tally, rng: &mut Rng) {
+    let layout = right_layout(rng, 2);
+    let rows = (layout.size - layout.table) / EVENTS;
+    for v in 0..EVENTS {
+        for state in [0, rows - 1, rows, rows + 1, 1 << 28, u32::MAX] {
+            for to in [0, 254, NO_ARROW, 256, u32::MAX] {
+                for (log, readings) in [(0, 0), (1, 0), (1, 1), (2, 0), (2, 1), (3, 2)] {
+                    for budget in 0..2 {
+                        let mut memory = rng.cells(layout.size as usize);
+                        memory[layout.cell as usize] = state;
+                        let entry = u64::from(layout.table + v) + u64::from(state) * 16;
+                        let outside = entry >= u64::from(layout.size);
+                        let own = entry == u64::from(layout.cell);
+                        if !outside && !own {
+                            memory[entry as usize] = to;
+                        }
+                        let mut lent = Lent {
+                            record: Engine::FIRST.to_record(),
+                            memory,
+                            log: vec![7; log],
+                        };
+                        let words = [Instr::Event { v }.word()];
+                        let readings = &[1800, 1950][..readings];
+                        let answer = engine(tally, &layout, &words, &mut lent, budget, readings);
+                        if budget == 0 {
+                            assert_eq!(answer.came, Ok(Ending::Spent));
+                        } else if outside {
+                            assert_eq!(answer.came, Ok(Ending::Fault));
+                            tally.note("22 for a table address", 1);
+                        } else if to == NO_ARROW && !own {
+                            assert_eq!(answer.came, Ok(Ending::NoArrow));
+                            let pauses = log < 2 || v >= ORDERS && readings.is_empty();
+                            tally.note("21 before a pause", u64::from(pauses));
+                        }
+                    }
+                }
+            }
+        }
+    }
+}
+
+/// Each index about N, of routines of each length about a power of two: HALT
+/// from n on, a fault from N on.
+fn each_index(tally: &mut Tally, rng: &mut Rng) {
+    for n in [0, 1, 2, 3, 4, 7, 8, 255, 256, 1022, 1023] {
+        let bundles = bundles(n);
+        let layout = right_layout(rng, bundles);
+        let words = vec![Instr::Set { d: 14, v: 9 }.word(); n];
+        for at in [0, n, bundles - 1, bundles, bundles + 1, 1 << 20, 1 << 31] {
+            for _ in 0..cases(8) {
+                let mut record = some_record(rng, n);
+                record.0[EngineRecord::AT] = at as u32;
+                record.0[EngineRecord::STATUS] = 0;
+                let mut lent = Lent {
+                    record,
+                    memory: installed(rng, &layout),
+                    log: Vec::new(),
+                };
+                let answer = engine(tally, &layout, &words, &mut lent, 1, &[]);
+                let expected = if at < n {
+                    Ending::Spent
+                } else if at < bundles {
+                    Ending::Done
+                } else {
+                    tally.note("22 for an index of N or more", 1);
+                    Ending::Fault
+                };
+                assert_eq!((answer.came, answer.instructions), (Ok(expected), 1));
+            }
+        }
+    }
+}
+
+/// Request [2]: each order with r0 about its ceiling.
+fn each_ceiling(tally: &mut Tally, rng: &mut Rng) {
+    for _ in 0..cases(60) {
+        let layout = right_layout(rng, 2);
+        for v in 0..ORDERS {
+            let ceiling = layout.ceilings[v as usize];
+            for r0 in about(ceiling) {
+                let mut memory = installed(rng, &layout);
+                memory[layout.cell as usize] = 0;
+                memory[(layout.table + v) as usize] = 0;
+                let mut lent = Lent {
+                    record: Engine::FIRST.to_record(),
+                    memory,
+                    log: vec![7; 2],
+                };
+                lent.record.0[0] = r0;
+                let words = [Instr::Event { v }.word()];
+                let answer = engine(tally, &layout, &words, &mut lent, 1, &[]);
+                assert_eq!((answer.came, answer.pairs), (Ok(Ending::Spent), 1));
+                assert_eq!(lent.log, [v, r0.min(ceiling)]);
+                assert_eq!(lent.record.0[0], r0, "r0 keeps its content");
+                tally.note(beside_its_ceiling(r0, ceiling), 1);
+            }
+        }
+    }
 }
 
 #[test]
-fn a_status_that_stands_for_nothing_is_faulted_and_comes_back() {
-    let (layout, words) = layout_and_routine(&mut Rng::new(31));
-    let mut memory = vec![0; layout.size as usize];
-    for status in [5, 6, 255, 1 << 31, u32::MAX] {
-        let mut record = EngineRecord([7; EngineRecord::LENGTH]);
-        record.0[EngineRecord::LENGTH - 1] = status;
-        let before = record;
-        let answer = native_engine::engine_record(
-            &layout,
-            &words,
-            &mut record,
-            &mut memory,
-            10,
-            &[],
-            &mut [],
-        );
-        assert_eq!(answer.came, Ok(Ending::Fault));
-        assert_eq!(answer.instructions, 0);
-        assert_eq!(record, before);
+fn running_as_written() {
+    let (mut tally, mut rng) = Tally::new("running as written", 30);
+    for _ in 0..cases(3) {
+        each_event(&mut tally, &mut rng);
     }
-}
-
-/// A machine of the C library with what it recorded and the readings it took.
-struct World<'a> {
-    layout: &'a Layout,
-    commands: &'a [u64],
-    readings: &'a [u32],
-    machine: Machine,
-    memory: Vec<u32>,
-    records: Vec<(u32, u32)>,
-    used: usize,
-}
-
-impl World<'_> {
-    /// On to the next first command of a bundle, or to the end.
-    fn bundle(&mut self) -> Ending {
-        loop {
-            let mut log = [0; 2];
-            let answer = native::run(
-                self.layout,
-                self.commands,
-                &mut self.machine,
-                &mut self.memory,
-                1,
-                &self.readings[self.used..],
-                &mut log,
-            );
-            self.used += answer.readings as usize;
-            if answer.pairs == 1 {
-                self.records.push((log[0], log[1]));
-            }
-            let at = (self.machine.pc - self.layout.base) as usize;
-            if answer.ending != Ending::Spent || at % BUNDLE_LENGTH == 0 {
-                return answer.ending;
-            }
-        }
-    }
+    each_index(&mut tally, &mut rng);
+    each_ceiling(&mut tally, &mut rng);
+    routines(&mut tally, &mut rng);
+    tally.conclude(&[("engine", &NUMBERS), ABOVE]);
 }
 
 /// 'It and the machine, from the same installation, given the same readings in
-/// turn, agree on records, readings used, registers, sandbox and state cell
-/// each time the machine reaches the first command of a bundle'; 'and the
-/// ending'.
+/// turn, agree on records, readings used, registers, sandbox and state cell each
+/// time the machine reaches the first command of a bundle, the engine taken
+/// after as many instructions as the machine has bundles behind it. If one ends
+/// or stops in the next, so does the other', and they agree on the ending.
+/// Request [12]: 'at log and probe pauses also'.
 #[test]
-fn the_engine_meets_the_machine() {
-    let (mut tally, mut rng) = Tally::new("engine beside machine", 32);
-    for _ in 0..cases(1500) {
+fn the_engine_beside_the_machine() {
+    let (mut tally, mut rng) = Tally::new("engine beside machine", 31);
+    for _ in 0..cases(3_000) {
         let (layout, words) = layout_and_routine(&mut rng);
         let commands = rewritten(&layout, &words);
         let arrows = rng.between(70, 100);
         let policy = policy(&mut rng, layout.states, arrows);
         let landings = landings(&mut rng);
         let readings = rng.cells(300);
-        let mut memory = rng.cells(layout.size as usize);
-        let (answer, machine) = native::install(&layout, &policy.lend(), &landings, &mut memory);
+        let mut cells = rng.cells(layout.size as usize);
+        let (answer, machine) = native::install(&layout, &policy.lend(), &landings, &mut cells);
         assert_eq!(answer, Answer::Taken(0));
-        let mut mine = memory.clone();
-        let mut record = EngineRecord::FIRST;
-        let (mut records, mut used) = (Vec::new(), 0);
         let mut world = World {
+            run: native::run,
             layout: &layout,
             commands: &commands,
-            readings: &readings,
             machine,
-            memory,
+            memory: cells.clone(),
             records: Vec::new(),
             used: 0,
         };
+        let (mut engine, mut records, mut used) = (Engine::FIRST, Vec::new(), 0);
         for _ in 0..300 {
-            let mut log = [0; 2];
-            let answer = native_engine::engine_record(
+            // Now and then no reading, or too little room in the log.
+            let known = if rng.chance(20) { used } else { readings.len() };
+            let room = rng.pick(&[0, 1, 2, 2, 2, 3]);
+            let mut log = vec![0; room];
+            let answer = native::engine(
                 &layout,
                 &words,
-                &mut record,
-                &mut mine,
+                &mut engine,
+                &mut cells,
                 1,
-                &readings[used..],
+                &readings[used..known],
                 &mut log,
             );
             used += answer.readings as usize;
             if answer.pairs == 1 {
                 records.push((log[0], log[1]));
             }
-            let ending = world.bundle();
-            tally.count("ending", ending.number());
+            let ending = world.bundle(&readings[..known], room);
+            tally.count("engine and machine", ending.number());
+            let pauses = matches!(ending, Ending::LogFull | Ending::Silent);
             assert_eq!(answer.came, Ok(ending));
-            assert_eq!(answer.instructions, 1);
-            assert_eq!(world.machine.status, record.status());
-            assert_eq!(
-                world.machine.regs[..GUEST_REGISTERS as usize],
-                *record.regs()
-            );
-            assert_eq!(world.memory, mine);
-            assert_eq!(world.records, records);
-            assert_eq!(world.used, used);
-            if ending != Ending::Spent {
+            assert_eq!(answer.instructions, u32::from(!pauses));
+            assert_eq!(world.machine.status, engine.status);
+            assert_eq!(world.machine.regs[..GUEST_REGISTERS as usize], engine.regs);
+            assert_eq!(world.memory, cells);
+            assert_eq!((&world.records, world.used), (&records, used));
+            if engine.status != Status::Running {
                 break;
             }
-            assert_eq!(world.machine.pc, layout.base + 4 * record.at());
+            if !pauses {
+                assert_eq!(world.machine.pc, layout.base + 4 * engine.at);
+            }
         }
     }
-    tally.conclude(&[("ending", &[20, 21, 25, 26])]);
+    let all = [20, 21, 23, 24, 25, 26];
+    tally.conclude(&[("engine and machine", &all)]);
 }

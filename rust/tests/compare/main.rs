@@ -16,6 +16,7 @@ mod befores;
 mod ceilings;
 mod check;
 mod determinise;
+mod engine;
 mod forward;
 mod install;
 mod isolation;

@@ -65,7 +65,7 @@ fn bytes_of(fields: Fields) -> Vec<u8> {
 fn registers_of_instructions() {
     let (mut tally, mut rng) = Tally::new("registers of instructions", 25);
     let layout = right_layout(&mut rng, 2);
-    for _ in 0..cases(12) {
+    for _ in 0..cases(20) {
         for kind in 0..=12 {
             for ((name, taken), (_, refused)) in TAKEN.into_iter().zip(REFUSED) {
                 // Register 1 in a field that the kind lacks would be stray.

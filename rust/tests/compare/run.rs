@@ -5,12 +5,13 @@ use crate::common::inputs::{
     altered_layout, any_command, any_record, damage_word, is_free, landings, layout_and_routine,
     number, policy, rewritten, right_layout, shaped_list,
 };
+use crate::common::world::Run;
 use crate::common::{cases, Rng, Tally};
 use crate::install::install;
 use crate::quick;
 use hemdroas::model::{self, Command};
 use hemdroas::names::{EVENTS, MOST_CELLS, REGISTERS};
-use hemdroas::{native, Answer, Ending, Layout, Machine, Record, RunAnswer, Status};
+use hemdroas::{native, Answer, Ending, Layout, Record, RunAnswer, Status};
 
 const NUMBERS: [u32; 8] = [7, 20, 21, 22, 23, 24, 25, 26];
 
@@ -23,8 +24,6 @@ pub struct Lent {
 }
 
 const ABOVE: &str = "run and preview of a status above 4";
-
-type Run = fn(&Layout, &[u64], &mut Machine, &mut [u32], u32, &[u32], &mut [u32]) -> RunAnswer;
 
 /// Runs, and before that previews, what is lent. A preview is 'equal to a run
 /// on a copy of memory and record'; 'the real memory and record remain
@@ -97,7 +96,7 @@ pub fn run(
     answer
 }
 
-fn some_budget(rng: &mut Rng) -> u32 {
+pub fn some_budget(rng: &mut Rng) -> u32 {
     let budget = match rng.below(10) {
         0 => 0,
         1 => 1,
@@ -118,7 +117,7 @@ pub fn some_log(rng: &mut Rng) -> Vec<u32> {
     vec![mark; length]
 }
 
-fn some_readings(rng: &mut Rng) -> Vec<u32> {
+pub fn some_readings(rng: &mut Rng) -> Vec<u32> {
     let length = match rng.below(6) {
         0 => rng.below(3),
         1 | 2 => rng.between(1, 8),

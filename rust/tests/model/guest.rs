@@ -2,48 +2,11 @@
 //! model: they agree at each first command of a bundle and at every end.
 
 use crate::common::inputs::{landings, layout_and_routine, policy, rewritten};
+use crate::common::world::World;
 use crate::common::{cases, say, seed, Rng};
 use hemdroas::model::{check, install, run, Guest};
-use hemdroas::names::{BUNDLE_LENGTH, GUEST_REGISTERS};
-use hemdroas::{Answer, Ending, Layout, Machine, Status};
-
-/// A machine with its list and memory, what it recorded and the readings that
-/// it took.
-struct World<'a> {
-    layout: &'a Layout,
-    commands: &'a [u64],
-    readings: &'a [u32],
-    machine: Machine,
-    memory: Vec<u32>,
-    records: Vec<(u32, u32)>,
-    used: usize,
-}
-
-impl World<'_> {
-    /// On to the next first command of a bundle, or to the end.
-    fn bundle(&mut self) {
-        loop {
-            let mut log = [0; 2];
-            let answer = run(
-                self.layout,
-                self.commands,
-                &mut self.machine,
-                &mut self.memory,
-                1,
-                &self.readings[self.used..],
-                &mut log,
-            );
-            self.used += answer.readings as usize;
-            if answer.pairs == 1 {
-                self.records.push((log[0], log[1]));
-            }
-            let at = (self.machine.pc - self.layout.base) as usize;
-            if answer.ending != Ending::Spent || at.is_multiple_of(BUNDLE_LENGTH) {
-                return;
-            }
-        }
-    }
-}
+use hemdroas::names::GUEST_REGISTERS;
+use hemdroas::{Answer, Status};
 
 #[test]
 fn the_machine_follows_the_guest_rule() {
@@ -66,9 +29,9 @@ fn the_machine_follows_the_guest_rule() {
         let (answer, machine) = install(&layout, &policy, &landings, &mut memory);
         assert_eq!(answer, Answer::Taken(0));
         let mut world = World {
+            run,
             layout: &layout,
             commands: &commands,
-            readings: &readings,
             machine,
             memory,
             records: Vec::new(),
@@ -76,7 +39,7 @@ fn the_machine_follows_the_guest_rule() {
         };
         for _ in 0..300 {
             let status = guest.step();
-            world.bundle();
+            world.bundle(&readings, 2);
             instructions += 1;
             assert_eq!(world.machine.status, status);
             assert_eq!(world.machine.regs[..GUEST_REGISTERS as usize], guest.regs);
