@@ -86,17 +86,18 @@ impl Pairs {
     /// where nothing is recorded.
     fn never(&self) -> u16 {
         let mut never: BTreeSet<u8> = (0..EVENTS as u8).collect();
-        let mut met = BTreeSet::from([Recorded::new()]);
-        let mut open = vec![Recorded::new()];
-        while let Some(recorded) = open.pop() {
+        let mut met = vec![Recorded::new()];
+        let mut looked_at = 0;
+        while looked_at < met.len() {
             for event in 0..EVENTS as u8 {
-                if let Some(after) = self.arrow(&recorded, event) {
+                if let Some(after) = self.arrow(&met[looked_at], event) {
                     never.remove(&event);
-                    if met.insert(after.clone()) {
-                        open.push(after);
+                    if !met.contains(&after) {
+                        met.push(after);
                     }
                 }
             }
+            looked_at += 1;
         }
         never.into_iter().map(|event| 1 << event).sum()
     }

@@ -4,7 +4,7 @@ use super::words::{fields, word, Fields};
 use crate::names::{REGISTERS, TOP_CONDITION, TOP_EVENT, TOP_SHIFT};
 
 /// 'Command kinds': each with its fields.
-#[derive(Clone, Copy, Debug, PartialEq, Eq)]
+#[derive(Clone, Copy, PartialEq, Eq)]
 #[allow(missing_docs)]
 pub enum Command {
     Nop,

@@ -7,7 +7,7 @@ use crate::names::{GUEST_REGISTERS, MOST_INSTRUCTIONS, TOP_CONDITION, TOP_EVENT,
 use crate::Refusal;
 
 /// The table of the guest rule: each kind with its fields.
-#[derive(Clone, Copy, Debug, PartialEq, Eq)]
+#[derive(Clone, Copy, PartialEq, Eq)]
 #[allow(missing_docs)]
 pub enum Instr {
     Halt,
@@ -103,7 +103,7 @@ pub fn outcome(instr: Instr, regs: &[u32; GUEST_REGISTERS as usize]) -> (u32, u3
         Instr::And { d, a, b } => (d, and(get(a), get(b))),
         Instr::Or { d, a, b } => (d, or(get(a), get(b))),
         Instr::Sar { d, a, v } => (d, sar(get(a), v)),
-        other => unreachable!("{other:?} does more than that"),
+        _ => unreachable!("the other kinds do more than that"),
     }
 }
 

@@ -4,31 +4,57 @@
 //!
 //! Each part has a file: the comparison of its function, which other parts call
 //! too, and its cases. It asks that every number that the function can answer
-//! has been seen. Isolation by running stands beside them.
+//! has been seen. Isolation by running stands beside them. Without the library,
+//! the sample tray of the rules and the guest rule are tried on the model.
 
 #[path = "../common/mod.rs"]
 mod common;
+#[cfg(feature = "native")]
 #[path = "../../examples/quick/mod.rs"]
 mod quick;
 
+mod guest;
+mod tray;
+
+#[cfg(feature = "native")]
 mod bases;
+#[cfg(feature = "native")]
 mod befores;
+#[cfg(feature = "native")]
 mod ceilings;
+#[cfg(feature = "native")]
 mod check;
+#[cfg(feature = "native")]
 mod determinise;
+#[cfg(feature = "native")]
 mod engine;
+#[cfg(feature = "native")]
 mod forward;
+#[cfg(feature = "native")]
 mod install;
+#[cfg(feature = "native")]
 mod isolation;
+#[cfg(feature = "native")]
 mod landings;
+#[cfg(feature = "native")]
 mod layouts;
+#[cfg(feature = "native")]
 mod load;
+#[cfg(feature = "native")]
 mod merge;
+#[cfg(feature = "native")]
 mod old_lists;
+#[cfg(feature = "native")]
 mod read;
+#[cfg(feature = "native")]
 mod registers;
+#[cfg(feature = "native")]
 mod rewrite;
+#[cfg(feature = "native")]
 mod run;
+#[cfg(feature = "native")]
 mod sample;
+#[cfg(feature = "native")]
 mod word_right;
+#[cfg(feature = "native")]
 mod write;
