@@ -20,13 +20,13 @@ const ABOVE: (&str, &[u32]) = ("engine with a status above 4", &[22]);
 
 /// What a run is lent beside layout, words and readings.
 #[derive(Clone, Debug, PartialEq)]
-struct Lent {
-    record: EngineRecord,
-    memory: Vec<u32>,
-    log: Vec<u32>,
+pub struct Lent {
+    pub record: EngineRecord,
+    pub memory: Vec<u32>,
+    pub log: Vec<u32>,
 }
 
-fn engine(
+pub fn engine(
     tally: &mut Tally,
     layout: &Layout,
     words: &[u64],

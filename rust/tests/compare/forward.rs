@@ -16,7 +16,7 @@ use hemdroas::{native, Answer, Ending, Layout, Refusal, RunAnswer, Status};
 const OF_WORDS: [u32; 7] = [0, 2, 3, 4, 5, 8, 18];
 const OF_LISTS: [u32; 6] = [0, 7, 11, 12, 13, 18];
 
-fn forward(tally: &mut Tally, words: &[u64]) -> Answer {
+pub fn forward(tally: &mut Tally, words: &[u64]) -> Answer {
     let answer = model::forward(words);
     let given = native::forward(words);
     assert_eq!(given, answer, "checking {words:x?}");

@@ -14,7 +14,7 @@ use hemdroas::{Answer, Layout, Refusal};
 const HIDDEN_BEFORE: u32 = 8;
 
 /// A word with each register by another name.
-fn renamed(old: u64, name: fn(u32) -> u32) -> u64 {
+pub fn renamed(old: u64, name: fn(u32) -> u32) -> u64 {
     let old = fields(old);
     word(Fields {
         d: name(old.d),

@@ -1,7 +1,11 @@
 //! Registers 0 to 14 for the guest, 15 hidden: request [6].
 
+use crate::check::check;
 use crate::common::inputs::{instr_word, right_layout};
 use crate::common::{cases, Tally};
+use crate::engine::{self, engine};
+use crate::forward::forward;
+use crate::old_lists::renamed;
 use crate::read::read;
 use crate::rewrite::rewrite;
 use crate::run::{run, Lent};
@@ -9,7 +13,7 @@ use crate::write::write;
 use hemdroas::model::words::{fields, word, Fields};
 use hemdroas::model::{Command, Instr};
 use hemdroas::names::{GUEST_REGISTERS, HIDDEN, REGISTERS};
-use hemdroas::Record;
+use hemdroas::{Answer, Engine, Layout, Record, Refusal};
 
 /// A register field of a word.
 fn field<'a>(fields: &'a mut Fields, name: &str) -> &'a mut u32 {
@@ -59,8 +63,23 @@ fn bytes_of(fields: Fields) -> Vec<u8> {
     bytes
 }
 
+/// A list that names register 14 somewhere passes, and is refused if it names
+/// register 15 there.
+fn checked(tally: &mut Tally, layout: &Layout, mut list: Vec<u64>) {
+    assert_eq!(check(tally, layout, &list), Answer::Taken(0), "{list:x?}");
+    for command in &mut list {
+        *command = renamed(*command, |register| match register {
+            14 => HIDDEN,
+            other => other,
+        });
+    }
+    let refused = Answer::refused(Refusal::BadBundle, 0);
+    assert_eq!(check(tally, layout, &list), refused, "{list:x?}");
+}
+
 /// Every kind of instruction with each register in each of its fields: written,
-/// rewritten, and read from bytes, where a field can hold more than 15.
+/// rewritten and checked, run as written, and read from bytes, where a field can
+/// hold more than 15.
 #[test]
 fn registers_of_instructions() {
     let (mut tally, mut rng) = Tally::new("registers of instructions", 25);
@@ -85,8 +104,20 @@ fn registers_of_instructions() {
                     let words = [word(right)];
                     let (answer, _) = write(&mut tally, &words, &[7; 20]);
                     assert_eq!(answer.number(), number, "writing {right:?}");
-                    let (answer, _) = rewrite(&mut tally, &layout, &words, &[7; 9]);
+                    let (answer, list) = rewrite(&mut tally, &layout, &words, &[7; 8]);
                     assert_eq!(answer.number(), number, "rewriting {right:?}");
+                    let answer = forward(&mut tally, &words);
+                    assert_eq!(answer.number() == 4, number == 4, "checking {right:?}");
+                    let mut lent = engine::Lent {
+                        record: Engine::FIRST.to_record(),
+                        memory: rng.cells(layout.size as usize),
+                        log: Vec::new(),
+                    };
+                    let answer = engine(&mut tally, &layout, &words, &mut lent, 1, &[]);
+                    assert_eq!(answer.number() == 4, number == 4, "running {right:?}");
+                    if register == GUEST_REGISTERS - 1 {
+                        checked(&mut tally, &layout, list);
+                    }
                     tally.note(taken, u64::from(register == GUEST_REGISTERS - 1));
                     tally.note(refused, u64::from(register == HIDDEN));
                 }
@@ -94,7 +125,8 @@ fn registers_of_instructions() {
         }
     }
     let both = &[0, 4];
-    tally.conclude(&[("read", both), ("write", both), ("rewrite", both)]);
+    let checks = ("check", &[0, 11][..]);
+    tally.conclude(&[("read", both), ("write", both), ("rewrite", both), checks]);
 }
 
 /// One step of every kind of command with each register in each of its fields:
