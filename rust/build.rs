@@ -1,5 +1,4 @@
-//! Links the static libraries of the C interface when the feature `native` is
-//! on.
+//! Links the static library of the C interface when the feature `native` is on.
 
 use std::path::Path;
 
@@ -11,9 +10,6 @@ fn main() {
     let package = std::env::var("CARGO_MANIFEST_DIR").expect("cargo names the package's folder");
     let folder = Path::new(&package).join("../target/staticlib");
     println!("cargo:rustc-link-search=native={}", folder.display());
-    for library in ["capi", "capi_engine"] {
-        let file = folder.join(format!("lib{library}.a"));
-        println!("cargo:rerun-if-changed={}", file.display());
-        println!("cargo:rustc-link-lib=static={library}");
-    }
+    println!("cargo:rerun-if-changed={}", folder.join("libcapi.a").display());
+    println!("cargo:rustc-link-lib=static=capi");
 }

@@ -5,7 +5,7 @@
 //! ranges and sets of addresses. Nothing here is meant to be quick.
 
 mod arithmetic;
-mod befores;
+mod precedence;
 mod bundles;
 mod bytes;
 mod check;
@@ -28,7 +28,7 @@ mod records;
 mod rewrite;
 pub mod words;
 
-pub use befores::befores;
+pub use precedence::precedence;
 pub use bundles::bundles;
 pub use bytes::{read, write};
 pub use check::check;

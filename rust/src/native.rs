@@ -7,7 +7,7 @@
 //! arrays of the lengths given beside them, and Rust's borrowing keeps those
 //! that the library writes apart from all others.
 
-mod befores;
+mod precedence;
 mod determinise;
 mod engine;
 mod forward;
@@ -16,7 +16,7 @@ mod merge;
 mod routines;
 mod run;
 
-pub use befores::befores;
+pub use precedence::precedence;
 pub use determinise::determinise;
 pub use engine::{engine, engine_record};
 pub use forward::{check_forward, forward};

@@ -19,7 +19,7 @@ mod tray;
 #[cfg(feature = "native")]
 mod bases;
 #[cfg(feature = "native")]
-mod befores;
+mod precedence;
 #[cfg(feature = "native")]
 mod ceilings;
 #[cfg(feature = "native")]

@@ -114,7 +114,7 @@ fn made(events: &[u8], room: usize) -> Result<(Pairs, Vec<u8>), Refused> {
 /// Makes the policy in which the second of each pair has an arrow only once
 /// the first has been recorded; 'the start state is 0'. 'After a reject all
 /// else handed back is 0.'
-pub fn befores(pairs: &[u8], table: &mut [u8]) -> Made {
+pub fn precedence(pairs: &[u8], table: &mut [u8]) -> Made {
     match made(pairs, table.len()) {
         Ok((pairs, bytes)) => Made {
             answer: deliver(Ok(bytes), table),

@@ -5,7 +5,7 @@ use crate::Made;
 
 #[rustfmt::skip]
 extern "C" {
-    fn hemdroas_befores(pairs: *const u8, n: usize, table: *mut u8, room: usize, made: *mut [u32; 4]);
+    fn hemdroas_precedence(pairs: *const u8, n: usize, table: *mut u8, room: usize, made: *mut [u32; 4]);
 }
 
 fn made([number, place, states, never]: [u32; 4]) -> Made {
@@ -22,10 +22,10 @@ fn made([number, place, states, never]: [u32; 4]) -> Made {
 /// Makes the policy of pairs of events, each first before its second: its table
 /// at the start of the one lent, its states, of which 0 is the start, and the
 /// events that it never allows.
-pub fn befores(pairs: &[u8], table: &mut [u8]) -> Made {
+pub fn precedence(pairs: &[u8], table: &mut [u8]) -> Made {
     let mut four = [0; 4];
     unsafe {
-        hemdroas_befores(
+        hemdroas_precedence(
             pairs.as_ptr(),
             pairs.len(),
             table.as_mut_ptr(),

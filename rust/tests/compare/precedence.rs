@@ -8,17 +8,17 @@ use std::collections::BTreeSet;
 
 const NUMBERS: [u32; 3] = [0, 9, 17];
 
-pub fn befores(tally: &mut Tally, pairs: &[u8], table: &[u8]) -> (Made, Vec<u8>) {
+pub fn precedence(tally: &mut Tally, pairs: &[u8], table: &[u8]) -> (Made, Vec<u8>) {
     let (mut expected, mut given) = (table.to_vec(), table.to_vec());
-    let made = model::befores(pairs, &mut expected);
-    let theirs = native::befores(pairs, &mut given);
+    let made = model::precedence(pairs, &mut expected);
+    let theirs = native::precedence(pairs, &mut given);
     assert_eq!(theirs, made, "a policy from {pairs:?}");
     assert_eq!(given, expected, "table of {pairs:?}");
     tally.note(
         "policies that never allow some event",
         u64::from(made.never != 0),
     );
-    tally.count("befores", made.answer.number());
+    tally.count("precedence", made.answer.number());
     (made, expected)
 }
 
@@ -46,7 +46,7 @@ fn each_list_of_pairs(tally: &mut Tally, rng: &mut Rng) {
             };
             for &room in rooms {
                 let mark = rng.byte();
-                let _ = befores(tally, list, &vec![mark; room]);
+                let _ = precedence(tally, list, &vec![mark; room]);
             }
         }
         if length < 6 {
@@ -64,7 +64,7 @@ fn each_event_of_a_pair(tally: &mut Tally, rng: &mut Rng) {
         for other in 0..=16 {
             for pairs in [&[event, other][..], &[other, event], &[event]] {
                 let mark = rng.byte();
-                let _ = befores(tally, pairs, &[mark; 64]);
+                let _ = precedence(tally, pairs, &[mark; 64]);
             }
         }
     }
@@ -91,7 +91,7 @@ fn lists_of_pairs(tally: &mut Tally, rng: &mut Rng) {
         }
         let room = room(rng, table_bytes(&pairs));
         let mark = rng.byte();
-        let (made, mut table) = befores(tally, &pairs, &vec![mark; room]);
+        let (made, mut table) = precedence(tally, &pairs, &vec![mark; room]);
         if let (Answer::Taken(bytes), true) = (made.answer, rng.chance(10)) {
             table.truncate(bytes as usize);
             let (states, start) = (made.states, 0);
@@ -111,5 +111,5 @@ fn making_policies_from_pairs() {
     each_list_of_pairs(&mut tally, &mut rng);
     each_event_of_a_pair(&mut tally, &mut rng);
     lists_of_pairs(&mut tally, &mut rng);
-    tally.conclude(&[("befores", &NUMBERS)]);
+    tally.conclude(&[("precedence", &NUMBERS)]);
 }
