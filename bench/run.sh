@@ -1,9 +1,10 @@
 #!/usr/bin/env bash
 # ns a step of the proved machine beside the same rules in C, then ns an instruction of the proved engine beside the
 # same engine in C and Rust, the machine, and, where lua5.4 is installed, the same turn in Lua: bench/run.sh [ROUNDS]
+# It fails where they differ. With BUILT=1 the library is taken as it stands.
 set -euo pipefail
 cd "$(dirname "$0")/.."
-rt staticlib capi > /dev/null
+[ -n "${BUILT:-}" ] || rt staticlib capi > /dev/null
 mkdir -p target/bench
 for o in O2 O3; do gcc -$o -DRUN=run_$o -c bench/machine.c -o target/bench/machine_$o.o; done
 gcc -O2 -Wall -Wextra -Iinclude bench/main.c target/bench/machine_O2.o target/bench/machine_O3.o target/staticlib/libcapi.a -o target/bench/bench
