@@ -19,7 +19,7 @@ use Rattle.rules.specs.declared.Ending.the-variants.{Done, NoArrow, Faul
 use Rattle.rules.specs.declared.Refusal.the-variants.{BadLayout, BadBundle, BadCount, BadBase}
 use Rattle.rules.specs.Names.{events, noArrow, mostInstructions, mostBundles, bundleLength, bundleShift, landingCells, cellBits, guestRegisters, hidden, numberOf, answer, endingNumber}
 use Rattle.rules.specs.Layouts.{span, rightLayout, widthOf, maskOf, inBox, protected}
-use Rattle.rules.specs.Policies.{Policy, allowed, stateOver}
+use Rattle.rules.specs.Policies.{Policy, arrow, allowed, stateOver}
 use Rattle.rules.specs.Landings.{listed, landingsOf, bitAt, marked}
 use Rattle.rules.specs.Words.{routine, bundlesFor}
 use Rattle.rules.specs.Bytes.{readAnswer, readOutput, writeAnswer, writeOutput}
@@ -399,10 +399,11 @@ PausedWaits =
     (lay : Layout) (pol : Policy) (ws mem : List ℕ) (gs : List Given) → Served lay pol ws mem gs →
     Every (λ r. Paused (r .ran .outcome .answer .ending) → Waiting lay ws (r .ran .outcome .machine)) (allRuns lay pol ws mem gs)
 
--- there the guest stands before the event: of the bundles begun this one is not done, and all agrees, the state cell too
-pub record WaitsFor (lay : Layout) (code : List ℕ) (e : ℕ) (g : Guest) (c : Carried) : Type 0 where
+-- there the guest stands before an event that has its arrow: of the bundles begun this one is not done, and all agrees, the state cell too
+pub record WaitsFor (lay : Layout) (pol : Policy) (code : List ℕ) (e : ℕ) (g : Guest) (c : Carried) : Type 0 where
   pub begun : 1 ≤ c .begun
   pub event : routine code (g .at) ≡ EVENT e
+  pub arrow : arrow pol (g .state) e ≡ noArrow → ⊥
   pub agrees : AgreesAt lay 2 g c
 
 abbrev pub PauseRule : Type 0
@@ -412,4 +413,4 @@ PauseRule =
     let c = after lay pol ws mem gs in
     let g = guestStart lay pol (installMemory lay pol mem) in
     Served lay pol ws mem gs → (w : Waiting lay ws (c .machine)) →
-    WaitsFor lay code (w .event) (guestAfter lay pol (bundlesFor (length code)) (routine code) (c .used) g (c .begun - 1)) c
+    WaitsFor lay pol code (w .event) (guestAfter lay pol (bundlesFor (length code)) (routine code) (c .used) g (c .begun - 1)) c
