@@ -4,6 +4,7 @@ use Rattle.forward.proofs.Bound.{bounded}
 use Rattle.forward.proofs.Finish.{goes-on, finishes, finishes-in}
 use Rattle.forward.proofs.Once.{finishes-at-once}
 use Rattle.forward.proofs.Agree.{checks-agree, forward-written, forward-read, always-finish}
+use Rattle.forward.proofs.Samples.{answers, reaches}
 
 pub proved : Proved
 proved =
@@ -17,4 +18,6 @@ proved =
       finishesIn = finishes-in;
       finishesAtOnce = finishes-at-once;
       alwaysFinish = always-finish;
+      answers = answers;
+      reaches = reaches;
     }

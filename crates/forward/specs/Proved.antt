@@ -1,5 +1,6 @@
 -- Every claim of this crate, a field each: its one term is `proved`, in proofs/Proved.antt.
 use Rattle.forward.specs.Claims.{ChecksAgree, ForwardWritten, ForwardRead, Bounded, GoesOn, Finishes, FinishesIn, FinishesAtOnce, AlwaysFinish}
+use Rattle.forward.specs.Sample.{Answers, Reaches}
 
 pub record Proved : Type 0 where
   pub checksAgree : ChecksAgree
@@ -11,3 +12,5 @@ pub record Proved : Type 0 where
   pub finishesIn : FinishesIn
   pub finishesAtOnce : FinishesAtOnce
   pub alwaysFinish : AlwaysFinish
+  pub answers : Answers
+  pub reaches : Reaches
