@@ -1,12 +1,11 @@
 -- It goes on, and it finishes.
 use mathlib.Core.Path.{_≡_, refl, sym, _∙_, ap}
-use mathlib.Core.Bool.{Bool, true, false, _&&_, cond}
+use mathlib.Core.Bool.{Bool, true, false}
 use mathlib.Core.Logic.{_⊎_, inl, inr, ⊎-elim}
 use mathlib.Core.List.{List, [], _∷_}
-use Prim.Native.Nat.{ℕ, zero, suc, _/_, _≤_}
+use Prim.Native.Nat.{ℕ, _/_, _≤_}
 use native.Mathlib.Omega.{arith}
-use borrow.Author.Tests.{eq-eqb, le-leb, leb-true}
-use lib.Dec.{leb}
+use borrow.Author.Tests.{eq-eqb}
 use lib.ListN.{length}
 use Rattle.rules.specs.declared.Layout.{Layout}
 use Rattle.rules.specs.declared.Status.{Status}
@@ -18,19 +17,18 @@ use Rattle.rules.specs.Layouts.{rightLayout}
 use Rattle.rules.specs.Policies.{Policy}
 use Rattle.rules.specs.Commands.{fetchOf}
 use Rattle.rules.specs.Bundles.{bundleAt}
-use Rattle.rules.specs.Machines.{State, Ran, seen, runFrom, startOf, runOf, fits, installMemory}
+use Rattle.rules.specs.Machines.{State, seen, runFrom, startOf, runOf, fits, installMemory}
 use Rattle.rules.specs.Guests.{Guest, guestStart}
-use Rattle.rules.specs.Runs.{Given, Carried, atFirst, runOn, afterTaken, afterRun, afterRuns, runAs, runsOf, after, Served}
+use Rattle.rules.specs.Runs.{Given, Carried, atFirst, runOn, afterTaken, afterRun, afterRuns, runAs, runsOf, allRuns, after, Served}
 use Rattle.rules.specs.Claims.{Every}
-use Rattle.rules.proofs.Bools.{no, both, cond-ind}
 use Rattle.rules.proofs.Endings.{goes}
 use Rattle.rules.proofs.Conditions.{bundled-of, right-of, layout-of}
 use Rattle.rules.proofs.Sim.{Sim, over, live}
 use Rattle.rules.proofs.Track.{tracks}
 use Rattle.rules.proofs.Isolation.{stays}
 use Rattle.forward.specs.Forward.{checkForwardAnswer}
-use Rattle.forward.specs.Claims.{stepsIn, Resumed, GoesOn, Over, paidFor, paidBy, paidIn, Finishes, FinishesIn}
-use Rattle.forward.proofs.Runs.{pauses, steps-some, ran-before, all-spent, no-budget, not-refused}
+use Rattle.forward.specs.Claims.{mostSteps, stepsIn, Resumed, GoesOn, Over, paidFor, paidBy, paidIn, Finishes, FinishesIn}
+use Rattle.forward.proofs.Runs.{pauses, steps-some, ran-before, all-spent}
 use Rattle.forward.proofs.Bound.{ahead-all}
 
 -- ---- one run that is not refused
@@ -52,32 +50,19 @@ module _ (lay : Layout) (ws : List ℕ) (c : Carried) (g : Given) (fit : fits la
       let go = goes (fetchOf ws (lay .base) (c .machine .pc)) (seen lay (g .readings) begin) (omega arith) (omega arith) in
       rw taken (omega (arith, steps-some lay ws (g .readings) (g .budget) 0 begin b run go))
 
-  begun : runOn lay ws c g .outcome .answer .ending ≡ Refused → ⊥
-  begun e = not-refused lay ws (g .readings) (g .budget) 0 begin (rw taken at e)
-
   module _ (run : afterRun lay ws c g .machine .status ≡ Running) where
     -- one that leaves the machine running found it running
     before : c .machine .status ≡ Running
     before = ran-before lay ws (g .readings) (g .budget) 0 begin (rw left at run)
 
-    some-budget : (b : ℕ) → g .budget ≡ b → pauses (runOn lay ws c g .outcome .answer .ending) ≡ true → 1 ≤ b
-    some-budget zero z p =
-        no (sym (ap pauses (ap (λ (r : Ran). r .outcome .answer .ending) taken ∙ ap (λ (j : ℕ). runFrom lay ws (g .readings) j 0 begin .outcome .answer .ending) z) ∙ no-budget lay ws (g .readings) 0 begin) ∙ p)
-    some-budget (suc b) z p = omega arith
-
-    -- and took the steps that it pays for
-    paused : pauses (runOn lay ws c g .outcome .answer .ending) ≡ true → cond (leb 2 (length (g .log)) && leb 1 (length (g .readings))) 1 0 ≤ runOn lay ws c g .outcome .answer .steps
-    paused p =
-        cond-ind (λ (x : ℕ). x ≤ runOn lay ws c g .outcome .answer .steps) (leb 2 (length (g .log)) && leb 1 (length (g .readings)))
-        (λ t. let w = both _ _ t in one-step before (leb-true _ _ (w .0)) (leb-true _ _ (w .1)) (some-budget (g .budget) refl p)) (λ _. omega arith)
-
+    -- and, unless it pauses, used up its budget
     spent : pauses (runOn lay ws c g .outcome .answer .ending) ≡ false → g .budget ≤ runOn lay ws c g .outcome .answer .steps
     spent p = rw taken (omega (arith, all-spent lay ws (g .readings) (g .budget) 0 begin (rw left at run) (rw taken at p)))
 
-    paid : (e : Ending) → runOn lay ws c g .outcome .answer .ending ≡ e → paidFor e g ≤ runOn lay ws c g .outcome .answer .steps
+    paid : (e : Ending) → runOn lay ws c g .outcome .answer .ending ≡ e → paidFor e (runOn lay ws c g .outcome .answer .steps) (g .budget) ≤ runOn lay ws c g .outcome .answer .steps
     paid Refused e = omega arith
-    paid LogFull e = paused (ap pauses e)
-    paid Silent e = paused (ap pauses e)
+    paid LogFull e = omega arith
+    paid Silent e = omega arith
     paid Spent e = spent (ap pauses e)
     paid Done e = spent (ap pauses e)
     paid NoArrow e = spent (ap pauses e)
@@ -137,36 +122,31 @@ pub goes-on : GoesOn
 goes-on lay pol ws mem gs v run g ok b =
     one-step lay ws (after lay pol ws mem gs) g (fit-of lay g (layout-of lay ws (v .passed)) ok) run (ok .log) (ok .readings) b
 
-pub finishes : Finishes
-finishes lay pol ws mem gs f v p =
+-- ---- it is over if as many steps as the bound would be counted while it still runs
+over-by : (lay : Layout) (pol : Policy) (ws mem : List ℕ) (gs : List Given) → checkForwardAnswer lay ws .number ≡ 0 → Served lay pol ws mem gs → (after lay pol ws mem gs .machine .status ≡ Running → mostSteps (length ws / bundleLength) ≤ stepsIn (allRuns lay pol ws mem gs)) → Over (after lay pol ws mem gs .machine)
+over-by lay pol ws mem gs f v most =
     ⊎-elim
     (λ run.
-    let t = took-all lay ws (atFirst lay pol mem) gs run in
+    let t = most run in
     let o = ahead-all lay pol ws mem gs f v .on run in
     absurd (omega (arith, o .0, o .1)))
     (λ x. x)
     (going-or-over lay pol ws mem gs f v)
 
--- ---- by the count of runs
-paid-some : (lay : Layout) (g : Given) → Resumed lay g → 1 ≤ g .budget → (e : Ending) → (e ≡ Refused → ⊥) → 1 ≤ paidFor e g
-paid-some lay g ok b Refused f = absurd (f refl)
-paid-some lay g ok b LogFull f = rw (le-leb _ _ (ok .log), le-leb _ _ (ok .readings)) (omega arith)
-paid-some lay g ok b Silent f = rw (le-leb _ _ (ok .log), le-leb _ _ (ok .readings)) (omega arith)
-paid-some lay g ok b Spent f = b
-paid-some lay g ok b Done f = b
-paid-some lay g ok b NoArrow f = b
-paid-some lay g ok b Fault f = b
-paid-some lay g ok b NoLanding f = b
+pub finishes : Finishes
+finishes lay pol ws mem gs f v p =
+    over-by lay pol ws mem gs f v (λ run. omega (arith, took-all lay ws (atFirst lay pol mem) gs run))
 
-paid-each : (lay : Layout) (ws : List ℕ) → rightLayout lay ≡ true → (c : Carried) (gs : List Given) → Every (Resumed lay) gs → Every (λ (g : Given). 1 ≤ g .budget) gs → length gs ≤ paidIn (runsOf lay ws c gs)
-unfolding runsOf
-paid-each lay ws right c [] ok b = omega arith
-paid-each lay ws right c (g ∷ gs) ok b =
-    let x = paid-some lay g (ok .0) (b .0) _ (begun lay ws c g (fit-of lay g right (ok .0))) in
-    let y = paid-each lay ws right (afterRun lay ws c g) gs (ok .1) (b .1) in
+-- ---- by the count of runs: each that is resumed takes a step
+step-each : (lay : Layout) (ws : List ℕ) → rightLayout lay ≡ true → (c : Carried) (gs : List Given) → Every (Resumed lay) gs → Every (λ (g : Given). 1 ≤ g .budget) gs → afterRuns lay ws c gs .machine .status ≡ Running → length gs ≤ stepsIn (runsOf lay ws c gs)
+unfolding afterRuns runsOf
+step-each lay ws right c [] ok b e = omega arith
+step-each lay ws right c (g ∷ gs) ok b e =
+    let run = was-running lay ws c g _ refl (ran-all lay ws (afterRun lay ws c g) gs e) in
+    let x = one-step lay ws c g (fit-of lay g right (ok .0)) run (ok .0 .log) (ok .0 .readings) (b .0) in
+    let y = step-each lay ws right (afterRun lay ws c g) gs (ok .1) (b .1) e in
     omega arith
 
 pub finishes-in : FinishesIn
 finishes-in lay pol ws mem gs f v ok b l =
-    let p = paid-each lay ws (layout-of lay ws (v .passed)) (atFirst lay pol mem) gs ok b in
-    finishes lay pol ws mem gs f v (omega arith)
+    over-by lay pol ws mem gs f v (λ run. omega (arith, step-each lay ws (layout-of lay ws (v .passed)) (atFirst lay pol mem) gs ok b run))

@@ -102,10 +102,10 @@ module _ (lay : Layout) (ws : List ℕ) (n : ℕ) (is : ℕ → Instr) (room : l
 
   never-pauses : (j k : ℕ) (s : State) → Ahead (lay .base) n k (s .pc) (s .status) → Few (lay .base) size s → pauses (runFrom lay ws rd j k s .outcome .answer .ending) ≡ false
   unfolding runFrom
-  never-pauses zero k s a f = ending-plain (s .status) .0
+  never-pauses zero k s a f = ending-plain (s .status)
   never-pauses (suc j) k s a f =
       run-ind lay ws rd j k s (λ (r : Ran). pauses (r .outcome .answer .ending) ≡ false)
-      (λ _. ending-plain (s .status) .0)
+      (λ _. ending-plain (s .status))
       (λ r w z. let o = a .on r in absurd (no-wait s r (omega (arith, o .0)) (o .1) f w z))
       (λ r g.
       let o = a .on r in

@@ -27,13 +27,13 @@ pauses Spent = false
 pauses NoLanding = false
 pauses Refused = false
 
--- an ending without a pause, and no refusal
-pub ending-plain : (t : Status) → (pauses (endingOf t) ≡ false) × (endingOf t ≡ Refused → ⊥)
-ending-plain Running = (refl, λ e. no (cc))
-ending-plain Ended = (refl, λ e. no (cc))
-ending-plain Stopped = (refl, λ e. no (cc))
-ending-plain Faulted = (refl, λ e. no (cc))
-ending-plain Strayed = (refl, λ e. no (cc))
+-- what a status ends with is no pause
+pub ending-plain : (t : Status) → pauses (endingOf t) ≡ false
+ending-plain Running = refl
+ending-plain Ended = refl
+ending-plain Stopped = refl
+ending-plain Faulted = refl
+ending-plain Strayed = refl
 
 -- ---- steps
 module _ (lay : Layout) (ws rd : List ℕ) where
@@ -73,16 +73,3 @@ module _ (lay : Layout) (ws rd : List ℕ) where
       (λ f e. absurd (f e))
       (λ r w z e p. no (sym p ∙ waits-only s w z))
       (λ r g e p. omega (arith, all-spent j (k + 1) (stepOf lay ws rd s) e p))
-
-  -- without a budget no run pauses
-  pub no-budget : (k : ℕ) (s : State) → pauses (runFrom lay ws rd 0 k s .outcome .answer .ending) ≡ false
-  unfolding runFrom
-  no-budget k s = ending-plain (s .status) .0
-
-  -- what has begun is not refused
-  pub not-refused : (j k : ℕ) (s : State) → runFrom lay ws rd j k s .outcome .answer .ending ≡ Refused → ⊥
-  unfolding runFrom
-  not-refused zero k s = ending-plain (s .status) .1
-  not-refused (suc j) k s =
-      run-ind lay ws rd j k s (λ (r : Ran). r .outcome .answer .ending ≡ Refused → ⊥) (λ _. ending-plain (s .status) .1)
-      (λ _ w z e. no (sym (ap pauses e) ∙ waits-only s w z)) (λ _ _. not-refused j (k + 1) (stepOf lay ws rd s))

@@ -1,11 +1,9 @@
 -- What is claimed of the class. Each claim is a type; its proof has the claim's name in small letters, in proofs/.
 use Prim.Native.Nat.{ℕ, _+_, _-_, _*_, _/_, _≤_}
 use mathlib.Core.Path.{_≡_}
-use mathlib.Core.Bool.{_&&_, cond}
 use mathlib.Core.Logic.{_⊎_}
 use mathlib.Core.List.{List, [], _∷_, _++_}
 use lib.ListN.{length}
-use lib.Dec.{leb}
 use Rattle.rules.specs.declared.Layout.{Layout}
 use Rattle.rules.specs.declared.Machine.{Machine}
 use Rattle.rules.specs.declared.Status.the-variants.{Running, Ended, Stopped}
@@ -80,26 +78,26 @@ GoesOn =
 abbrev pub Over : Machine → Type 0
 Over m = (m .status ≡ Ended) ⊎ (m .status ≡ Stopped)
 
--- the steps of which a run is sure, by its answer: a refused run takes none; one that pauses, 23 or 24, takes one at least
--- if it began with 'a free pair and a reading'; any other uses up its budget, if the machine is still running after it
-abbrev pub paidFor : Ending → Given → ℕ
-paidFor Refused g = 0
-paidFor LogFull g = cond (leb 2 (length (g .log)) && leb 1 (length (g .readings))) 1 0
-paidFor Silent g = cond (leb 2 (length (g .log)) && leb 1 (length (g .readings))) 1 0
-paidFor Spent g = g .budget
-paidFor Done g = g .budget
-paidFor NoArrow g = g .budget
-paidFor Fault g = g .budget
-paidFor NoLanding g = g .budget
+-- what a run pays, by its answer, of its counted steps and its budget: a refused run nothing; one that pauses, 23 or 24, the steps
+-- that it counted; any other its budget, which it has used up if the machine is still running after it
+abbrev pub paidFor : Ending → ℕ → ℕ → ℕ
+paidFor Refused steps budget = 0
+paidFor LogFull steps budget = steps
+paidFor Silent steps budget = steps
+paidFor Spent steps budget = budget
+paidFor Done steps budget = budget
+paidFor NoArrow steps budget = budget
+paidFor Fault steps budget = budget
+paidFor NoLanding steps budget = budget
 
 abbrev pub paidBy : Run → ℕ
-paidBy r = paidFor (r .ran .outcome .answer .ending) (r .given)
+paidBy r = paidFor (r .ran .outcome .answer .ending) (r .ran .outcome .answer .steps) (r .given .budget)
 
 abbrev pub paidIn : List Run → ℕ
 paidIn [] = 0
 paidIn (r ∷ rs) = paidBy r + paidIn rs
 
--- a list of the class, after runs whose 'budgets suffice': they pay for 4 × (N − 1) + 1 steps, each pause that is resumed for one
+-- a list of the class, after runs whose 'budgets suffice': they pay 4 × (N − 1) + 1 steps, whatever logs and readings they began with
 abbrev pub Finishes : Type 0
 Finishes =
     (lay : Layout) (pol : Policy) (ws mem : List ℕ) (gs : List Given) → checkForwardAnswer lay ws .number ≡ 0 → Served lay pol ws mem gs →
