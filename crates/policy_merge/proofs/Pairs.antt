@@ -7,7 +7,7 @@ use mathlib.Core.Logic.{_⊎_, inl, inr, ⊎-elim}
 use native.Mathlib.Omega.{arith}
 use lib.Dec.{eqb, leb, ltb}
 use lib.ListN.{length, getD}
-use borrow.Author.Tests.{ltb-true, eqb-true, eqb-false, leb-true, ne-eqb, eq-eqb, le-ltb, not-true}
+use borrow.Author.Tests.{ltb-true, eqb-true, eqb-false, leb-true, ne-eqb, eq-eqb, le-ltb}
 use Rattle.rules.specs.Names.{mostStates, events, orders, noArrow}
 use Rattle.rules.specs.Policies.{Policy, arrow, allowedFrom, allowed, stateFrom, statesRight, entryRight, entriesRight, rightPolicy}
 use Rattle.rules.proofs.Bools as bools
@@ -96,25 +96,29 @@ module _ (a b : Policy) where
   start-pairs = pairs (startPair a b) (λ z. omega arith)
 
 module _ (a b : Policy) (sa : Side a) (sb : Side b) where
-  pub pair-allowed : (es : List ℕ) (s t : ℕ) → t < mostStates → not (eqb (after (pairAfter a b) (pair s t) es) 0) ≡ (allowedFrom a s es && allowedFrom b t es)
-  pair-allowed [] s t h = rw (ne-eqb (pair s t) 0 (λ z. omega arith))
-  pair-allowed (n ∷ es) s t h = ap (λ (x : ℕ). not (eqb (after (pairAfter a b) x es) 0)) (pair-after a b s t n h) ∙ go (both (arrow a s n) (arrow b t n)) (boths (arrow a s n) (arrow b t n)) (pair-allowed es)
+  -- the pair after a list of events, or 0
+  abbrev reached : List ℕ → ℕ → ℕ → ℕ
+  reached es s t = cond (allowedFrom a s es && allowedFrom b t es) (pair (stateFrom a s es) (stateFrom b t es)) 0
+
+  pub pair-states : (es : List ℕ) (s t : ℕ) → t < mostStates → after (pairAfter a b) (pair s t) es ≡ reached es s t
+  pair-states [] s t h = refl
+  pair-states (n ∷ es) s t h = ap (λ (x : ℕ). after (pairAfter a b) x es) (pair-after a b s t n h) ∙ go (both (arrow a s n) (arrow b t n)) (boths (arrow a s n) (arrow b t n)) (pair-states es)
     where
-      go : (x : ℕ) → Both (arrow a s n) (arrow b t n) x → ((s t : ℕ) → t < mostStates → not (eqb (after (pairAfter a b) (pair s t) es) 0) ≡ (allowedFrom a s es && allowedFrom b t es)) → not (eqb (after (pairAfter a b) x es) 0) ≡ (allowedFrom a s (n ∷ es) && allowedFrom b t (n ∷ es))
+      go : (x : ℕ) → Both (arrow a s n) (arrow b t n) x → ((s t : ℕ) → t < mostStates → after (pairAfter a b) (pair s t) es ≡ reached es s t) → after (pairAfter a b) x es ≡ reached (n ∷ es) s t
       go x (neither (inl e)) r = rw (after-none (pairAfter a b) (start-pairs a b .none) es, eq-eqb (arrow a s n) noArrow e)
-      go x (neither (inr f)) r = rw (after-none (pairAfter a b) (start-pairs a b .none) es, eq-eqb (arrow b t n) noArrow f) (sym (and-false (allowedFrom a s (n ∷ es))))
+      go x (neither (inr f)) r =
+          rw (after-none (pairAfter a b) (start-pairs a b .none) es, eq-eqb (arrow b t n) noArrow f)
+          (sym (ap (λ (c : Bool). cond c (pair (stateFrom a s (n ∷ es)) (stateFrom b t (n ∷ es))) 0) (and-false (allowedFrom a s (n ∷ es)))))
       go x (arrows e f) r =
           rw (ne-eqb (arrow a s n) noArrow e, ne-eqb (arrow b t n) noArrow f) (r (arrow a s n) (arrow b t n) (omega (arith, arrow-below b sb t n f, sb .few-states)))
 
-  pub pair-states : (es : List ℕ) (s t : ℕ) → t < mostStates → allowedFrom a s es ≡ true → allowedFrom b t es ≡ true → after (pairAfter a b) (pair s t) es ≡ pair (stateFrom a s es) (stateFrom b t es)
-  pair-states [] s t h x y = refl
-  pair-states (n ∷ es) s t h x y =
-      let u = bools.both (not (eqb (arrow a s n) noArrow)) (allowedFrom a (arrow a s n) es) x in
-      let v = bools.both (not (eqb (arrow b t n) noArrow)) (allowedFrom b (arrow b t n) es) y in
-      let f : eqb (arrow b t n) noArrow ≡ false = not-true (eqb (arrow b t n) noArrow) (v .0) in
-      let l : arrow b t n < mostStates = omega (arith, arrow-below b sb t n (eqb-false (arrow b t n) noArrow f), sb .few-states) in
-      ap (λ (x : ℕ). after (pairAfter a b) x es) (pair-after a b s t n h ∙ both-pair (arrow a s n) (arrow b t n) (not-true (eqb (arrow a s n) noArrow) (u .0)) f)
-      ∙ pair-states es (arrow a s n) (arrow b t n) l (u .1) (v .1)
+  -- so there is one exactly if both allow the list
+  pub pair-allowed : (es : List ℕ) (s t : ℕ) → t < mostStates → not (eqb (after (pairAfter a b) (pair s t) es) 0) ≡ (allowedFrom a s es && allowedFrom b t es)
+  pair-allowed es s t h = ap (λ (x : ℕ). not (eqb x 0)) (pair-states es s t h) ∙ go (allowedFrom a s es && allowedFrom b t es) (stateFrom a s es) (stateFrom b t es)
+    where
+      go : (c : Bool) (u v : ℕ) → not (eqb (cond c (pair u v) 0) 0) ≡ c
+      go true u v = rw (ne-eqb (pair u v) 0 (λ z. omega arith))
+      go false u v = refl
 
 pub allowed-by-both : AllowedByBoth
 unfolding allowed
@@ -126,10 +130,10 @@ allowed-by-both a b es r t =
 
 pub pairs-are-states : PairsAreStates
 unfolding allowed
-pairs-are-states a b es r x y =
+pairs-are-states a b es r =
     let q = bools.both (sideRight a) (sideRight b) r in
     let sb = side-of b (q .1) in
-    pair-states a b (side-of a (q .0)) sb es (a .start) (b .start) (omega (arith, sb .start, sb .few-states)) x y
+    pair-states a b (side-of a (q .0)) sb es (a .start) (b .start) (omega (arith, sb .start, sb .few-states))
 
 pub merged-right : MergedRight
 merged-right a b lay r t e = reach-right (pairAfter a b) (startPair a b) lay (start-pairs a b) t e

@@ -1,7 +1,7 @@
 -- What is claimed of the merged policy. Each claim is a type; its proof has the claim's name in small letters, in proofs/.
 use Prim.Native.Nat.{ℕ, _<_, min}
 use mathlib.Core.Path.{_≡_}
-use mathlib.Core.Bool.{true, _&&_}
+use mathlib.Core.Bool.{true, _&&_, cond}
 use mathlib.Core.List.{List, [], _∷_, _++_}
 use lib.ListN.{length, getD, take, replicate}
 use Rattle.rules.specs.declared.Answer.{Answer}
@@ -37,9 +37,11 @@ MergedRight = (a b : Policy) (lay : Layout) → Right a b → few (pairAfter a b
 abbrev pub AllowedByBoth : Type 0
 AllowedByBoth = (a b : Policy) (es : List ℕ) → Right a b → few (pairAfter a b) (startPair a b) ≡ true → allowed (mergedPolicy a b) es ≡ (allowed a es && allowed b es)
 
--- the pair after a list of events that both allow is that of their states
+-- the pair after a list of events is that of their states, if both allow it; else there is none
 abbrev pub PairsAreStates : Type 0
-PairsAreStates = (a b : Policy) (es : List ℕ) → Right a b → allowed a es ≡ true → allowed b es ≡ true → after (pairAfter a b) (startPair a b) es ≡ pair (stateOver a es) (stateOver b es)
+PairsAreStates =
+    (a b : Policy) (es : List ℕ) → Right a b →
+    after (pairAfter a b) (startPair a b) es ≡ cond (allowed a es && allowed b es) (pair (stateOver a es) (stateOver b es)) 0
 
 -- the states are the pairs that are reached, each once; 15 is given exactly if there are more than 16
 abbrev pub PairsExact : Type 0
