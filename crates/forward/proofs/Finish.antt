@@ -60,7 +60,7 @@ module _ (lay : Layout) (ws : List ℕ) (c : Carried) (g : Given) (fit : fits la
     spent p = rw taken (omega (arith, all-spent lay ws (g .readings) (g .budget) 0 begin (rw left at run) (rw taken at p)))
 
     paid : (e : Ending) → runOn lay ws c g .outcome .answer .ending ≡ e → paidFor e (runOn lay ws c g .outcome .answer .steps) (g .budget) ≤ runOn lay ws c g .outcome .answer .steps
-    paid Refused e = omega arith
+    paid Refused e = omega (arith, spent (ap pauses e))
     paid LogFull e = omega arith
     paid Silent e = omega arith
     paid Spent e = spent (ap pauses e)
