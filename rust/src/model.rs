@@ -5,7 +5,6 @@
 //! ranges and sets of addresses. Nothing here is meant to be quick.
 
 mod arithmetic;
-mod precedence;
 mod bundles;
 mod bytes;
 mod check;
@@ -24,11 +23,11 @@ mod machine;
 mod merge;
 mod outputs;
 mod policies;
+mod precedence;
 mod records;
 mod rewrite;
 pub mod words;
 
-pub use precedence::precedence;
 pub use bundles::bundles;
 pub use bytes::{read, write};
 pub use check::check;
@@ -43,4 +42,5 @@ pub use layout::{layout_right, mask};
 pub use loading::load;
 pub use machine::run;
 pub use merge::merge;
+pub use precedence::precedence;
 pub use rewrite::rewrite;

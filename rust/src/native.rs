@@ -7,21 +7,21 @@
 //! arrays of the lengths given beside them, and Rust's borrowing keeps those
 //! that the library writes apart from all others.
 
-mod precedence;
 mod determinise;
 mod engine;
 mod forward;
 mod install;
 mod merge;
+mod precedence;
 mod routines;
 mod run;
 
-pub use precedence::precedence;
 pub use determinise::determinise;
 pub use engine::{engine, engine_record};
 pub use forward::{check_forward, forward};
 pub use install::{install, install_record, load, load_record, word_right};
 pub use merge::merge;
+pub use precedence::precedence;
 pub use routines::{check, read, rewrite, write};
 pub use run::{preview, preview_record, run, run_record};
 

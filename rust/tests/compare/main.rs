@@ -19,8 +19,6 @@ mod tray;
 #[cfg(feature = "native")]
 mod bases;
 #[cfg(feature = "native")]
-mod precedence;
-#[cfg(feature = "native")]
 mod ceilings;
 #[cfg(feature = "native")]
 mod check;
@@ -44,6 +42,8 @@ mod load;
 mod merge;
 #[cfg(feature = "native")]
 mod old_lists;
+#[cfg(feature = "native")]
+mod precedence;
 #[cfg(feature = "native")]
 mod read;
 #[cfg(feature = "native")]
