@@ -55,6 +55,8 @@ mod run;
 #[cfg(feature = "native")]
 mod sample;
 #[cfg(feature = "native")]
+mod transparency;
+#[cfg(feature = "native")]
 mod word_right;
 #[cfg(feature = "native")]
 mod write;
