@@ -79,7 +79,7 @@ pub fn preview(
     (answer, after.to_machine())
 }
 
-/// [`machine_preview`] with records of the C interface: `after` becomes what
+/// [`preview`] with records of the C interface: `after` becomes what
 /// [`run_record`] would make of `record`.
 #[allow(clippy::too_many_arguments)]
 pub fn preview_record(
