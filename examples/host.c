@@ -11,13 +11,21 @@
 #include <stdio.h>
 #include <string.h>
 
-enum { CELLS = 1024, STATE_CELL = 0, STATES = 2, MOST_COMMANDS = 4096, LOG = 64 };
-enum { GAS = 0, DOOR = 2, NO_ARROW = 255 };
+enum { CELLS = 1024, STATE_CELL = 0, STATES = 2, LOG = 64 };
+enum { GAS = 0, DOOR = 2 };
 
-/* U, SL, SH, M, P, S, B, Q; and the ceilings of events 0 to 7, here none below the greatest number */
-static const uint32_t layout[16] = {CELLS, 256, 511, STATE_CELL, 16, STATES, 4096, 64,
-                                    UINT32_MAX, UINT32_MAX, UINT32_MAX, UINT32_MAX,
-                                    UINT32_MAX, UINT32_MAX, UINT32_MAX, UINT32_MAX};
+static const struct hemdroas_layout layout = {
+    .cells = CELLS,
+    .low = 256,
+    .high = 511,
+    .state_cell = STATE_CELL,
+    .table = 16,
+    .states = STATES,
+    .base = 4096,
+    .landings = 64,
+    /* no order is limited */
+    .ceilings = {UINT32_MAX, UINT32_MAX, UINT32_MAX, UINT32_MAX, UINT32_MAX, UINT32_MAX, UINT32_MAX, UINT32_MAX},
+};
 
 /* Gas at 70, open the door, and gas again, which the policy forbids. */
 static const uint8_t routine[] = {0x04, 0x00,
@@ -32,40 +40,40 @@ static const uint32_t readings[] = {1800, 1950, 2100};
 static const uint32_t landings[] = {0};
 
 /* The commands of the routine, and the memory of the drum. */
-static uint64_t commands[MOST_COMMANDS];
+static uint64_t commands[HEMDROAS_MOST_COMMANDS];
 static uint32_t memory[CELLS];
 
 int main(void)
 {
     /* Everything is allowed while the door is shut; once it is open, gas is
      * not. No event shuts it. */
-    uint8_t table[16 * STATES];
-    memset(table, 0, 16);
-    memset(table + 16, 1, 16);
+    uint8_t table[HEMDROAS_EVENTS * STATES];
+    memset(table, 0, HEMDROAS_EVENTS);
+    memset(table + HEMDROAS_EVENTS, 1, HEMDROAS_EVENTS);
     table[DOOR] = 1;
-    table[16 + GAS] = NO_ARROW;
+    table[HEMDROAS_EVENTS + GAS] = HEMDROAS_NO_ARROW;
 
-    uint32_t machine[18];
-    uint32_t answer[2]; /* number, and place or count of commands */
-    hemdroas_load(layout, STATES, 0, table, sizeof table,
+    struct hemdroas_machine machine;
+    struct hemdroas_answer loaded;
+    hemdroas_load(&layout, STATES, 0, table, sizeof table,
                   landings, sizeof landings / sizeof landings[0], routine, sizeof routine,
-                  commands, MOST_COMMANDS, memory, CELLS, machine, answer);
-    printf("answer %" PRIu32 "\n", answer[0]);
-    if (answer[0] != 0) {
-        fprintf(stderr, "loading: refused at %" PRIu32 "\n", answer[1]);
+                  commands, HEMDROAS_MOST_COMMANDS, memory, CELLS, &machine, &loaded);
+    printf("answer %" PRIu32 "\n", loaded.number);
+    if (loaded.number != HEMDROAS_TAKEN) {
+        fprintf(stderr, "loading: %s at %" PRIu32 "\n", hemdroas_refusal_text(loaded.number), loaded.place);
         return 1;
     }
 
     uint32_t log[LOG];
-    uint32_t end[4]; /* ending, steps, pairs, readings used */
-    hemdroas_run(layout, commands, answer[1], machine, memory, CELLS, 1000,
-                 readings, sizeof readings / sizeof readings[0], log, LOG, end);
-    if (end[0] == 7) {
-        fputs("running: refused\n", stderr);
+    struct hemdroas_run_answer ran;
+    hemdroas_run(&layout, commands, loaded.place, &machine, memory, CELLS, 1000,
+                 readings, sizeof readings / sizeof readings[0], log, LOG, &ran);
+    if (ran.ending == HEMDROAS_BAD_LAYOUT) {
+        fprintf(stderr, "running: %s\n", hemdroas_ending_text(ran.ending));
         return 1;
     }
-    for (uint32_t pair = 0; pair < end[2]; pair++)
+    for (uint32_t pair = 0; pair < ran.pairs; pair++)
         printf("event %" PRIu32 " %" PRIu32 "\n", log[2 * pair], log[2 * pair + 1]);
-    printf("end %" PRIu32 " steps %" PRIu32 " state %" PRIu32 "\n", end[0], end[1], memory[STATE_CELL]);
+    printf("end %" PRIu32 " steps %" PRIu32 " state %" PRIu32 "\n", ran.ending, ran.steps, memory[STATE_CELL]);
     return 0;
 }
