@@ -10,17 +10,15 @@
 #include <string.h>
 #include <time.h>
 
-enum { REGISTERS = 15, RECORD = REGISTERS + 2, MACHINE = REGISTERS + 3 };
-
-typedef void Run(const uint32_t layout[16], const uint64_t *, size_t, uint32_t engine[RECORD], uint32_t *, size_t, uint32_t,
-                 const uint32_t *, size_t, uint32_t *, size_t, uint32_t answer[5]);
+typedef void Run(const struct hemdroas_layout *, const uint64_t *, size_t, struct hemdroas_engine *, uint32_t *, size_t, uint32_t,
+                 const uint32_t *, size_t, uint32_t *, size_t, struct hemdroas_engine_answer *);
 Run engine_O2, engine_O3, engine_rust;
 enum { KINDS = 4, MOST_ROUNDS = 1001 };
 static Run *const RUNS[KINDS] = {hemdroas_engine, engine_O2, engine_O3, engine_rust};
 
 enum { U = 1024, SL = 256, SH = 511, M = 0, P = 16, S = 2, B = 4096, Q = 64, LOG = 800000, READINGS = 400000, WORDS = 16, COMMANDS = 128 };
 /* The order of the benchmark, event 1, meets its ceiling halfway. */
-static const uint32_t layout[16] = {U, SL, SH, M, P, S, B, Q, 50000, 50000, 50000, 50000, 50000, 50000, 50000, 50000};
+static const struct hemdroas_layout layout = {U, SL, SH, M, P, S, B, Q, {50000, 50000, 50000, 50000, 50000, 50000, 50000, 50000}};
 
 /* The word of an instruction. */
 static uint64_t word(uint64_t k, uint64_t d, uint64_t a, uint64_t b, uint64_t c, uint64_t v) {
@@ -29,7 +27,9 @@ static uint64_t word(uint64_t k, uint64_t d, uint64_t a, uint64_t b, uint64_t c,
 
 static uint64_t code[WORDS], commands[COMMANDS];
 static size_t length;
-static uint32_t record[KINDS][RECORD], answer[KINDS][5], memory[KINDS + 1][U], logs[KINDS + 1][LOG], readings[READINGS];
+static struct hemdroas_engine record[KINDS];
+static struct hemdroas_engine_answer answer[KINDS];
+static uint32_t memory[KINDS + 1][U], logs[KINDS + 1][LOG], readings[READINGS];
 static double times[KINDS + 1][MOST_ROUNDS], ratios[KINDS][MOST_ROUNDS];
 
 static double now(void) {
@@ -48,7 +48,7 @@ static double median(double *x, int n) {
 
 static void same(const char *name, size_t cells) {
     for (int i = 1; i < KINDS; i++)
-        if (memcmp(record[0], record[i], sizeof record[0]) || memcmp(answer[0], answer[i], sizeof answer[0])
+        if (memcmp(&record[0], &record[i], sizeof record[0]) || memcmp(&answer[0], &answer[i], sizeof answer[0])
             || memcmp(memory[0], memory[i], sizeof memory[0]) || memcmp(logs[0], logs[i], cells * sizeof logs[0][0])) {
             printf("%s: the proved engine and engine %d differ\n", name, i);
             exit(1);
@@ -63,19 +63,20 @@ static void fresh(int i) {
 
 /* The machine on the same routine, ns an instruction of the engine's; r0 on, sandbox and log must come out the same. */
 static double machine(const char *name, size_t cells, size_t count) {
-    uint32_t end[MACHINE] = {0}, ran[4], made[2];
+    struct hemdroas_machine end = {.pc = B};
+    struct hemdroas_run_answer ran;
+    struct hemdroas_answer made;
     fresh(KINDS);
-    end[MACHINE - 2] = B;
-    hemdroas_rewrite(layout, code, length, commands, COMMANDS, made);
+    hemdroas_rewrite(&layout, code, length, commands, COMMANDS, &made);
     double t = now();
-    hemdroas_run(layout, commands, made[1], end, memory[KINDS], U, 4000000000u, readings, count, logs[KINDS], cells, ran);
+    hemdroas_run(&layout, commands, made.place, &end, memory[KINDS], U, 4000000000u, readings, count, logs[KINDS], cells, &ran);
     t = now() - t;
-    if (made[0] || ran[0] != answer[0][0] || memcmp(end, record[0], REGISTERS * sizeof end[0])
+    if (made.number || ran.ending != answer[0].ending || memcmp(end.r, record[0].r, sizeof record[0].r)
         || memcmp(memory[KINDS], memory[0], sizeof memory[0]) || memcmp(logs[KINDS], logs[0], cells * sizeof logs[0][0])) {
         printf("%s: engine and machine differ\n", name);
         exit(1);
     }
-    return t / (double)answer[0][2];
+    return t / (double)answer[0].instructions;
 }
 
 static void measure(const char *name, int turn, size_t cells, size_t count, int rounds) {
@@ -83,10 +84,10 @@ static void measure(const char *name, int turn, size_t cells, size_t count, int 
         for (int i = 0; i < KINDS; i++) {
             int j = (i + q) % KINDS;
             fresh(j);
-            memset(record[j], 0, sizeof record[j]);
+            record[j] = (struct hemdroas_engine){0};
             double t = now();
-            RUNS[j](layout, code, length, record[j], memory[j], U, 4000000000u, readings, count, logs[j], cells, answer[j]);
-            times[j][q] = (now() - t) / (double)answer[j][2];
+            RUNS[j](&layout, code, length, &record[j], memory[j], U, 4000000000u, readings, count, logs[j], cells, &answer[j]);
+            times[j][q] = (now() - t) / (double)answer[j].instructions;
         }
         same(name, cells);
         times[KINDS][q] = machine(name, cells, count);
@@ -94,7 +95,7 @@ static void measure(const char *name, int turn, size_t cells, size_t count, int 
     }
     double proved = median(times[0], rounds), by_machine = median(times[KINDS], rounds);
     printf("%-8s %8u instructions, ending %u | ns each: proved %.2f, gcc -O2 %.2f, -O3 %.2f, rustc %.2f | ratio %.2f, %.2f, %.2f | a turn %.1f ns, the machine %.1f\n",
-           name, answer[0][2], answer[0][0], proved, median(times[1], rounds), median(times[2], rounds), median(times[3], rounds),
+           name, answer[0].instructions, answer[0].ending, proved, median(times[1], rounds), median(times[2], rounds), median(times[3], rounds),
            median(ratios[1], rounds), median(ratios[2], rounds), median(ratios[3], rounds), turn * proved, turn * by_machine);
 }
 

@@ -9,16 +9,16 @@
 #include <string.h>
 #include <time.h>
 
-typedef void Run(const uint32_t layout[16], const uint64_t *, size_t, uint32_t machine[18], uint32_t *, size_t, uint32_t,
-                 const uint32_t *, size_t, uint32_t *, size_t, uint32_t answer[4]);
+typedef void Run(const struct hemdroas_layout *, const uint64_t *, size_t, struct hemdroas_machine *, uint32_t *, size_t, uint32_t,
+                 const uint32_t *, size_t, uint32_t *, size_t, struct hemdroas_run_answer *);
 Run run_O2, run_O3;
 enum { KINDS = 3, MOST_ROUNDS = 1001 };
 static Run *const RUNS[KINDS] = {hemdroas_run, run_O2, run_O3};
 
 enum { U = 1024, SL = 256, SH = 511, M = 0, P = 16, S = 2, B = 4096, Q = 64, LOG = 800000, READINGS = 400000, BUNDLES = 8 };
-enum { HIDDEN = 15, REGISTERS = 16, RECORD = REGISTERS + 2 };
+enum { HIDDEN = 15 };
 /* Orders are limited to 50,000, half of what the counter reaches. */
-static const uint32_t layout[16] = {U, SL, SH, M, P, S, B, Q, 50000, 50000, 50000, 50000, 50000, 50000, 50000, 50000};
+static const struct hemdroas_layout layout = {U, SL, SH, M, P, S, B, Q, {50000, 50000, 50000, 50000, 50000, 50000, 50000, 50000}};
 
 /* The word of a command. */
 static uint64_t word(uint64_t k, uint64_t d, uint64_t a, uint64_t b, uint64_t c, uint64_t v) {
@@ -26,7 +26,9 @@ static uint64_t word(uint64_t k, uint64_t d, uint64_t a, uint64_t b, uint64_t c,
 }
 
 static uint64_t code[4 * BUNDLES];
-static uint32_t machine[KINDS][RECORD], answer[KINDS][4], memory[KINDS][U], records[KINDS][LOG], readings[READINGS];
+static struct hemdroas_machine machine[KINDS];
+static struct hemdroas_run_answer answer[KINDS];
+static uint32_t memory[KINDS][U], records[KINDS][LOG], readings[READINGS];
 static double times[KINDS][MOST_ROUNDS], ratios[KINDS][MOST_ROUNDS];
 
 static double now(void) {
@@ -45,7 +47,7 @@ static double median(double *x, int n) {
 
 static void same(const char *name, size_t cells) {
     for (int i = 1; i < KINDS; i++)
-        if (memcmp(machine[0], machine[i], sizeof machine[0]) || memcmp(answer[0], answer[i], sizeof answer[0])
+        if (memcmp(&machine[0], &machine[i], sizeof machine[0]) || memcmp(&answer[0], &answer[i], sizeof answer[0])
             || memcmp(memory[0], memory[i], sizeof memory[0]) || memcmp(records[0], records[i], cells * sizeof records[0][0])) {
             printf("%s: the proved machine and C differ\n", name);
             exit(1);
@@ -56,8 +58,7 @@ static void same(const char *name, size_t cells) {
 static void fresh(int i) {
     memset(memory[i], 0, sizeof memory[i]);
     memset(memory[i] + Q, 255, 32 * sizeof memory[i][0]);
-    memset(machine[i], 0, sizeof machine[i]);
-    machine[i][REGISTERS] = B;
+    machine[i] = (struct hemdroas_machine){.pc = B};
 }
 
 static void measure(const char *name, size_t cells, size_t count, int rounds) {
@@ -66,14 +67,14 @@ static void measure(const char *name, size_t cells, size_t count, int rounds) {
             int j = (i + q) % KINDS;
             fresh(j);
             double t = now();
-            RUNS[j](layout, code, 4 * BUNDLES, machine[j], memory[j], U, 4000000000u, readings, count, records[j], cells, answer[j]);
-            times[j][q] = (now() - t) / (double)answer[j][1];
+            RUNS[j](&layout, code, 4 * BUNDLES, &machine[j], memory[j], U, 4000000000u, readings, count, records[j], cells, &answer[j]);
+            times[j][q] = (now() - t) / (double)answer[j].steps;
         }
         same(name, cells);
         for (int i = 1; i < KINDS; i++) ratios[i][q] = times[0][q] / times[i][q];
     }
     printf("%-8s %8u steps, ending %u | ns/step: proved %.2f, gcc -O2 %.2f, gcc -O3 %.2f | ratio to -O2 %.2f, to -O3 %.2f\n", name,
-           answer[0][1], answer[0][0], median(times[0], rounds), median(times[1], rounds), median(times[2], rounds),
+           answer[0].steps, answer[0].ending, median(times[0], rounds), median(times[1], rounds), median(times[2], rounds),
            median(ratios[1], rounds), median(ratios[2], rounds));
 }
 
