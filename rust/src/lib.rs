@@ -13,6 +13,7 @@ pub mod model;
 pub mod names;
 #[cfg(feature = "native")]
 pub mod native;
+pub mod text;
 mod types;
 
 pub use types::*;

@@ -1,0 +1,87 @@
+//! The command `hemdroas`: its text forms, and every subcommand on good and
+//! damaged input, with what it prints as it is stored in `stored`.
+
+#[path = "../common/mod.rs"]
+mod common;
+
+mod routines;
+
+use std::fs;
+use std::io::Write;
+use std::path::{Path, PathBuf};
+use std::process::{Command, Output, Stdio};
+
+/// The folder of the example files.
+fn examples() -> PathBuf {
+    Path::new(env!("CARGO_MANIFEST_DIR")).join("../examples")
+}
+
+/// A folder for the files of one test, empty at first.
+fn folder(test: &str) -> PathBuf {
+    let folder = Path::new(env!("CARGO_TARGET_TMPDIR")).join(test);
+    if folder.exists() {
+        fs::remove_dir_all(&folder).expect("the folder can be emptied");
+    }
+    fs::create_dir_all(&folder).expect("the folder can be made");
+    folder
+}
+
+/// A file of a test's folder.
+fn file(folder: &Path, name: &str, content: impl AsRef<[u8]>) -> String {
+    let path = folder.join(name);
+    fs::write(&path, content).expect("the file can be written");
+    path.to_str().expect("paths are text").to_string()
+}
+
+/// How the command came back: its status, and what it printed.
+struct Came {
+    status: i32,
+    out: String,
+    error: String,
+}
+
+impl Came {
+    fn of(output: Output) -> Came {
+        let text = |bytes| String::from_utf8(bytes).expect("the command prints text");
+        let came = Came {
+            status: output.status.code().expect("no signal ended the command"),
+            out: text(output.stdout),
+            error: text(output.stderr),
+        };
+        assert!(!came.error.contains("panicked"), "{}", came.error);
+        came
+    }
+
+    /// It did what it was asked and printed this.
+    fn printed(&self, status: i32, out: &str) {
+        assert_eq!((self.out.as_str(), self.status), (out, status), "{}", self.error);
+    }
+
+    /// It refused with this on standard error, and printed nothing.
+    fn refused(&self, said: &str) {
+        assert_eq!((self.out.as_str(), self.status), ("", 1), "{}", self.error);
+        assert!(self.error.contains(said), "{said}\nis not in\n{}", self.error);
+    }
+}
+
+/// Runs the command in the examples' folder, with so much typed in.
+fn typed(args: &[&str], input: &str) -> Came {
+    let mut child = Command::new(env!("CARGO_BIN_EXE_hemdroas"))
+        .args(args)
+        .current_dir(examples())
+        .stdin(Stdio::piped())
+        .stdout(Stdio::piped())
+        .stderr(Stdio::piped())
+        .spawn()
+        .expect("the command starts");
+    let mut stdin = child.stdin.take().expect("standard input is piped");
+    // The command may have ended without reading it.
+    let _ = stdin.write_all(input.as_bytes());
+    drop(stdin);
+    Came::of(child.wait_with_output().expect("the command ends"))
+}
+
+/// Runs the command in the examples' folder.
+fn command(args: &[&str]) -> Came {
+    typed(args, "")
+}
