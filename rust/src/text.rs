@@ -83,9 +83,8 @@ fn is_name(word: &str) -> bool {
 /// A number of 32 bits: decimal, hexadecimal behind 0x, or a negative decimal as
 /// two's complement.
 pub fn number(word: &str) -> Result<u32, String> {
-    let all_digits = |digits: &str, radix| {
-        !digits.is_empty() && digits.chars().all(|c| c.is_digit(radix))
-    };
+    let all_digits =
+        |digits: &str, radix| !digits.is_empty() && digits.chars().all(|c| c.is_digit(radix));
     let parsed = match (word.strip_prefix("0x"), word.strip_prefix('-')) {
         (Some(digits), _) if all_digits(digits, 16) => u32::from_str_radix(digits, 16).ok(),
         (None, Some(digits)) if all_digits(digits, 10) => {

@@ -3,6 +3,19 @@
 use super::{is_name, number, quoted};
 use crate::names::EVENTS;
 
+/// Words of the files that cannot name an event.
+const KEYWORDS: [&str; 9] = [
+    "others",
+    "start",
+    "state",
+    "drawing",
+    "everything",
+    "event",
+    "ceiling",
+    "before",
+    "landings",
+];
+
 /// The names of the sixteen events, of which any may have none.
 #[derive(Clone, Debug, Default, PartialEq, Eq)]
 pub struct Names([Option<String>; EVENTS as usize]);
@@ -47,7 +60,7 @@ impl Names {
         if event >= EVENTS {
             return Err(format!("{event} is no event: they are 0 to {}", EVENTS - 1));
         }
-        if !is_name(name) || name == "others" {
+        if !is_name(name) || KEYWORDS.contains(&name) {
             return Err(format!("{} cannot be a name", quoted(name)));
         }
         if self.event(name).is_ok_and(|other| other != event) {

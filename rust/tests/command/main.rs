@@ -4,7 +4,10 @@
 #[path = "../common/mod.rs"]
 mod common;
 
+mod damage;
+mod policies;
 mod routines;
+mod running;
 
 use std::fs;
 use std::io::Write;
@@ -60,6 +63,14 @@ impl Came {
     /// It refused with this on standard error, and printed nothing.
     fn refused(&self, said: &str) {
         assert_eq!((self.out.as_str(), self.status), ("", 1), "{}", self.error);
+        assert!(self.error.contains(said), "{said}\nis not in\n{}", self.error);
+    }
+}
+
+impl Came {
+    /// It refused after it had printed this.
+    fn refused_after(&self, out: &str, said: &str) {
+        assert_eq!((self.out.as_str(), self.status), (out, 1), "{}", self.error);
         assert!(self.error.contains(said), "{said}\nis not in\n{}", self.error);
     }
 }

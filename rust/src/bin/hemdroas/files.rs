@@ -2,7 +2,7 @@
 
 use super::problem::Problem;
 use std::fs::{self, File};
-use std::io::{self, BufRead, Read, Write};
+use std::io::{self, BufRead, IsTerminal, Read, Write};
 use std::path::{Path, PathBuf};
 
 /// The most bytes of a file.
@@ -95,7 +95,12 @@ pub fn ask(question: &str) -> Result<Option<String>, Problem> {
         0 => Ok(None),
         _ => {
             let line = String::from_utf8(line).map_err(|_| failed("standard input", "not text"))?;
-            Ok(Some(line.trim().to_string()))
+            let line = line.trim().to_string();
+            // What nobody types at a terminal is shown, so that the answer stands on its own lines.
+            if !io::stdin().is_terminal() {
+                print(&format!("{line}\n"))?;
+            }
+            Ok(Some(line))
         }
     }
 }

@@ -133,7 +133,7 @@ const COMMANDS: &[Command] = &[
         name: "policy show",
         usage: "policy show FILE [--drum DRUM]",
         about: "Prints a policy, of whatever form, as a table: a line for each event, a column for each\n\
-                state.",
+                state, in it the state that follows, or - where the event has no arrow.",
         files: 1,
         valued: &["--drum"],
         flags: &[],
@@ -191,12 +191,16 @@ fn dispatch(words: &[String]) -> Done {
         return files::print(&page).map(|()| true);
     }
     let args = Args::of(rest, command.valued, command.flags, command.files);
-    let args = args.map_err(|said| Problem::Usage(format!("{said}\nusage: hemdroas {}", command.usage)))?;
+    let args =
+        args.map_err(|said| Problem::Usage(format!("{said}\nusage: hemdroas {}", command.usage)))?;
     (command.run)(&args)
 }
 
 fn main() -> ExitCode {
-    let words: Result<Vec<String>, _> = std::env::args_os().skip(1).map(|word| word.into_string()).collect();
+    let words: Result<Vec<String>, _> = std::env::args_os()
+        .skip(1)
+        .map(|word| word.into_string())
+        .collect();
     let done = match words {
         Ok(words) => dispatch(&words),
         Err(_) => Err(Problem::Usage("an argument is not text".to_string())),

@@ -39,7 +39,7 @@ fn never_line(never: u16, names: &Names) -> String {
     match never {
         0 => String::new(),
         map => format!(
-            "# never allowed, for they wait for each other: {}\n",
+            "# never allowed, for the pairs run in a ring: {}\n",
             events(map, names)
         ),
     }
@@ -113,29 +113,33 @@ pub fn merge(args: &Args) -> Done {
     )
 }
 
-/// A policy as a table: a line for each event, a column for each state.
+/// A policy as a table: a line for each event, a column for each state, which
+/// are named below.
 fn table_text(table: &Table, names: &Names) -> String {
-    let label = (0..EVENTS)
-        .map(|event| names.both(event).len())
-        .max()
-        .unwrap_or(0);
-    let widths: Vec<usize> = table.states.iter().map(|name| name.len()).collect();
-    let widest = widths.iter().copied().max().unwrap_or(0);
-    let mut text = format!("{:<label$}", "");
-    for name in &table.states {
-        text += &format!("  {name:<widest$}");
-    }
-    let mut text = text.trim_end().to_string() + "\n";
+    let labels = (0..EVENTS).map(|event| names.both(event).len());
+    let width = labels.max().unwrap_or(0);
+    let line = |label: &str, cells: Vec<String>| {
+        let cells: String = cells.iter().map(|cell| format!("{cell:>4}")).collect();
+        format!("{label:<width$}{cells}\n")
+    };
+    let states = 0..table.states.len() as u32;
+    let numbers = states.clone().map(|state| state.to_string()).collect();
+    let mut text = line("state", numbers);
     for event in 0..EVENTS {
-        let mut line = format!("{:<label$}", names.both(event));
-        for state in 0..table.states.len() as u32 {
-            let after = table.policy().after(state, event);
-            let shown = after.map_or("-".to_string(), |state| table.name(state));
-            line += &format!("  {shown:<widest$}");
-        }
-        text += &(line.trim_end().to_string() + "\n");
+        let after = |state| table.policy().after(state, event);
+        let shown = |after: Option<u32>| after.map_or("-".to_string(), |state| state.to_string());
+        let cells = states.clone().map(|state| shown(after(state)));
+        text += &line(&names.both(event), cells.collect());
     }
-    text + &format!("start {}\n", table.name(table.start))
+    for state in states {
+        let start = if state == table.start {
+            ", the start"
+        } else {
+            ""
+        };
+        text += &format!("state {state} {}{start}\n", table.name(state));
+    }
+    text
 }
 
 pub fn show(args: &Args) -> Done {

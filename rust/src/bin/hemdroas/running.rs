@@ -194,7 +194,10 @@ pub fn run(args: &Args) -> Done {
         loop {
             match resume(ending)? {
                 Resumed::Stopped => break 'runs ending,
-                Resumed::Preview(typed) => {
+                Resumed::Preview(mut typed) => {
+                    if typed.is_empty() {
+                        typed = readings[used..].to_vec();
+                    }
                     look_ahead(args, &loaded, budget, &typed, log_cells)?;
                 }
                 Resumed::With(numbers) if ending == Ending::Spent => {

@@ -1,0 +1,380 @@
+//! Damaged files, bad usage, and places that cannot be written.
+
+use crate::common::{cases, seed, Rng};
+use crate::{command, file, folder, typed};
+use hemdroas::text::{assemble, drum, policy, Names};
+use std::fs;
+use std::process::{Command, Stdio};
+
+const DRUM: &str = include_str!("../../../examples/sample.drum");
+const POLICY: &str = include_str!("../../../examples/sample.policy");
+
+#[test]
+fn drums() {
+    let folder = folder("drums");
+    let said = [
+        (DRUM.replace("U 1024", ""), "U is missing"),
+        (DRUM.replace("landings all", ""), "landings are missing"),
+        (
+            DRUM.replace("U 1024", "U many"),
+            "line 2: 'many' is no number",
+        ),
+        (
+            DRUM.replace("U 1024", "U 1024 5"),
+            "line 2: neither a number of the layout",
+        ),
+        (DRUM.replace("M 0", "U 1024"), "line 5: U stands twice"),
+        (
+            DRUM.replace("event 2", "event 16"),
+            "line 12: 16 is no event",
+        ),
+        (
+            DRUM.replace("event 2 door", "event 2 gas"),
+            "line 12: 'gas' is the name of another event",
+        ),
+        (
+            DRUM.replace("event 2 door", "event 0 door"),
+            "line 12: event 0 has the name 'gas'",
+        ),
+        (
+            DRUM.replace("event 2 door", "event 2 start"),
+            "line 12: 'start' cannot be a name",
+        ),
+        (DRUM.replace("all", "5-3"), "line 10: '5-3' is no range"),
+        (
+            DRUM.replace("all", "0-1024"),
+            "line 10: '0-1024' is no range",
+        ),
+        (format!("{DRUM}ceiling 8 5\n"), "line 13: '8' is no order"),
+        (
+            format!("{DRUM}ceiling fire 5\n"),
+            "line 13: no event is named 'fire'",
+        ),
+        (
+            DRUM.replace("SH 511", "SH 510"),
+            "7 bad layout, SH - SL + 1 is no power of two",
+        ),
+        (
+            DRUM.replace("U 1024", "U 4294967295"),
+            "7 bad layout, U is not from 1 to 4096",
+        ),
+        (
+            DRUM.replace("Q 64", "Q 40"),
+            "7 bad layout, sandbox, state cell, table and landing cells share",
+        ),
+        (DRUM.replace("B 4096", "B 4098"), "13 bad base"),
+        (DRUM.replace("all", "3 2"), "14 bad landing list"),
+        (DRUM.replace("all", "1024"), "14 bad landing list"),
+        (DRUM.replace("S 2", "S 3"), "10 bad policy"),
+        (
+            format!("{}\n", "#".repeat(1001)),
+            "line 1: longer than 1000 characters",
+        ),
+    ];
+    for (text, expected) in said {
+        let drum = file(&folder, "drum", text);
+        for name in ["check", "run", "preview", "step"] {
+            let args = [
+                name,
+                "sample.routine",
+                "--drum",
+                &drum,
+                "--policy",
+                "sample.policy",
+            ];
+            typed(&args, "").refused(expected);
+        }
+    }
+    let damaged = file(
+        &folder,
+        "damaged",
+        [b"U 1024\nSL ".as_slice(), &[0xff, 0xfe, b'\n']].concat(),
+    );
+    command(&["forward", "sample.routine", "--drum", &damaged]).refused("line 2: not text");
+    let tall = file(&folder, "tall", "#\n".repeat(600_000));
+    command(&["forward", "sample.routine", "--drum", &tall]).refused("longer than 1048576 bytes");
+}
+
+#[test]
+fn policies() {
+    let folder = folder("policies");
+    let said = [
+        (String::new(), "no policy"),
+        (
+            POLICY.replace("door -> opened", "door -> ajar"),
+            "line 3: no state is named 'ajar'",
+        ),
+        (
+            POLICY.replace("door -> opened", "flap -> opened"),
+            "line 3: no event is named 'flap'",
+        ),
+        (
+            POLICY.replace("door -> opened", "16 -> opened"),
+            "line 3: 16 is no event",
+        ),
+        (
+            POLICY.replace("door -> opened", "door -> opened shut"),
+            "line 3: several arrows",
+        ),
+        (
+            POLICY.replace("start shut", "start shut opened"),
+            "line 8: one start",
+        ),
+        (
+            POLICY.replace("start shut", "start ajar"),
+            "line 8: no state is named 'ajar'",
+        ),
+        (
+            POLICY.replace("start shut", "start shut\nstart shut"),
+            "line 9: a second line with the start",
+        ),
+        (
+            POLICY.replace("state opened", "state shut"),
+            "line 5: the state 'shut' stands twice",
+        ),
+        (
+            POLICY.replace("state opened", "state none"),
+            "line 5: 'none' cannot be a name",
+        ),
+        (
+            POLICY.replace("gas -> none", "others -> none"),
+            "line 7: 'others' stands twice here",
+        ),
+        (
+            POLICY.replace("gas -> none", "gas none"),
+            "line 6: none of: state NAME",
+        ),
+        (
+            format!("gas -> shut\n{POLICY}"),
+            "line 1: an arrow stands under its state",
+        ),
+        (
+            format!("{POLICY}gas before door\n"),
+            "line 9: states and pairs do not mix",
+        ),
+        ("gas before 300\n".to_string(), "line 1: 300 is no event"),
+        ("state a\n".repeat(2), "line 2: the state 'a' stands twice"),
+        (
+            "0 before 1\n2 before 3\n4 before 5\n".to_string(),
+            "17 bad pair",
+        ),
+        ("state a\nstate b\nstate c\n".to_string(), "10 bad policy"),
+    ];
+    for (text, expected) in said {
+        let policy = file(&folder, "policy", text);
+        for name in ["check", "run", "step"] {
+            let args = [
+                name,
+                "sample.routine",
+                "--drum",
+                "sample.drum",
+                "--policy",
+                &policy,
+            ];
+            typed(&args, "").refused(expected);
+        }
+        if !expected.starts_with("10") {
+            command(&["policy", "show", &policy, "--drum", "sample.drum"]).refused(expected);
+            command(&["policy", "draw", &policy, "--drum", "sample.drum"]).refused(expected);
+        }
+    }
+}
+
+#[test]
+fn files_that_cannot_be_read() {
+    let folder = folder("unread");
+    command(&["list", "no-such-file"]).refused("no-such-file: No such file");
+    command(&["list", folder.to_str().unwrap()]).refused("Is a directory");
+    command(&["check", "sample.routine", "--drum", "no-such.drum"]).refused("no-such.drum");
+    let long = file(&folder, "long", format!("SET r1, {}\n", "9".repeat(2000)));
+    command(&["assemble", &long, "-o", "-"]).refused("line 1: longer than 1000 characters");
+    let latin = file(&folder, "latin", b"HALT\nSET r1, 2\xb0\n");
+    command(&["assemble", &latin, "-o", "-"]).refused("line 2: not text");
+    command(&["check", "/dev/zero", "--drum", "sample.drum"]).refused("longer than");
+}
+
+#[test]
+fn places_that_cannot_be_written() {
+    let folder = folder("unwritten");
+    let assemble = ["assemble", "sample.routine", "--drum", "sample.drum", "-o"];
+    let to = |out: &str| command(&[&assemble[..], &[out]].concat());
+    to("/dev/full").refused("No space left on device");
+    to(folder.to_str().unwrap()).refused(": ");
+    to(folder.join("no/such/folder").to_str().unwrap()).refused("No such file");
+    assert_eq!(
+        fs::read_dir(&folder).unwrap().count(),
+        0,
+        "nothing is left behind"
+    );
+    let sample = [
+        "sample.routine",
+        "--drum",
+        "sample.drum",
+        "--policy",
+        "sample.policy",
+    ];
+    let all: [&[&str]; 7] = [
+        &["run"],
+        &["preview", "--readings", "1"],
+        &["step", "--all"],
+        &["check"],
+        &["policy", "show"],
+        &["policy", "draw"],
+        &["--help"],
+    ];
+    for words in all {
+        let mut args = words.to_vec();
+        match words[0] {
+            "policy" => args.extend(["sample.policy", "--drum", "sample.drum"]),
+            "--help" => (),
+            _ => args.extend(sample),
+        }
+        let full = fs::File::options().write(true).open("/dev/full").unwrap();
+        let output = Command::new(env!("CARGO_BIN_EXE_hemdroas"))
+            .args(&args)
+            .current_dir(crate::examples())
+            .stdin(Stdio::null())
+            .stdout(full)
+            .output()
+            .expect("the command runs");
+        let error = String::from_utf8(output.stderr).unwrap();
+        assert_eq!(output.status.code(), Some(1), "{args:?}: {error}");
+        assert!(
+            error.contains("standard output: No space left on device"),
+            "{args:?}: {error}"
+        );
+    }
+}
+
+#[test]
+fn refusals_leave_files_as_they_were() {
+    let folder = folder("kept");
+    let out = file(&folder, "out", "precious");
+    let bad = file(&folder, "bad", "SET r15, 1\n");
+    command(&["assemble", &bad, "-o", &out]).refused("4 off grade");
+    command(&["list", &bad, "-o", &out]).refused("refused");
+    command(&["policy", "merge", &bad, &bad, "-o", &out]).refused("line 1");
+    command(&["policy", "draw", &bad, "-o", &out]).refused("line 1");
+    assert_eq!(fs::read_to_string(&out).unwrap(), "precious");
+}
+
+#[test]
+fn bad_usage() {
+    let uses: [&[&str]; 17] = [
+        &[],
+        &["roast"],
+        &["policy"],
+        &["policy", "burn", "sample.policy"],
+        &["assemble"],
+        &["assemble", "sample.routine"],
+        &["assemble", "sample.routine", "sample.drum", "-o", "-"],
+        &["assemble", "sample.routine", "-o"],
+        &["list", "sample.routine", "--all"],
+        &["list", "--bundles", "sample.routine"],
+        &["check", "sample.routine"],
+        &["run", "sample.routine", "--drum", "sample.drum"],
+        &[
+            "run",
+            "sample.routine",
+            "--drum",
+            "sample.drum",
+            "--drum",
+            "sample.drum",
+        ],
+        &["run", "sample.routine", "--budget", "many"],
+        &["run", "sample.routine", "--log", "-1"],
+        &["preview", "sample.routine", "--readings", "hot"],
+        &["policy", "merge", "sample.policy"],
+    ];
+    for args in uses {
+        let came = command(args);
+        assert_eq!(
+            (came.status, came.out.as_str()),
+            (2, ""),
+            "{args:?}: {}",
+            came.error
+        );
+        assert!(!came.error.is_empty(), "{args:?}");
+    }
+}
+
+#[test]
+fn help_for_each() {
+    let overview = command(&["--help"]);
+    assert_eq!(overview.status, 0);
+    let names = [
+        "assemble",
+        "list",
+        "check",
+        "forward",
+        "run",
+        "preview",
+        "step",
+        "policy precedence",
+        "policy merge",
+        "policy determinise",
+        "policy show",
+        "policy draw",
+    ];
+    for name in names {
+        assert!(
+            overview.out.contains(&format!("  hemdroas {name} FILE")),
+            "{name}"
+        );
+        let args: Vec<&str> = name.split(' ').chain(["--help"]).collect();
+        let came = command(&args);
+        assert_eq!(came.status, 0, "{}", came.error);
+        assert!(
+            came.out.starts_with(&format!("hemdroas {name} FILE")),
+            "{}",
+            came.out
+        );
+    }
+}
+
+/// The files of the examples, whole and damaged in every way that random bytes
+/// can do: they are read or refused, and nothing panics.
+#[test]
+fn damaged_texts() {
+    let mut rng = Rng::new(seed(27));
+    let texts = [
+        "sample.drum",
+        "sample.policy",
+        "sample.routine",
+        "roast.drum",
+        "roast.policy",
+    ];
+    let more = ["roast.routine", "order.policy", "exporter.policy"];
+    let texts: Vec<Vec<u8>> = texts
+        .iter()
+        .chain(&more)
+        .map(|name| fs::read(crate::examples().join(name)).unwrap())
+        .collect();
+    let names = drum(&texts[3]).unwrap().names;
+    let mut taken = [0; 3];
+    for _ in 0..cases(30_000) {
+        let mut text = texts[rng.below(texts.len())].clone();
+        for _ in 0..rng.below(4) {
+            let at = rng.below(text.len());
+            match rng.below(5) {
+                0 => text[at] = rng.byte(),
+                1 => text.truncate(at.max(1)),
+                2 => {
+                    text.remove(at);
+                    text.push(b'\n');
+                }
+                3 => text[at] = rng.pick(b" ,:#->\n0r"),
+                _ => {
+                    let end = rng.between(at, text.len() - 1);
+                    let part = text[at..=end].to_vec();
+                    text.extend(part);
+                }
+            }
+        }
+        taken[0] += u32::from(assemble(&text, &names).is_ok());
+        taken[1] += u32::from(drum(&text).is_ok());
+        taken[2] +=
+            u32::from(policy(&text, &Names::default()).is_ok() || policy(&text, &names).is_ok());
+    }
+    assert!(taken.iter().all(|&count| count > 100), "{taken:?}");
+}

@@ -1,0 +1,190 @@
+//! run, preview and step.
+
+use crate::common::inputs::TRIAL_READINGS;
+use crate::{command, file, folder, typed};
+
+const SAMPLE: [&str; 5] = [
+    "sample.routine",
+    "--drum",
+    "sample.drum",
+    "--policy",
+    "sample.policy",
+];
+const ROAST: [&str; 5] = [
+    "roast.routine",
+    "--drum",
+    "roast.drum",
+    "--policy",
+    "roast.policy",
+];
+
+fn with<'a>(name: &'a str, files: [&'a str; 5], more: &[&'a str]) -> Vec<&'a str> {
+    let mut args = vec![name];
+    args.extend(files);
+    args.extend(more);
+    args
+}
+
+#[test]
+fn the_sample() {
+    let readings = TRIAL_READINGS.map(|reading| reading.to_string()).join(",");
+    let more = ["--readings", &readings];
+    command(&with("run", SAMPLE, &more)).printed(1, include_str!("stored/sample.run"));
+    command(&with("preview", SAMPLE, &more)).printed(1, include_str!("stored/sample.preview"));
+    let all = ["--readings", &readings, "--all"];
+    command(&with("step", SAMPLE, &all)).printed(1, include_str!("stored/sample.step"));
+}
+
+#[test]
+fn the_roast() {
+    let more = ["--readings", "1500 1800,1950, 2050 2100"];
+    command(&with("run", ROAST, &more)).printed(0, include_str!("stored/roast.run"));
+    let all = ["--readings", "1500 1800,1950, 2050 2100", "--all"];
+    command(&with("step", ROAST, &all)).printed(0, include_str!("stored/roast.step"));
+}
+
+#[test]
+fn bytes_run_as_their_text_does() {
+    let folder = folder("run-bytes");
+    let out = file(&folder, "bytes", "");
+    command(&[
+        "assemble",
+        "roast.routine",
+        "--drum",
+        "roast.drum",
+        "-o",
+        &out,
+    ])
+    .printed(0, "");
+    let readings = ["--readings", "1500,2000,2100"];
+    let record = |routine| {
+        let files = [routine, ROAST[1], ROAST[2], ROAST[3], ROAST[4]];
+        let came = command(&with("run", files, &readings));
+        assert_eq!(came.status, 0, "{}", came.error);
+        came.out
+            .lines()
+            .filter(|line| !line.starts_with("at "))
+            .map(str::to_string)
+            .collect::<Vec<_>>()
+    };
+    assert_eq!(record(&out), record("roast.routine"));
+}
+
+#[test]
+fn pauses_are_resumed_on_request() {
+    let came = command(&with("run", ROAST, &[]));
+    assert_eq!(came.status, 1);
+    assert!(came.out.contains("ending 24 probe silent"), "{}", came.out);
+    let answers = "1500\nnonsense\npreview 1960 2100\n1960 2000\n\n2200\n\n";
+    let came = typed(&with("run", ROAST, &["--log", "6", "--resume"]), answers);
+    came.printed(0, include_str!("stored/roast.resumed"));
+    // The same pairs as in one run.
+    let pairs = |text: &str| {
+        let rows = text
+            .lines()
+            .filter(|line| line.ends_with(|c: char| c.is_ascii_digit()));
+        let rows = rows
+            .filter(|line| line.starts_with("  "))
+            .map(str::to_string);
+        rows.collect::<Vec<_>>()
+    };
+    let whole = command(&with("run", ROAST, &["--readings", "1500 1960 2000 2200"]));
+    let resumed: Vec<String> = pairs(&came.out);
+    let resumed: Vec<String> = resumed[..3].iter().chain(&resumed[6..]).cloned().collect();
+    assert_eq!(resumed, pairs(&whole.out));
+    let came = typed(
+        &with("run", SAMPLE, &["--budget", "5", "--resume"]),
+        "1 2\n3\nstop\n",
+    );
+    assert_eq!(came.status, 1);
+    assert!(
+        came.out.contains("ending 25 spent: 8 steps"),
+        "{}",
+        came.out
+    );
+}
+
+#[test]
+fn a_preview_asks_for_readings() {
+    let came = typed(&with("preview", ROAST, &[]), "1990 2100\n");
+    assert_eq!(came.status, 0, "{}", came.error);
+    assert!(came.out.contains("ending 20 ended"), "{}", came.out);
+    typed(&with("preview", ROAST, &[]), "hot\n")
+        .refused_after("readings: hot\n", "'hot' is no number");
+}
+
+#[test]
+fn steps_are_asked_for() {
+    let came = typed(&with("step", ROAST, &[]), "\n7\nwhat\n2\n1800\n3\nstop\n");
+    came.printed(1, include_str!("stored/roast.steps"));
+    let came = command(&with("step", SAMPLE, &[]));
+    assert_eq!(came.status, 1);
+    assert!(
+        came.out.contains("ending 25 spent: 0 instructions"),
+        "{}",
+        came.out
+    );
+}
+
+#[test]
+fn other_endings() {
+    let folder = folder("endings");
+    let files = |routine| [routine, SAMPLE[1], SAMPLE[2], SAMPLE[3], SAMPLE[4]];
+    let forever = file(&folder, "forever", "loop: GOIF always, loop\n");
+    let came = command(&with("run", files(&forever), &["--budget", "7"]));
+    assert_eq!(came.status, 1);
+    assert!(
+        came.out.contains("ending 25 spent: 7 steps"),
+        "{}",
+        came.out
+    );
+    let came = command(&with("step", files(&forever), &["--budget", "7", "--all"]));
+    assert!(
+        came.out.contains("ending 25 spent: 7 instructions"),
+        "{}",
+        came.out
+    );
+    let drum =
+        include_str!("../../../examples/sample.drum").replace("landings all", "landings none");
+    let none = file(&folder, "none.drum", drum);
+    let jump = file(&folder, "jump", "GOX r1, always\n");
+    for name in ["run", "step"] {
+        let more: &[&str] = if name == "step" { &["--all"] } else { &[] };
+        let came = command(&with(
+            name,
+            [&jump, "--drum", &none, "--policy", "sample.policy"],
+            more,
+        ));
+        assert_eq!(came.status, 1);
+        assert!(came.out.contains("ending 26 no landing"), "{}", came.out);
+    }
+    let empty = file(&folder, "empty", "# nothing\n");
+    let came = command(&with("run", files(&empty), &[]));
+    assert_eq!(came.status, 0, "{}", came.error);
+}
+
+#[test]
+fn ceilings_of_drum_and_policy() {
+    let folder = folder("ceilings");
+    let drum = format!(
+        "{}ceiling gas 60\n",
+        include_str!("../../../examples/sample.drum")
+    );
+    let drum = file(&folder, "drum", drum);
+    let policy = format!(
+        "{}ceiling gas 65\nceiling door 1\n",
+        include_str!("../../../examples/sample.policy")
+    );
+    let policy = file(&folder, "policy", policy);
+    let came = command(&with(
+        "run",
+        ["sample.routine", "--drum", &drum, "--policy", &policy],
+        &[],
+    ));
+    assert!(
+        came.out
+            .contains("0 gas           60\n    2  2 door           1\n"),
+        "{}",
+        came.out
+    );
+}
