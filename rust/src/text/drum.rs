@@ -11,6 +11,10 @@ pub struct Drum {
     pub layout: Layout,
     /// The landings, in the order in which they are listed.
     pub landings: Vec<u32>,
+    /// The line of each landing.
+    pub landing_lines: Vec<usize>,
+    /// The line of B.
+    pub base_line: usize,
     /// The names of events.
     pub names: Names,
 }
@@ -75,17 +79,18 @@ pub fn drum(text: &[u8]) -> Parsed<Drum> {
         }
     }
     let mut numbers = [None; LETTERS.len()];
-    let mut landings = None;
+    let mut landings: Option<Vec<u32>> = None;
+    let mut landing_lines = Vec::new();
+    let mut base_line = 0;
     let mut ceilings = UNLIMITED;
     for &(line, words) in &said {
         let words: Vec<&str> = words.split_whitespace().collect();
         match words[..] {
             ["event", _, _] => (),
             ["landings", ref listed @ ..] if !listed.is_empty() => {
-                at(
-                    line,
-                    add_landings(listed, landings.get_or_insert_with(Vec::new)),
-                )?;
+                let landings = landings.get_or_insert_with(Vec::new);
+                at(line, add_landings(listed, landings))?;
+                landing_lines.resize(landings.len(), line);
             }
             ["ceiling", event, most] => {
                 at(line, set_ceiling(&mut ceilings, &names, event, most))?;
@@ -97,6 +102,9 @@ pub fn drum(text: &[u8]) -> Parsed<Drum> {
                     return fault(line, format!("{letter} stands twice"));
                 }
                 *slot = Some(at(line, number(value))?);
+                if letter == "B" {
+                    base_line = line;
+                }
             }
             _ => {
                 let message = "neither a number of the layout (U SL SH M P S B Q) nor landings, \
@@ -127,6 +135,8 @@ pub fn drum(text: &[u8]) -> Parsed<Drum> {
             ceilings,
         },
         landings,
+        landing_lines,
+        base_line,
         names,
     })
 }

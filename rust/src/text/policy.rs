@@ -65,6 +65,8 @@ pub struct PolicyFile {
     pub form: Form,
     /// The most that each order records, as far as the file says.
     pub ceilings: Ceilings,
+    /// The line of each pair, where the file holds pairs.
+    pub pair_lines: Vec<usize>,
     /// The names of events: those given, and those of the file.
     pub names: Names,
 }
@@ -178,7 +180,7 @@ pub fn policy(text: &[u8], given: &Names) -> Parsed<PolicyFile> {
     let mut ceilings = UNLIMITED;
     let mut states = States::default();
     let mut pairs = None;
-    let mut first_pair = 0;
+    let mut pair_lines = Vec::new();
     for &(line, words) in &said {
         let words: Vec<&str> = words.split_whitespace().collect();
         match words[..] {
@@ -189,7 +191,7 @@ pub fn policy(text: &[u8], given: &Names) -> Parsed<PolicyFile> {
                 pairs.get_or_insert_with(Vec::new);
             }
             [first, "before", second] => {
-                first_pair = line;
+                pair_lines.push(line);
                 for event in [first, second] {
                     let event = at(line, names.event(event))?;
                     match u8::try_from(event) {
@@ -230,7 +232,10 @@ pub fn policy(text: &[u8], given: &Names) -> Parsed<PolicyFile> {
         }
     }
     let form = match (pairs, states.names.is_empty()) {
-        (Some(_), false) => return fault(first_pair, "states and pairs do not mix"),
+        (Some(_), false) => {
+            let line = pair_lines.last().copied().unwrap_or(0);
+            return fault(line, "states and pairs do not mix");
+        }
         (Some(pairs), true) => Form::Before(pairs),
         (None, true) => return fault(0, "no policy: states with arrows, or pairs of events"),
         (None, false) => states.form(&names)?,
@@ -238,6 +243,7 @@ pub fn policy(text: &[u8], given: &Names) -> Parsed<PolicyFile> {
     Ok(PolicyFile {
         form,
         ceilings,
+        pair_lines,
         names,
     })
 }

@@ -68,7 +68,8 @@ fn instruction_word(said: &str, names: &Names, labels: &HashMap<&str, u32>) -> R
         None => (said, ""),
     };
     let same = |kind: &&str| kind.eq_ignore_ascii_case(name);
-    let Some(kind) = KINDS.iter().position(|kind| same(&kind)) else {
+    let found = KINDS.iter().position(|kind| same(kind));
+    let Some(kind) = found else {
         return Err(format!("{} is no instruction", quoted(name)));
     };
     let operands: Vec<&str> = match rest {

@@ -62,10 +62,13 @@ fn drums() {
             DRUM.replace("Q 64", "Q 40"),
             "7 bad layout, sandbox, state cell, table and landing cells share",
         ),
-        (DRUM.replace("B 4096", "B 4098"), "13 bad base"),
-        (DRUM.replace("all", "3 2"), "14 bad landing list"),
-        (DRUM.replace("all", "1024"), "14 bad landing list"),
-        (DRUM.replace("S 2", "S 3"), "10 bad policy"),
+        (DRUM.replace("B 4096", "B 4098"), "13 bad base, line 8"),
+        (DRUM.replace("all", "3 2"), "14 bad landing list, line 10"),
+        (DRUM.replace("all", "1024"), "14 bad landing list, line 10"),
+        (
+            DRUM.replace("S 2", "S 3"),
+            "10 bad policy, 2 states, and S of",
+        ),
         (
             format!("{}\n", "#".repeat(1001)),
             "line 1: longer than 1000 characters",
@@ -156,7 +159,7 @@ fn policies() {
         ("state a\n".repeat(2), "line 2: the state 'a' stands twice"),
         (
             "0 before 1\n2 before 3\n4 before 5\n".to_string(),
-            "17 bad pair",
+            "17 bad pair, line 3",
         ),
         ("state a\nstate b\nstate c\n".to_string(), "10 bad policy"),
     ];
@@ -183,6 +186,7 @@ fn policies() {
 #[test]
 fn files_that_cannot_be_read() {
     let folder = folder("unread");
+    command(&["list", "sample.routine"]).refused("it looks like text, and bytes are wanted here");
     command(&["list", "no-such-file"]).refused("no-such-file: No such file");
     command(&["list", folder.to_str().unwrap()]).refused("Is a directory");
     command(&["check", "sample.routine", "--drum", "no-such.drum"]).refused("no-such.drum");

@@ -5,6 +5,7 @@
 mod common;
 
 mod damage;
+mod documents;
 mod policies;
 mod routines;
 mod running;

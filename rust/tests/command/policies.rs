@@ -91,10 +91,10 @@ fn precedence_is_the_librarys() {
     let five = file(&folder, "five", "0 before 1\n2 before 3\n3 before 4\n");
     let out = folder.join("out");
     let to_out = ["policy", "precedence", &five, "-o", out.to_str().unwrap()];
-    command(&to_out).refused("17 bad pair");
+    command(&to_out).refused("17 bad pair, line 3");
     assert!(!out.exists());
     let above = file(&folder, "above", "0 before 16\n");
-    command(&["policy", "precedence", &above]).refused("17 bad pair");
+    command(&["policy", "precedence", &above]).refused("17 bad pair, line 1");
     command(&[
         "policy",
         "precedence",

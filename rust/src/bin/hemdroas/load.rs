@@ -4,7 +4,7 @@ use super::args::Args;
 use super::files;
 use super::problem::{refused, Problem};
 use hemdroas::names::{
-    EVENTS, MOST_CELLS, MOST_COMMANDS, MOST_INSTRUCTIONS, MOST_STATES, NO_ARROW,
+    EVENTS, MOST_BUNDLES, MOST_CELLS, MOST_COMMANDS, MOST_INSTRUCTIONS, MOST_STATES, NO_ARROW,
 };
 use hemdroas::text::{self, Drum, Fault, Form, Names, PolicyFile, Table};
 use hemdroas::{native, Answer, Drawing, Layout, Machine, Refusal};
@@ -17,15 +17,50 @@ pub fn faulty(path: &str, fault: Fault) -> Problem {
     }
 }
 
-/// The drum of a file.
-pub fn drum(path: &str) -> Result<Drum, Problem> {
-    text::drum(&files::read(path)?).map_err(|fault| faulty(path, fault))
+/// A drum, and the file that describes it.
+pub struct DrumFile {
+    path: String,
+    pub drum: Drum,
+}
+
+impl DrumFile {
+    /// The drum of a file.
+    pub fn of(path: &str) -> Result<DrumFile, Problem> {
+        let drum = text::drum(&files::read(path)?).map_err(|fault| faulty(path, fault))?;
+        let path = path.to_string();
+        Ok(DrumFile { path, drum })
+    }
+
+    /// The number of an answer about a routine on this drum, or the refusal,
+    /// of the drum's file or of the routine.
+    pub fn taken(&self, routine: &Routine, answer: Answer) -> Result<u32, Problem> {
+        let Answer::Refused { refusal, place } = answer else {
+            return routine.taken(answer);
+        };
+        let shown = match refusal {
+            Refusal::BadLayout => wrong_layout(&self.drum.layout).join("; "),
+            Refusal::BadBase => format!("line {}", self.drum.base_line),
+            Refusal::BadLandings => format!("line {}", self.bad_landing()),
+            _ => return Err(routine.refused(refusal, place)),
+        };
+        Err(refused(&self.path, refusal, Some(shown)))
+    }
+
+    /// The line of the first landing that is above all or does not rise.
+    fn bad_landing(&self) -> usize {
+        let listed = &self.drum.landings;
+        let is_bad = |&at: &usize| {
+            listed[at] as usize >= MOST_BUNDLES || at > 0 && listed[at] <= listed[at - 1]
+        };
+        let found = (0..listed.len()).find(is_bad);
+        found.map_or(0, |at| self.drum.landing_lines[at])
+    }
 }
 
 /// The names of events that the drum's file gives, if one was given.
 pub fn names(args: &Args) -> Result<Names, Problem> {
     match args.value("--drum") {
-        Some(path) => Ok(drum(path)?.names),
+        Some(path) => Ok(DrumFile::of(path)?.drum.names),
         None => Ok(Names::default()),
     }
 }
@@ -68,8 +103,14 @@ impl Routine {
             text: None,
             names: names.clone(),
         };
-        routine.taken(answer)?;
-        Ok(routine)
+        match routine.taken(answer) {
+            Ok(_) => Ok(routine),
+            Err(problem) if files::is_text(content) => {
+                let hint = "it looks like text, and bytes are wanted here";
+                Err(Problem::Refused(format!("{problem}; {hint}")))
+            }
+            Err(problem) => Err(problem),
+        }
     }
 
     /// The routine of a file, whichever it holds.
@@ -170,52 +211,14 @@ fn wrong_layout(layout: &Layout) -> Vec<&'static str> {
     failed.map(|&(_, said)| said).collect()
 }
 
-/// A refusal that concerns the drum's file, or else the routine or the policy.
-pub fn blame(
-    path: &str,
-    layout: &Layout,
-    routine: &Routine,
-    policy: Option<&str>,
-    answer: Answer,
-) -> Result<u32, Problem> {
-    match (answer, policy) {
-        (
-            Answer::Refused {
-                refusal: refusal @ Refusal::BadLayout,
-                ..
-            },
-            _,
-        ) => {
-            let why = wrong_layout(layout).join("; ");
-            let place = (!why.is_empty()).then_some(why);
-            Err(refused(path, refusal, place))
-        }
-        (
-            Answer::Refused {
-                refusal: refusal @ (Refusal::BadBase | Refusal::BadLandings),
-                ..
-            },
-            _,
-        ) => Err(refused(path, refusal, None)),
-        (
-            Answer::Refused {
-                refusal: refusal @ Refusal::BadPolicy,
-                ..
-            },
-            Some(policy),
-        ) => Err(refused(policy, refusal, None)),
-        (answer, _) => routine.taken(answer),
-    }
-}
-
 /// The commands of a routine for a drum, rewritten and checked.
-pub fn commands(path: &str, layout: &Layout, routine: &Routine) -> Result<Vec<u64>, Problem> {
+pub fn commands(drum: &DrumFile, routine: &Routine) -> Result<Vec<u64>, Problem> {
+    let layout = &drum.drum.layout;
     let mut commands = vec![0; MOST_COMMANDS];
     let answer = native::rewrite(layout, &routine.words, &mut commands);
-    let count = blame(path, layout, routine, None, answer)?;
+    let count = drum.taken(routine, answer)?;
     commands.truncate(count as usize);
-    let answer = native::check(layout, &commands);
-    blame(path, layout, routine, None, answer)?;
+    drum.taken(routine, native::check(layout, &commands))?;
     Ok(commands)
 }
 
@@ -256,17 +259,36 @@ pub struct MadePolicy {
 /// The most bytes of a table.
 pub const LONGEST_TABLE: usize = (EVENTS * MOST_STATES) as usize;
 
-fn of_pairs(path: &str, pairs: &[u8], names: &Names) -> Result<MadePolicy, Problem> {
+/// The events of pairs, in rising order.
+fn named_events(pairs: &[u8]) -> Vec<u8> {
+    let mut events = pairs.to_vec();
+    events.sort_unstable();
+    events.dedup();
+    events
+}
+
+/// The first pair that names an event above all, or the fifth event.
+fn bad_pair(pairs: &[u8]) -> Option<usize> {
+    let is_bad = |pair: &usize| {
+        let events = named_events(&pairs[..2 * pair + 2]);
+        events.len() > 4 || events.iter().any(|&event| u32::from(event) >= EVENTS)
+    };
+    (0..pairs.len() / 2).find(is_bad)
+}
+
+fn of_pairs(path: &str, pairs: &[u8], file: &PolicyFile) -> Result<MadePolicy, Problem> {
+    let names = &file.names;
     let mut table = vec![0; LONGEST_TABLE];
     let made = native::precedence(pairs, &mut table);
     let count = match made.answer {
         Answer::Taken(count) => count,
-        Answer::Refused { refusal, .. } => return Err(refused(path, refusal, None)),
+        Answer::Refused { refusal, .. } => {
+            let line = bad_pair(pairs).map(|pair| format!("line {}", file.pair_lines[pair]));
+            return Err(refused(path, refusal, line));
+        }
     };
     table.truncate(count as usize);
-    let mut events = pairs.to_vec();
-    events.sort_unstable();
-    events.dedup();
+    let events = named_events(pairs);
     let name = |state: usize| {
         let recorded = events
             .iter()
@@ -329,7 +351,7 @@ pub fn make(path: &str, file: &PolicyFile) -> Result<MadePolicy, Problem> {
             table: table.clone(),
             never: 0,
         }),
-        Form::Before(pairs) => of_pairs(path, pairs, &file.names),
+        Form::Before(pairs) => of_pairs(path, pairs, file),
         Form::Drawing {
             states,
             starts,
@@ -373,18 +395,28 @@ impl Loaded {
 /// checking and installing, each by the library, on memory whose cells are 0.
 pub fn load(args: &Args) -> Result<Loaded, Problem> {
     let (path, policy_path) = (args.needed("--drum")?, args.needed("--policy")?);
-    let drum = drum(path)?;
-    let file = policy(policy_path, &drum.names)?;
-    let mut layout = drum.layout;
-    for (most, &other) in layout.ceilings.iter_mut().zip(&file.ceilings) {
+    let mut drum = DrumFile::of(path)?;
+    let file = policy(policy_path, &drum.drum.names)?;
+    for (most, &other) in drum.drum.layout.ceilings.iter_mut().zip(&file.ceilings) {
         *most = (*most).min(other);
     }
     let routine = Routine::of_file(args.file(0), &file.names)?;
-    let commands = commands(path, &layout, &routine)?;
+    let commands = commands(&drum, &routine)?;
     let policy = make(policy_path, &file)?.table;
+    let layout = drum.drum.layout;
     let mut memory = vec![0; layout.size.min(MOST_CELLS) as usize];
-    let (answer, machine) = native::install(&layout, &policy.policy(), &drum.landings, &mut memory);
-    blame(path, &layout, &routine, Some(policy_path), answer)?;
+    let landings = &drum.drum.landings;
+    let (answer, machine) = native::install(&layout, &policy.policy(), landings, &mut memory);
+    if let Answer::Refused {
+        refusal: Refusal::BadPolicy,
+        ..
+    } = answer
+    {
+        let (states, room) = (policy.states.len(), layout.states);
+        let counts = format!("{states} states, and S of {path} is {room}");
+        return Err(refused(policy_path, Refusal::BadPolicy, Some(counts)));
+    }
+    drum.taken(&routine, answer)?;
     Ok(Loaded {
         layout,
         names: file.names,

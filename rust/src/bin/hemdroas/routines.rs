@@ -1,9 +1,9 @@
 //! assemble, list, check and forward.
 
 use super::args::Args;
-use super::load::{self, Routine};
+use super::files;
+use super::load::{self, commands, DrumFile, Routine};
 use super::problem::Done;
-use super::{files, load::commands};
 use hemdroas::names::{BUNDLE_LENGTH, MOST_INSTRUCTIONS};
 use hemdroas::text::{command, listing, Names};
 use hemdroas::{model, native, Answer, Refusal};
@@ -74,10 +74,10 @@ pub fn list(args: &Args) -> Done {
             listing(&routine.words, &names, |_| Vec::new())
         }
         true => {
-            let drum_path = args.needed("--drum")?;
-            let drum = load::drum(drum_path)?;
+            let file = DrumFile::of(args.needed("--drum")?)?;
+            let drum = &file.drum;
             let routine = Routine::of_bytes(path, &files::read(path)?, &drum.names)?;
-            let commands = commands(drum_path, &drum.layout, &routine)?;
+            let commands = commands(&file, &routine)?;
             let count = routine.words.len();
             listing(&routine.words, &drum.names, |place| {
                 bundle_lines(place, count, drum.layout.base, &commands, &drum.names)
@@ -99,11 +99,10 @@ pub fn check(args: &Args) -> Done {
             )
         }
         None => {
-            let path = args.needed("--drum")?;
-            let drum = load::drum(path)?;
-            let routine = Routine::of_file(args.file(0), &drum.names)?;
-            let list = commands(path, &drum.layout, &routine)?;
-            (routine.words.len(), list, drum.layout.base)
+            let file = DrumFile::of(args.needed("--drum")?)?;
+            let routine = Routine::of_file(args.file(0), &file.drum.names)?;
+            let list = commands(&file, &routine)?;
+            (routine.words.len(), list, file.drum.layout.base)
         }
     };
     let (bundles, length) = (list.len() / BUNDLE_LENGTH, list.len());
@@ -124,10 +123,10 @@ pub fn forward(args: &Args) -> Done {
     let routine = Routine::of_file(args.file(0), &names)?;
     routine.taken(native::forward(&routine.words))?;
     if let Some(path) = args.value("--drum") {
-        let drum = load::drum(path)?;
-        let list = commands(path, &drum.layout, &routine)?;
-        let answer = native::check_forward(&drum.layout, &list);
-        load::blame(path, &drum.layout, &routine, None, answer)?;
+        let file = DrumFile::of(path)?;
+        let list = commands(&file, &routine)?;
+        let answer = native::check_forward(&file.drum.layout, &list);
+        file.taken(&routine, answer)?;
     }
     let bundles = (routine.words.len() + 1).next_power_of_two();
     let most = model::most_steps(bundles);
