@@ -68,7 +68,7 @@ fn instruction_word(said: &str, names: &Names, labels: &HashMap<&str, u32>) -> R
         None => (said, ""),
     };
     let same = |kind: &&str| kind.eq_ignore_ascii_case(name);
-    let found = KINDS.iter().position(|kind| same(kind));
+    let found = KINDS.iter().position(same);
     let Some(kind) = found else {
         return Err(format!("{} is no instruction", quoted(name)));
     };

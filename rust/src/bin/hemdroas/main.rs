@@ -191,9 +191,15 @@ fn dispatch(words: &[String]) -> Done {
         return files::print(&page).map(|()| true);
     }
     let args = Args::of(rest, command.valued, command.flags, command.files);
-    let args =
-        args.map_err(|said| Problem::Usage(format!("{said}\nusage: hemdroas {}", command.usage)))?;
-    (command.run)(&args)
+    let done = args
+        .map_err(Problem::Usage)
+        .and_then(|args| (command.run)(&args));
+    done.map_err(|problem| match problem {
+        Problem::Usage(said) => {
+            Problem::Usage(format!("{said}\nusage: hemdroas {}", command.usage))
+        }
+        refused => refused,
+    })
 }
 
 fn main() -> ExitCode {
