@@ -1,11 +1,11 @@
 //! assemble, list, check and forward.
 
-use crate::common::inputs::{bytes_of, layout_and_routine, some_bytes, SAMPLE};
+use crate::common::inputs::{bytes_of, layout_and_routine, some_bytes, SAMPLE, TRIAL};
 use crate::common::{cases, say, seed, Rng};
 use crate::{command, file, folder};
 use hemdroas::native::{read, write};
 use hemdroas::text::{assemble, listing, Names};
-use hemdroas::Answer;
+use hemdroas::{model, Answer};
 use std::fs;
 
 /// Names for some of the events.
@@ -226,9 +226,10 @@ fn refusals_of_texts_name_their_line() {
 #[test]
 fn refusals_of_bytes_name_their_instruction() {
     let folder = folder("bytes");
-    let said: [(&[u8], &str); 9] = [
+    let said: [(&[u8], &str); 10] = [
         (&[], "1 short weight, instruction 0"),
         (&[1], "1 short weight, instruction 0"),
+        (b"\n", "1 short weight, instruction 0"),
         (&[2, 0, 0], "1 short weight, instruction 1"),
         (&[1, 0, 64], "2 foreign matter, instruction 0"),
         (&[1, 0, 1, 13], "3 unknown variety, instruction 0"),
@@ -248,6 +249,10 @@ fn refusals_of_bytes_name_their_instruction() {
         for name in ["check", "forward"] {
             command(&[name, &path, "--drum", "sample.drum"]).refused(expected);
         }
+        for name in ["run", "preview", "step"] {
+            let policy = ["--drum", "sample.drum", "--policy", "sample.policy"];
+            command(&[&[name, path.as_str()], &policy[..]].concat()).refused(expected);
+        }
     }
 }
 
@@ -263,4 +268,47 @@ fn forward_or_not() {
         0,
         "forward: it ends or stops within 13 steps over all its runs\n",
     );
+}
+
+/// What the command says of any bytes is what the model answers.
+#[test]
+fn the_command_answers_as_the_model_does() {
+    let folder = folder("any");
+    let mut rng = Rng::new(seed(28));
+    let (mut taken, mut refused) = (0, 0);
+    for _ in 0..cases(300) {
+        let bytes = some_bytes(&mut rng);
+        // Bytes that could be text are not taken for bytes.
+        let is_plain = |byte: &u8| *byte >= b' ' || b"\t\r\n".contains(byte);
+        if bytes.iter().all(is_plain) && bytes.iter().any(|&byte| byte > b' ') {
+            continue;
+        }
+        let path = file(&folder, "routine", &bytes);
+        let mut words = vec![0; 1023];
+        let mut answer = model::read(&bytes, &mut words);
+        let listed = command(&["list", &path]);
+        assert_eq!(listed.status, i32::from(!answer.is_taken()), "{bytes:?}");
+        if let Answer::Taken(count) = answer {
+            words.truncate(count as usize);
+            answer = model::rewrite(&TRIAL, &words, &mut [0; 4096]);
+        }
+        let checked = command(&["check", &path, "--drum", "sample.drum"]);
+        match answer {
+            Answer::Taken(_) => {
+                taken += 1;
+                assert_eq!(checked.status, 0, "{}", checked.error);
+                let came = command(&["forward", &path]);
+                let number = model::forward(&words).number();
+                assert_eq!(came.status, i32::from(number != 0), "{}", came.error);
+            }
+            Answer::Refused { refusal, place } => {
+                refused += 1;
+                checked.refused(&format!("refused, {} {refusal}", refusal.number()));
+                if [1, 2, 3, 4, 8].contains(&refusal.number()) {
+                    checked.refused(&format!(", instruction {place}"));
+                }
+            }
+        }
+    }
+    assert!(taken > 50 && refused > 50, "{taken} {refused}");
 }

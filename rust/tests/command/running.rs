@@ -1,7 +1,13 @@
 //! run, preview and step.
 
-use crate::common::inputs::TRIAL_READINGS;
+use crate::common::inputs::{
+    all_landings, bytes_of, rewritten, routine, trial_policy, TRIAL, TRIAL_READINGS,
+};
+use crate::common::{cases, seed, Rng};
 use crate::{command, file, folder, typed};
+use hemdroas::model::{self, bundles};
+use hemdroas::Ending;
+use std::collections::BTreeMap;
 
 const SAMPLE: [&str; 5] = [
     "sample.routine",
@@ -187,4 +193,70 @@ fn ceilings_of_drum_and_policy() {
         "{}",
         came.out
     );
+}
+
+/// The steps and pairs of random routines are the model's.
+#[test]
+fn the_command_runs_as_the_model_does() {
+    let folder = folder("random");
+    let mut rng = Rng::new(seed(29));
+    let mut endings = BTreeMap::new();
+    for _ in 0..cases(200) {
+        let n = rng.between(1, 30);
+        let words = routine(&mut rng, &TRIAL, n);
+        let path = file(&folder, "routine", bytes_of(&words));
+        let mut commands = rewritten(&TRIAL, &words);
+        commands.truncate(4 * bundles(n));
+        let policy = trial_policy();
+        let mut memory = vec![0; 1024];
+        let (_, mut machine) = model::install(&TRIAL, &policy.lend(), &all_landings(), &mut memory);
+        let mut log = vec![0; 64];
+        let readings = TRIAL_READINGS;
+        let answer = model::run(
+            &TRIAL,
+            &commands,
+            &mut machine,
+            &mut memory,
+            500,
+            &readings,
+            &mut log,
+        );
+        let files = [path.as_str(), SAMPLE[1], SAMPLE[2], SAMPLE[3], SAMPLE[4]];
+        let more = ["--readings", "1800,1950,2100", "--budget", "500"];
+        let expected = format!(
+            "ending {} {}: {} steps, {} pairs, {} readings used\n",
+            answer.ending.number(),
+            answer.ending,
+            answer.steps,
+            answer.pairs,
+            answer.readings
+        );
+        for name in ["run", "preview"] {
+            let came = command(&with(name, files, &more));
+            assert!(
+                came.out.contains(&expected),
+                "{expected}{}{}",
+                came.out,
+                came.error
+            );
+            assert_eq!(came.status, i32::from(answer.ending != Ending::Done));
+            let values = came
+                .out
+                .lines()
+                .filter(|line| line.starts_with("    ") || line.starts_with("   "));
+            let values = values.filter_map(|line| line.split_whitespace().last()?.parse().ok());
+            let expected = log
+                .chunks(2)
+                .take(answer.pairs as usize)
+                .map(|pair| pair[1]);
+            assert_eq!(
+                values.collect::<Vec<u32>>(),
+                expected.collect::<Vec<u32>>(),
+                "{}",
+                came.out
+            );
+        }
+        *endings.entry(answer.ending.number()).or_insert(0) += 1;
+    }
+    assert!(endings.len() >= 4, "{endings:?}");
 }

@@ -31,10 +31,11 @@ pub fn read(path: &str) -> Result<Vec<u8>, Problem> {
 }
 
 /// Whether a routine's file holds text: no routine's bytes are without a control
-/// byte, and no text has one but tabs and ends of lines.
+/// byte, and no text has one but tabs and ends of lines. A blank file is no text,
+/// for a routine that lost all but its first byte can look like one.
 pub fn is_text(content: &[u8]) -> bool {
     let is_plain = |&byte: &u8| byte >= b' ' || b"\t\r\n".contains(&byte);
-    !content.is_empty() && content.iter().all(is_plain)
+    content.iter().all(is_plain) && content.iter().any(|&byte| byte > b' ')
 }
 
 /// Writes a file beside the path and moves it there, so that a full disk leaves

@@ -5,13 +5,16 @@
 //! than 20, with 2 for bad usage.
 
 mod args;
+mod drums;
 mod files;
 mod load;
+mod making;
 mod policies;
 mod problem;
 mod routines;
 mod running;
 mod school;
+mod sources;
 
 use args::Args;
 use problem::{Done, Problem};

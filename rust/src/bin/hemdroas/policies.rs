@@ -1,8 +1,9 @@
 //! policy precedence, merge, determinise, show and draw.
 
 use super::args::Args;
+use super::drums;
 use super::files;
-use super::load::{self, make, met, named, LONGEST_TABLE};
+use super::making::{self, make, met, named, LONGEST_TABLE};
 use super::problem::{refused, Done, Problem};
 use hemdroas::names::{EVENTS, NO_ARROW};
 use hemdroas::text::{policy_text, Form, Names, PolicyFile, Table};
@@ -11,7 +12,7 @@ use std::collections::BTreeMap;
 
 /// The policy file of the arguments.
 fn given(args: &Args, place: usize, names: &Names) -> Result<PolicyFile, Problem> {
-    load::policy(args.file(place), names)
+    making::policy(args.file(place), names)
 }
 
 /// Writes a policy's text where the arguments say.
@@ -46,7 +47,7 @@ fn never_line(never: u16, names: &Names) -> String {
 }
 
 pub fn precedence(args: &Args) -> Done {
-    let file = given(args, 0, &load::names(args)?)?;
+    let file = given(args, 0, &drums::names(args)?)?;
     if !matches!(file.form, Form::Before(_)) {
         return Err(no_form(args, "pairs: EVENT before EVENT"));
     }
@@ -56,7 +57,7 @@ pub fn precedence(args: &Args) -> Done {
 }
 
 pub fn determinise(args: &Args) -> Done {
-    let file = given(args, 0, &load::names(args)?)?;
+    let file = given(args, 0, &drums::names(args)?)?;
     if !matches!(file.form, Form::Drawing { .. }) {
         return Err(no_form(args, "drawing"));
     }
@@ -69,7 +70,7 @@ pub fn determinise(args: &Args) -> Done {
 }
 
 pub fn merge(args: &Args) -> Done {
-    let one = given(args, 0, &load::names(args)?)?;
+    let one = given(args, 0, &drums::names(args)?)?;
     // Both sides speak of the same events, so the second knows the first one's names.
     let other = given(args, 1, &one.names)?;
     let (first, second) = (
@@ -143,7 +144,7 @@ fn table_text(table: &Table, names: &Names) -> String {
 }
 
 pub fn show(args: &Args) -> Done {
-    let file = given(args, 0, &load::names(args)?)?;
+    let file = given(args, 0, &drums::names(args)?)?;
     let made = make(args.file(0), &file)?;
     let mut text = table_text(&made.table, &file.names);
     for (order, &most) in file.ceilings.iter().enumerate() {
@@ -194,7 +195,7 @@ fn graph(
 }
 
 pub fn draw(args: &Args) -> Done {
-    let file = given(args, 0, &load::names(args)?)?;
+    let file = given(args, 0, &drums::names(args)?)?;
     let row = EVENTS as usize;
     let text = match &file.form {
         Form::Drawing {

@@ -1,5 +1,6 @@
 //! What can go wrong, as it is shown.
 
+use hemdroas::text::Fault;
 use hemdroas::Refusal;
 use std::fmt;
 
@@ -63,4 +64,12 @@ pub fn refused(file: &str, refusal: Refusal, place: Option<String>) -> Problem {
     Problem::Refused(format!(
         "{file}: refused, {number} {refusal}{place} ({meaning})"
     ))
+}
+
+/// A fault of a text, with its file and line.
+pub fn faulty(path: &str, fault: Fault) -> Problem {
+    match fault.line {
+        0 => Problem::Refused(format!("{path}: {}", fault.message)),
+        line => Problem::Refused(format!("{path}, line {line}: {}", fault.message)),
+    }
 }

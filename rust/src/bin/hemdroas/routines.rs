@@ -1,9 +1,11 @@
 //! assemble, list, check and forward.
 
 use super::args::Args;
+use super::drums::{self, DrumFile};
 use super::files;
-use super::load::{self, commands, DrumFile, Routine};
+use super::load::load;
 use super::problem::Done;
+use super::sources::{commands, Routine};
 use hemdroas::names::{BUNDLE_LENGTH, MOST_INSTRUCTIONS};
 use hemdroas::text::{command, listing, Names};
 use hemdroas::{model, native, Answer, Refusal};
@@ -17,7 +19,7 @@ const LONGEST_ROUTINE: usize = 2 + LONGEST_INSTRUCTION * MOST_INSTRUCTIONS;
 pub fn assemble(args: &Args) -> Done {
     let out = args.needed("-o")?;
     let path = args.file(0);
-    let names = load::names(args)?;
+    let names = drums::names(args)?;
     let routine = Routine::of_text(path, &files::read(path)?, &names)?;
     let mut bytes = vec![0; LONGEST_ROUTINE];
     let count = routine.taken(native::write(&routine.words, &mut bytes))?;
@@ -69,7 +71,7 @@ pub fn list(args: &Args) -> Done {
     let out = args.value("-o").unwrap_or("-");
     let text = match args.has("--bundles") {
         false => {
-            let names = load::names(args)?;
+            let names = drums::names(args)?;
             let routine = Routine::of_bytes(path, &files::read(path)?, &names)?;
             listing(&routine.words, &names, |_| Vec::new())
         }
@@ -91,7 +93,7 @@ pub fn list(args: &Args) -> Done {
 pub fn check(args: &Args) -> Done {
     let (count, list, base) = match args.value("--policy") {
         Some(_) => {
-            let loaded = load::load(args)?;
+            let loaded = load(args)?;
             (
                 loaded.routine.words.len(),
                 loaded.commands,
@@ -119,7 +121,7 @@ pub fn check(args: &Args) -> Done {
 }
 
 pub fn forward(args: &Args) -> Done {
-    let names = load::names(args)?;
+    let names = drums::names(args)?;
     let routine = Routine::of_file(args.file(0), &names)?;
     routine.taken(native::forward(&routine.words))?;
     if let Some(path) = args.value("--drum") {

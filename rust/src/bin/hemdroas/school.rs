@@ -133,11 +133,7 @@ pub fn step(args: &Args) -> Done {
         }
         files::print(&text)?;
         if engine.status != Status::Running {
-            // The status is that of the ending, which the next call gives too.
-            break match ending {
-                Ending::Spent => ended(&loaded, &mut engine),
-                ending => ending,
-            };
+            break ending;
         }
     };
     let (number, state) = (ending.number(), loaded.state());
@@ -145,12 +141,4 @@ pub fn step(args: &Args) -> Done {
         "ending {number} {ending}: {done} instructions, {pairs} pairs, {used} readings used\nstate {state}\n"
     ))?;
     Ok(ending == Ending::Done)
-}
-
-/// The ending of an engine that does not run.
-fn ended(loaded: &Loaded, engine: &mut Engine) -> Ending {
-    let mut memory = loaded.memory.clone();
-    let words = &loaded.routine.words;
-    let answer = native::engine(&loaded.layout, words, engine, &mut memory, 0, &[], &mut []);
-    answer.came.unwrap_or(Ending::Fault)
 }

@@ -1,0 +1,157 @@
+//! Policies from their files, made by the library where these hold no table.
+
+use super::files;
+use super::problem::{faulty, refused, Problem};
+use hemdroas::names::{EVENTS, MOST_STATES, NO_ARROW};
+use hemdroas::text::{self, Form, Names, PolicyFile, Table};
+use hemdroas::{native, Answer, Drawing};
+
+/// The keys of a policy's states, which were numbered as first met, from that
+/// of the start.
+pub fn met<K: Clone>(table: &[u8], start: K, next: impl Fn(&K, u32) -> K) -> Vec<K> {
+    let states = table.len() / EVENTS as usize;
+    let mut keys = vec![start];
+    for (place, &entry) in table.iter().enumerate() {
+        let (state, event) = (place / EVENTS as usize, place as u32 % EVENTS);
+        let is_new = usize::from(entry) == keys.len() && u32::from(entry) != NO_ARROW;
+        if is_new && keys.len() < states && state < keys.len() {
+            keys.push(next(&keys[state], event));
+        }
+    }
+    keys
+}
+
+/// Names for states, if each can be one and they differ; else numbered ones.
+pub fn named(states: usize, names: Vec<String>) -> Vec<String> {
+    let mut sorted = names.clone();
+    sorted.sort();
+    sorted.dedup();
+    let can_be = |name: &String| name.len() <= 40 && name != "none";
+    if sorted.len() == states && names.len() == states && names.iter().all(can_be) {
+        names
+    } else {
+        (0..states).map(|state| format!("s{state}")).collect()
+    }
+}
+
+/// A policy that was made, and the events that it never allows if that is known.
+pub struct MadePolicy {
+    pub table: Table,
+    pub never: u16,
+}
+
+/// The most bytes of a table.
+pub const LONGEST_TABLE: usize = (EVENTS * MOST_STATES) as usize;
+
+/// The events of pairs, in rising order.
+fn named_events(pairs: &[u8]) -> Vec<u8> {
+    let mut events = pairs.to_vec();
+    events.sort_unstable();
+    events.dedup();
+    events
+}
+
+/// The first pair that names an event above all, or the fifth event.
+fn bad_pair(pairs: &[u8]) -> Option<usize> {
+    let is_bad = |pair: &usize| {
+        let events = named_events(&pairs[..2 * pair + 2]);
+        events.len() > 4 || events.iter().any(|&event| u32::from(event) >= EVENTS)
+    };
+    (0..pairs.len() / 2).find(is_bad)
+}
+
+fn of_pairs(path: &str, pairs: &[u8], file: &PolicyFile) -> Result<MadePolicy, Problem> {
+    let names = &file.names;
+    let mut table = vec![0; LONGEST_TABLE];
+    let made = native::precedence(pairs, &mut table);
+    let count = match made.answer {
+        Answer::Taken(count) => count,
+        Answer::Refused { refusal, .. } => {
+            let line = bad_pair(pairs).map(|pair| format!("line {}", file.pair_lines[pair]));
+            return Err(refused(path, refusal, line));
+        }
+    };
+    table.truncate(count as usize);
+    let events = named_events(pairs);
+    let name = |state: usize| {
+        let recorded = events
+            .iter()
+            .enumerate()
+            .filter(|(bit, _)| state >> bit & 1 == 1);
+        let recorded = recorded.map(|(_, &event)| match names.of(event.into()) {
+            Some(name) => name.to_string(),
+            None => format!("e{event}"),
+        });
+        match recorded.collect::<Vec<_>>().join("+") {
+            nothing if nothing.is_empty() => "start".to_string(),
+            joined => joined,
+        }
+    };
+    let states = made.states as usize;
+    Ok(MadePolicy {
+        table: Table {
+            states: named(states, (0..states).map(name).collect()),
+            start: 0,
+            table,
+        },
+        never: made.never,
+    })
+}
+
+fn of_drawing(path: &str, names: &[String], drawing: &Drawing) -> Result<MadePolicy, Problem> {
+    let mut table = vec![0; LONGEST_TABLE];
+    let made = native::determinise(drawing, &mut table);
+    let count = match made.answer {
+        Answer::Taken(count) => count,
+        Answer::Refused { refusal, .. } => return Err(refused(path, refusal, None)),
+    };
+    table.truncate(count as usize);
+    let members =
+        |&set: &u32| (0..drawing.states as usize).filter(move |state| set >> state & 1 == 1);
+    let next = |set: &u32, event: u32| {
+        let arrows =
+            members(set).map(|state| drawing.arrows[EVENTS as usize * state + event as usize]);
+        arrows.fold(0, |all, one| all | u32::from(one))
+    };
+    let sets = met(&table, drawing.starts, next);
+    let join = |set: &u32| {
+        let joined: Vec<&str> = members(set).map(|state| names[state].as_str()).collect();
+        joined.join("+")
+    };
+    Ok(MadePolicy {
+        table: Table {
+            states: named(made.states as usize, sets.iter().map(join).collect()),
+            start: made.start,
+            table,
+        },
+        never: 0,
+    })
+}
+
+/// The policy of a policy file, made by the library where it is no table.
+pub fn make(path: &str, file: &PolicyFile) -> Result<MadePolicy, Problem> {
+    match &file.form {
+        Form::States(table) => Ok(MadePolicy {
+            table: table.clone(),
+            never: 0,
+        }),
+        Form::Before(pairs) => of_pairs(path, pairs, file),
+        Form::Drawing {
+            states,
+            starts,
+            arrows,
+        } => {
+            let drawing = Drawing {
+                states: states.len() as u32,
+                starts: *starts,
+                arrows,
+            };
+            of_drawing(path, states, &drawing)
+        }
+    }
+}
+
+/// What a policy file says.
+pub fn policy(path: &str, names: &Names) -> Result<PolicyFile, Problem> {
+    text::policy(&files::read(path)?, names).map_err(|fault| faulty(path, fault))
+}
