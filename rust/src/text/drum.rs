@@ -57,6 +57,9 @@ pub(super) fn set_ceiling(
 ) -> Result<(), String> {
     let order = names.event(event)?;
     match ceilings.get_mut(order as usize) {
+        Some(ceiling) if *ceiling != u32::MAX => {
+            Err(format!("the ceiling of {} stands twice", quoted(event)))
+        }
         Some(ceiling) => {
             *ceiling = number(most)?;
             Ok(())

@@ -45,6 +45,10 @@ fn drums() {
             DRUM.replace("all", "0-1024"),
             "line 10: '0-1024' is no range",
         ),
+        (
+            format!("{DRUM}ceiling gas 5\nceiling 0 6\n"),
+            "line 14: the ceiling of '0' stands twice",
+        ),
         (format!("{DRUM}ceiling 8 5\n"), "line 13: '8' is no order"),
         (
             format!("{DRUM}ceiling fire 5\n"),
@@ -156,6 +160,10 @@ fn policies() {
             "line 9: states and pairs do not mix",
         ),
         ("gas before 300\n".to_string(), "line 1: 300 is no event"),
+        (
+            format!("{}2 before 3\n4 before 5\n", "0 before 1\n".repeat(50_000)),
+            "17 bad pair, line 50002",
+        ),
         ("state a\n".repeat(2), "line 2: the state 'a' stands twice"),
         (
             "0 before 1\n2 before 3\n4 before 5\n".to_string(),

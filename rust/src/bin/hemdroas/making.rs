@@ -43,6 +43,9 @@ pub struct MadePolicy {
 /// The most bytes of a table.
 pub const LONGEST_TABLE: usize = (EVENTS * MOST_STATES) as usize;
 
+/// The most events that pairs may name.
+const MOST_NAMED: usize = 4;
+
 /// The events of pairs, in rising order.
 fn named_events(pairs: &[u8]) -> Vec<u8> {
     let mut events = pairs.to_vec();
@@ -53,11 +56,14 @@ fn named_events(pairs: &[u8]) -> Vec<u8> {
 
 /// The first pair that names an event above all, or the fifth event.
 fn bad_pair(pairs: &[u8]) -> Option<usize> {
-    let is_bad = |pair: &usize| {
-        let events = named_events(&pairs[..2 * pair + 2]);
-        events.len() > 4 || events.iter().any(|&event| u32::from(event) >= EVENTS)
-    };
-    (0..pairs.len() / 2).find(is_bad)
+    let mut seen = Vec::new();
+    let place = pairs.iter().position(|event| {
+        if !seen.contains(event) {
+            seen.push(*event);
+        }
+        seen.len() > MOST_NAMED || u32::from(*event) >= EVENTS
+    });
+    place.map(|place| place / 2)
 }
 
 fn of_pairs(path: &str, pairs: &[u8], file: &PolicyFile) -> Result<MadePolicy, Problem> {
