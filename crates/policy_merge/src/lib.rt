@@ -44,8 +44,8 @@ fn side_right(policy: Policy, table: &[u8]) -> bool
     ensures { λ r. ⌜ r ≡ sideRight (policyOf (policy .states) (policy .start) (now (table .entry)) []) ⌝ }
 {
     let states = policy.states;
-    let known = installer::states_right(states);
-    let entries = installer::entries_right(states, table);
+    let known = installer_words::states_right(states);
+    let entries = installer_tables::entries_right(states, table);
     known & (table.len() == EVENTS * states as usize) & (policy.start < states) & entries
 }
 

@@ -3,9 +3,9 @@ use borrow.Author.Needs.{needs}
 use native.Mathlib.Omega.{arith}
 use lib.Bits.{and-le-r}
 use Rattle.rules.specs.Policies.{wordBytes}
-use Rattle.installer.proofs.Words.{fit, unfit, fill, together}
-use Rattle.installer.proofs.word_right.Statement.{statement}
-use Rattle.installer.proofs.word_right.Tie as tie
+use Rattle.installer_words.proofs.Words.{fit, unfit, fill, together}
+use Rattle.installer_words.proofs.word_right.Statement.{statement}
+use Rattle.installer_words.proofs.word_right.Tie as tie
 
 pub word-right-spec : {M : Type 1} → statement M
 word-right-spec =

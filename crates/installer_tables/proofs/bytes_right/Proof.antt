@@ -5,9 +5,9 @@ use native.Mathlib.Omega.{arith}
 use borrow.Author.Needs.{needs}
 use lib.ListN.{length, drop}
 use Rattle.rules.specs.Policies.{entriesRight}
-use Rattle.installer.proofs.Installs.{all-more, all-done}
-use Rattle.installer.proofs.bytes_right.Statement.{statement}
-use Rattle.installer.proofs.bytes_right.Tie as tie
+use Rattle.installer_tables.proofs.Tables.{all-more, all-done}
+use Rattle.installer_tables.proofs.bytes_right.Statement.{statement}
+use Rattle.installer_tables.proofs.bytes_right.Tie as tie
 
 -- the bytes that are left decide, if none before was wrong
 abbrev Inv-loop : tie.InvT-loop

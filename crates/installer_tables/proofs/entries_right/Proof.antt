@@ -3,10 +3,10 @@ use denote.Ref.{now}
 use borrow.Author.Needs.{needs}
 use lib.ListN.{length}
 use Rattle.rules.specs.Policies.{wordBytes}
-use Rattle.installer.proofs.Words.{fit}
-use Rattle.installer.proofs.Installs.{parts}
-use Rattle.installer.proofs.entries_right.Statement.{statement}
-use Rattle.installer.proofs.entries_right.Tie as tie
+use Rattle.installer_words.proofs.Words.{fit}
+use Rattle.installer_tables.proofs.Tables.{parts}
+use Rattle.installer_tables.proofs.entries_right.Statement.{statement}
+use Rattle.installer_tables.proofs.entries_right.Tie as tie
 
 pub entries-right-spec : {M : Type 1} → statement M
 entries-right-spec =

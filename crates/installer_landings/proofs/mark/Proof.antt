@@ -1,7 +1,7 @@
 use borrow.Author.Needs.{needs}
-use Rattle.installer.proofs.Marks.{marked-in}
-use Rattle.installer.proofs.mark.Statement.{statement}
-use Rattle.installer.proofs.mark.Tie as tie
+use Rattle.installer_landings.proofs.Marks.{marked-in}
+use Rattle.installer_landings.proofs.mark.Statement.{statement}
+use Rattle.installer_landings.proofs.mark.Tie as tie
 
 pub mark-spec : {M : Type 1} → statement M
 mark-spec =

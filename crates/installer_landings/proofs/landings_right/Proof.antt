@@ -3,9 +3,9 @@ use mathlib.Core.Path.{_≡_}
 use borrow.Author.Needs.{needs}
 use lib.ListN.{length, drop}
 use Rattle.rules.specs.Landings.{risingFrom, rightLandings}
-use Rattle.installer.proofs.Marks.{rising-start, not-rising, too-high, rising-more, rising-done}
-use Rattle.installer.proofs.landings_right.Statement.{statement}
-use Rattle.installer.proofs.landings_right.Tie as tie
+use Rattle.installer_landings.proofs.Marks.{rising-start, not-rising, too-high, rising-more, rising-done}
+use Rattle.installer_landings.proofs.landings_right.Statement.{statement}
+use Rattle.installer_landings.proofs.landings_right.Tie as tie
 
 -- the entries that are left decide
 abbrev Inv-loop : tie.InvT-loop

@@ -4,9 +4,9 @@ use denote.Ref.{now}
 use borrow.Author.Needs.{needs}
 use lib.ListN.{take}
 use Rattle.rules.specs.Policies.{entriesRight, wordBytes}
-use Rattle.installer.proofs.Installs.{word-more, words-done}
-use Rattle.installer.proofs.words_right.Statement.{statement}
-use Rattle.installer.proofs.words_right.Tie as tie
+use Rattle.installer_tables.proofs.Tables.{word-more, words-done}
+use Rattle.installer_tables.proofs.words_right.Statement.{statement}
+use Rattle.installer_tables.proofs.words_right.Tie as tie
 
 -- the words so far
 abbrev Inv-loop : tie.InvT-loop

@@ -4,9 +4,9 @@ use borrow.Author.Needs.{needs}
 use lib.ListN.{length, take}
 use Rattle.rules.specs.Names.{landingCells}
 use Rattle.rules.specs.Landings.{landingsOf}
-use Rattle.installer.proofs.Marks.{no-marks, below-most, mark-more, marked-all, marked-long}
-use Rattle.installer.proofs.landing_cells.Statement.{statement}
-use Rattle.installer.proofs.landing_cells.Tie as tie
+use Rattle.installer_landings.proofs.Marks.{no-marks, below-most, mark-more, marked-all, marked-long}
+use Rattle.installer_landings.proofs.landing_cells.Statement.{statement}
+use Rattle.installer_landings.proofs.landing_cells.Tie as tie
 
 -- the cells of the entries so far
 abbrev Inv-loop : tie.InvT-loop

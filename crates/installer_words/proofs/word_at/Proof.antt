@@ -1,7 +1,7 @@
 use borrow.Author.Needs.{needs}
-use Rattle.installer.proofs.Words.{word-of}
-use Rattle.installer.proofs.word_at.Statement.{statement}
-use Rattle.installer.proofs.word_at.Tie as tie
+use Rattle.installer_words.proofs.Words.{word-of}
+use Rattle.installer_words.proofs.word_at.Statement.{statement}
+use Rattle.installer_words.proofs.word_at.Tie as tie
 
 pub word-at-spec : {M : Type 1} → statement M
 word-at-spec =
