@@ -1,14 +1,14 @@
--- `sandbox::load` meets its contract.
+-- `sandbox_loading::load` meets its contract.
 use mathlib.Core.Path.{sym}
 use native.Mathlib.Omega.{arith}
 use lib.ListN.{length}
 use lib.Seq.{length-take-le}
 use Rattle.rules.specs.Policies.{policyOf}
-use Rattle.sandbox.specs.Translating.{Listed}
-use Rattle.sandbox.proofs.Laws.{not-translated, not-installed, loaded}
+use Rattle.sandbox_translating.specs.Translating.{Listed}
+use Rattle.sandbox_loading.proofs.Laws.{not-translated, not-installed, loaded}
 use borrow.Author.Needs.{needs}
-use Rattle.sandbox.proofs.load.Statement.{statement}
-use Rattle.sandbox.proofs.load.Tie as tie
+use Rattle.sandbox_loading.proofs.load.Statement.{statement}
+use Rattle.sandbox_loading.proofs.load.Tie as tie
 
 slice-aggregate-translate : tie.Need-slice-aggregate-translate
 slice-aggregate-translate c = search needs

@@ -1,8 +1,8 @@
--- `sandbox::in_room` meets its contract: a law for each way out.
+-- `sandbox_translating::in_room` meets its contract: a law for each way out.
 use borrow.Author.Needs.{needs}
-use Rattle.sandbox.proofs.Laws.{roomed, roomless, roomy}
-use Rattle.sandbox.proofs.in_room.Statement.{statement}
-use Rattle.sandbox.proofs.in_room.Tie as tie
+use Rattle.sandbox_translating.proofs.Laws.{roomed, roomless, roomy}
+use Rattle.sandbox_translating.proofs.in_room.Statement.{statement}
+use Rattle.sandbox_translating.proofs.in_room.Tie as tie
 
 returns : tie.Need-returns
 returns c = search (roomed, needs)

@@ -1,10 +1,10 @@
--- `sandbox::checked` meets its contract: the commands that an answer counts lie within the list.
+-- `sandbox_translating::checked` meets its contract: the commands that an answer counts lie within the list.
 use borrow.Author.Needs.{needs}
-use Rattle.sandbox.proofs.Laws.{not-checked, not-passed, passed}
+use Rattle.sandbox_translating.proofs.Laws.{not-checked, not-passed, passed}
 use lib.Seq.{length-take-le}
 use mathlib.Core.Path.{sym}
-use Rattle.sandbox.proofs.checked.Statement.{statement}
-use Rattle.sandbox.proofs.checked.Tie as tie
+use Rattle.sandbox_translating.proofs.checked.Statement.{statement}
+use Rattle.sandbox_translating.proofs.checked.Tie as tie
 
 returns : tie.Need-returns
 returns c = search (not-checked, needs)

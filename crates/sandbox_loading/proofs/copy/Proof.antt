@@ -1,4 +1,4 @@
--- `sandbox::copy` meets its contract. The loop's invariant: what is stored so far and what is still to store are together all of `from`. The measure is what is left of `from`.
+-- `sandbox_loading::copy` meets its contract. The loop's invariant: what is stored so far and what is still to store are together all of `from`. The measure is what is left of `from`.
 use Prim.Native.Nat.{ℕ, _+_, _-_, _≤_, _<_}
 use mathlib.Core.Path.{_≡_, refl, sym, _∙_}
 use mathlib.Core.List.{List, _++_}
@@ -8,8 +8,8 @@ use native.Mathlib.Numerals.{add-one}
 use lib.ListN.{length, drop, set, getD, length-set}
 use lib.Seq.{sets, sets-eq, drop-cons, drop-length}
 use borrow.Author.Needs.{needs}
-use Rattle.sandbox.proofs.copy.Statement.{statement}
-use Rattle.sandbox.proofs.copy.Tie as tie
+use Rattle.sandbox_loading.proofs.copy.Statement.{statement}
+use Rattle.sandbox_loading.proofs.copy.Tie as tie
 
 abbrev Inv-loop : tie.InvT-loop
 Inv-loop from to₀ i₀ to i = (i ≤ length from) × (sets to₀ 0 from ≡ sets to i (drop i from)) × (length to ≡ length to₀)

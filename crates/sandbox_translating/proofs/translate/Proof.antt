@@ -1,8 +1,8 @@
--- `sandbox::translate` meets its contract: reading, rewriting and the room first, then the check.
+-- `sandbox_translating::translate` meets its contract: reading, rewriting and the room first, then the check.
 use borrow.Author.Needs.{needs}
-use Rattle.sandbox.proofs.Laws.{long, translated}
-use Rattle.sandbox.proofs.translate.Statement.{statement}
-use Rattle.sandbox.proofs.translate.Tie as tie
+use Rattle.sandbox_translating.proofs.Laws.{long, translated}
+use Rattle.sandbox_translating.proofs.translate.Statement.{statement}
+use Rattle.sandbox_translating.proofs.translate.Tie as tie
 
 write-commands-requires : tie.Need-write-commands-requires
 write-commands-requires c κs = search needs

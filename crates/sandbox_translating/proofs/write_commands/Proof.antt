@@ -1,10 +1,10 @@
--- `sandbox::write_commands` meets its contract.
+-- `sandbox_translating::write_commands` meets its contract.
 use mathlib.Core.Path.{refl, sym}
 use borrow.Author.Needs.{needs}
 use lib.Seq.{length-take-le}
-use Rattle.sandbox.proofs.Laws.{not-read, read-length, rewrote}
-use Rattle.sandbox.proofs.write_commands.Statement.{statement}
-use Rattle.sandbox.proofs.write_commands.Tie as tie
+use Rattle.sandbox_translating.proofs.Laws.{not-read, read-length, rewrote}
+use Rattle.sandbox_translating.proofs.write_commands.Statement.{statement}
+use Rattle.sandbox_translating.proofs.write_commands.Tie as tie
 
 slice-aggregate-read : tie.Need-slice-aggregate-read
 slice-aggregate-read c = search needs

@@ -1,0 +1,67 @@
+// Loading: from a routine's bytes to an installed machine and its commands: reading, rewriting,
+// checking and installing in one call. Whatever refuses, lent memory stays as it was, so the parts
+// work on a list of this crate's own and only a loaded routine's commands are copied out.
+use rules::Installed;
+use rules::Layout;
+use rules::Machine;
+use rules::Policy;
+use rules::Refusal;
+use sandbox_translating::translate;
+ghost use Prim.Native.Nat.{_≤_};
+ghost use mathlib.Core.Path.{_≡_};
+ghost use mathlib.Core.List.{_++_};
+ghost use lib.ListN.{length, drop};
+ghost use Rattle.rules.specs.Policies.{policyOf};
+ghost use Rattle.rules.specs.Loading.{loadOf, loadCommands, loadMemory};
+
+// Copies all of `from` to the start of `to`.
+fn copy(from: &[u64], to: &mut [u64])
+    requires { ⌜ length (now from) ≤ length (now to) ⌝ }
+    ensures { λ _. ⌜ now (to .exit) ≡ now (from .entry) ++ drop (length (now (from .entry))) (now (to .entry)) ⌝ }
+{
+    let mut i = 0;
+    while i < from.len() {
+        to[i] = from[i];
+        i += 1;
+    }
+}
+
+// Loads a routine: its first refusal by reading, rewriting, checking or installing; or 0 and the
+// count of its commands, which then stand at the start of `commands`, and the machine's record.
+pub fn load(
+    layout: Layout,
+    policy: Policy,
+    table: &[u8],
+    landings: &[u32],
+    bytes: &[u8],
+    commands: &mut [u64],
+    memory: &mut [u32],
+) -> Installed
+    ensures answer { λ r. ⌜ r ≡ loadOf layout (policyOf (policy .states) (policy .start) (now (table .entry)) (now (landings .entry))) (now (bytes .entry)) (length (now (commands .entry))) (now (memory .entry)) ⌝ }
+    ensures commands { λ _. ⌜ now (commands .exit) ≡ loadCommands layout (policyOf (policy .states) (policy .start) (now (table .entry)) (now (landings .entry))) (now (bytes .entry)) (now (commands .entry)) (now (memory .entry)) ⌝ }
+    ensures memory { λ _. ⌜ now (memory .exit) ≡ loadMemory layout (policyOf (policy .states) (policy .start) (now (table .entry)) (now (landings .entry))) (now (bytes .entry)) (length (now (commands .entry))) (now (memory .entry)) ⌝ }
+    ensures within { λ r. ⌜ (r .answer .number ≡ 0 → r .answer .place ≤ length (now (commands .exit))) ⌝ }
+{
+    let mut list = [0u64; 4096];
+    let a = translate(layout, bytes, commands.len(), &mut list);
+    let rejected = a.number;
+    if rejected != Refusal::TAKEN {
+        return Installed {
+            machine: Machine::refused(),
+            answer: a,
+        };
+    }
+    let i = installer::install(layout, policy, table, landings, memory);
+    let b = i.answer;
+    let unfit = b.number;
+    if unfit != Refusal::TAKEN {
+        return i;
+    }
+    let n = a.place;
+    copy(&list[..n], commands);
+    let m = i.machine;
+    Installed {
+        machine: m,
+        answer: a,
+    }
+}

@@ -1,0 +1,2 @@
+pub mod Elses
+pub mod Laws
