@@ -1,15 +1,7 @@
-// The C interface: the sandbox's parts over numbers, arrays and slices.
+// The C interface: the sandbox's parts over numbers, arrays and slices. Each part is proved in a crate of its own and has
+// its name for C here.
 use capi_numbers::RECORD;
-use capi_numbers::layout_of;
-use capi_numbers::machine_of;
-use capi_numbers::record_after;
-use capi_numbers::record_of;
-use policy_precedence::Made;
-use rules::Answer;
-use rules::Policy;
-use rules::RunAnswer;
 ghost use mathlib.Core.Path.{_≡_};
-ghost use Prim.Native.Nat.{_<_, _^_};
 ghost use lib.ListN.{length};
 ghost use Rattle.rules.specs.Policies.{policyOf, wordRight};
 ghost use Rattle.rules.specs.Bytes.{readAnswer, readOutput, writeAnswer, writeOutput};
@@ -21,42 +13,12 @@ ghost use Rattle.policy_precedence.specs.Precedence.{makeOf, makeTable};
 ghost use Rattle.forward.specs.Forward.{forwardAnswer, checkForwardAnswer};
 ghost use Rattle.policy_determinise.specs.Drawings.{drawingOf, determiniseOf, determiniseTable};
 ghost use Rattle.policy_merge.specs.Pairs.{mergeTable};
+ghost use Rattle.capi_loading.specs.Hosts.{yesOrNo};
+ghost use Rattle.capi_running.specs.Hosts.{runFor};
+ghost use Rattle.capi_precedence.specs.Hosts.{madeTo};
 ghost use Rattle.capi_engine.specs.Records.{runFor as engineFor, recordAfter as engineAfter, answerTo as engineAnswerTo};
-ghost use Rattle.capi_policies.specs.Numbers.{madeTo as policyTo, policyFrom, mergeFor, mergedTo};
-ghost use Rattle.capi.specs.Hosts.{runFor, yesOrNo, madeTo};
-
-// ---- answers as numbers
-
-fn answer_of(a: Answer) -> [u32; 2]
-    requires { ⌜ a .place < 2 ^ 32 ⌝ }
-    ensures { λ r. ⌜ r ≡ answerTo a ⌝ }
-{
-    [a.number as u32, a.place as u32]
-}
-
-fn run_answer_of(a: RunAnswer) -> [u32; 4]
-    requires { ⌜ (a .pairs < 2 ^ 32) × (a .used < 2 ^ 32) ⌝ }
-    ensures { λ r. ⌜ r ≡ runAnswerTo a ⌝ }
-{
-    let e = a.ending;
-    let ending = sandbox::ending_number(e);
-    [ending, a.steps, a.pairs as u32, a.used as u32]
-}
-
-fn made_of(m: Made) -> [u32; 4]
-    requires { ⌜ m .answer .place < 2 ^ 32 ⌝ }
-    ensures { λ r. ⌜ r ≡ madeTo m ⌝ }
-{
-    let a = m.answer;
-    [
-        a.number as u32,
-        a.place as u32,
-        m.policy.states,
-        m.never as u32,
-    ]
-}
-
-// ---- the parts
+ghost use Rattle.capi_determinise.specs.Numbers.{madeTo as policyTo};
+ghost use Rattle.capi_merge.specs.Numbers.{policyFrom, mergeFor, mergedTo};
 
 // Reads a routine's bytes into words.
 #[no_mangle]
@@ -64,7 +26,7 @@ pub extern "C" fn hemdroas_read(bytes: &[u8], words: &mut [u64], answer: &mut [u
     ensures answer { λ _. ⌜ now (answer .exit) ≡ answerTo (readAnswer (now (bytes .entry)) (length (now (words .entry)))) ⌝ }
     ensures content { λ _. ⌜ now (words .exit) ≡ readOutput (now (bytes .entry)) (now (words .entry)) ⌝ }
 {
-    *answer = answer_of(codec::read(bytes, words));
+    capi_bytes::read(bytes, words, answer);
 }
 
 // Writes a routine's words as bytes.
@@ -73,7 +35,7 @@ pub extern "C" fn hemdroas_write(words: &[u64], bytes: &mut [u8], answer: &mut [
     ensures answer { λ _. ⌜ now (answer .exit) ≡ answerTo (writeAnswer (now (words .entry)) (length (now (bytes .entry)))) ⌝ }
     ensures content { λ _. ⌜ now (bytes .exit) ≡ writeOutput (now (words .entry)) (now (bytes .entry)) ⌝ }
 {
-    *answer = answer_of(codec::write(words, bytes));
+    capi_bytes::write(words, bytes, answer);
 }
 
 // Rewrites a routine's words into commands.
@@ -87,7 +49,7 @@ pub extern "C" fn hemdroas_rewrite(
     ensures answer { λ _. ⌜ now (answer .exit) ≡ answerTo (rewriteAnswer (layoutFrom (now (layout .entry))) (now (words .entry)) (length (now (commands .entry)))) ⌝ }
     ensures content { λ _. ⌜ now (commands .exit) ≡ rewriteOutput (layoutFrom (now (layout .entry))) (now (words .entry)) (now (commands .entry)) ⌝ }
 {
-    *answer = answer_of(rewriter::rewrite(layout_of(layout), words, commands));
+    capi_commands::rewrite(layout, words, commands, answer);
 }
 
 // Checks a list of commands.
@@ -95,7 +57,7 @@ pub extern "C" fn hemdroas_rewrite(
 pub extern "C" fn hemdroas_check(layout: &[u32; 16], commands: &[u64], answer: &mut [u32; 2])
     ensures { λ _. ⌜ now (answer .exit) ≡ answerTo (checkAnswer (layoutFrom (now (layout .entry))) (now (commands .entry))) ⌝ }
 {
-    *answer = answer_of(checker::check(layout_of(layout), commands));
+    capi_commands::check(layout, commands, answer);
 }
 
 // Checks that a routine's words are of the class that always finishes.
@@ -103,7 +65,7 @@ pub extern "C" fn hemdroas_check(layout: &[u32; 16], commands: &[u64], answer: &
 pub extern "C" fn hemdroas_forward(words: &[u64], answer: &mut [u32; 2])
     ensures { λ _. ⌜ now (answer .exit) ≡ answerTo (forwardAnswer (now (words .entry))) ⌝ }
 {
-    *answer = answer_of(forward::forward(words));
+    capi_forward::forward(words, answer);
 }
 
 // Checks a list of commands, and that it is of that class.
@@ -115,7 +77,7 @@ pub extern "C" fn hemdroas_check_forward(
 )
     ensures { λ _. ⌜ now (answer .exit) ≡ answerTo (checkForwardAnswer (layoutFrom (now (layout .entry))) (now (commands .entry))) ⌝ }
 {
-    *answer = answer_of(forward::check_forward(layout_of(layout), commands));
+    capi_forward::check_forward(layout, commands, answer);
 }
 
 // Whether four bytes of a policy's table, as one word, are right: 1 for yes, 0 for no.
@@ -123,10 +85,7 @@ pub extern "C" fn hemdroas_check_forward(
 pub extern "C" fn hemdroas_word_right(states: u32, word: u32) -> u32
     ensures { λ r. ⌜ r ≡ yesOrNo (wordRight states word) ⌝ }
 {
-    if installer::word_right(states, word) {
-        return 1;
-    }
-    0
+    capi_loading::word_right(states, word)
 }
 
 // Installs a policy.
@@ -145,10 +104,16 @@ pub extern "C" fn hemdroas_install(
     ensures machine { λ _. ⌜ now (machine .exit) ≡ machineTo (installMachine (layoutFrom (now (layout .entry))) (policyOf states start (now (table .entry)) (now (landings .entry))) (now (memory .entry))) ⌝ }
     ensures memory { λ _. ⌜ now (memory .exit) ≡ installMemory (layoutFrom (now (layout .entry))) (policyOf states start (now (table .entry)) (now (landings .entry))) (now (memory .entry)) ⌝ }
 {
-    let policy = Policy { states, start };
-    let done = installer::install(layout_of(layout), policy, table, landings, memory);
-    *machine = record_of(done.machine);
-    *answer = answer_of(done.answer);
+    capi_loading::install(
+        layout,
+        states,
+        start,
+        table,
+        landings,
+        memory,
+        machine,
+        answer,
+    );
 }
 
 // Loads a routine: all that comes before a run, in one call.
@@ -170,18 +135,18 @@ pub extern "C" fn hemdroas_load(
     ensures commands { λ _. ⌜ now (commands .exit) ≡ loadCommands (layoutFrom (now (layout .entry))) (policyOf states start (now (table .entry)) (now (landings .entry))) (now (bytes .entry)) (now (commands .entry)) (now (memory .entry)) ⌝ }
     ensures memory { λ _. ⌜ now (memory .exit) ≡ loadMemory (layoutFrom (now (layout .entry))) (policyOf states start (now (table .entry)) (now (landings .entry))) (now (bytes .entry)) (length (now (commands .entry))) (now (memory .entry)) ⌝ }
 {
-    let policy = Policy { states, start };
-    let loaded = sandbox::load(
-        layout_of(layout),
-        policy,
+    capi_loading::load(
+        layout,
+        states,
+        start,
         table,
         landings,
         bytes,
         commands,
         memory,
+        machine,
+        answer,
     );
-    *machine = record_of(loaded.machine);
-    *answer = answer_of(loaded.answer);
 }
 
 // Runs a record; one that is refused comes back as it was.
@@ -201,12 +166,16 @@ pub extern "C" fn hemdroas_run(
     ensures memory { λ _. ⌜ now (memory .exit) ≡ runFor (now (layout .entry)) (now (commands .entry)) (now (machine .entry)) (now (memory .entry)) budget (now (readings .entry)) (now (log .entry)) .mem ⌝ }
     ensures log { λ _. ⌜ now (log .exit) ≡ runFor (now (layout .entry)) (now (commands .entry)) (now (machine .entry)) (now (memory .entry)) budget (now (readings .entry)) (now (log .entry)) .log ⌝ }
 {
-    let lay = layout_of(layout);
-    let given = *machine;
-    let m = machine_of(given);
-    let out = sandbox::run(lay, commands, m, memory, budget, readings, log);
-    *machine = record_after(out.machine, given);
-    *answer = run_answer_of(out.answer);
+    capi_running::run(
+        layout,
+        commands,
+        machine,
+        memory,
+        budget,
+        readings,
+        log,
+        answer,
+    );
 }
 
 // Previews a run: the answer, the log and, in `after`, the record that `hemdroas_run` would leave.
@@ -228,12 +197,17 @@ pub extern "C" fn hemdroas_preview(
     ensures memory { λ _. ⌜ now (memory .exit) ≡ now (memory .entry) ⌝ }
     ensures log { λ _. ⌜ now (log .exit) ≡ runFor (now (layout .entry)) (now (commands .entry)) (now (machine .entry)) (now (memory .entry)) budget (now (readings .entry)) (now (log .entry)) .log ⌝ }
 {
-    let lay = layout_of(layout);
-    let given = *machine;
-    let m = machine_of(given);
-    let out = machine_preview::preview(lay, commands, m, memory, budget, readings, log);
-    *after = record_after(out.machine, given);
-    *answer = run_answer_of(out.answer);
+    capi_running::preview(
+        layout,
+        commands,
+        machine,
+        memory,
+        budget,
+        readings,
+        log,
+        after,
+        answer,
+    );
 }
 
 // Runs guest words as they are written.
@@ -262,7 +236,7 @@ pub extern "C" fn hemdroas_precedence(pairs: &[u8], table: &mut [u8], made: &mut
     ensures made { λ _. ⌜ now (made .exit) ≡ madeTo (makeOf (now (pairs .entry)) (length (now (table .entry)))) ⌝ }
     ensures table { λ _. ⌜ now (table .exit) ≡ makeTable (now (pairs .entry)) (now (table .entry)) ⌝ }
 {
-    *made = made_of(policy_precedence::make(pairs, table));
+    capi_precedence::make(pairs, table, made);
 }
 
 // Makes the policy of a drawing with several arrows and starts.
@@ -277,7 +251,7 @@ pub extern "C" fn hemdroas_determinise(
     ensures made { λ _. ⌜ now (made .exit) ≡ policyTo (determiniseOf (drawingOf states starts (now (arrows .entry))) (length (now (table .entry)))) ⌝ }
     ensures table { λ _. ⌜ now (table .exit) ≡ determiniseTable (drawingOf states starts (now (arrows .entry))) (now (table .entry)) ⌝ }
 {
-    capi_policies::determinise(states, starts, arrows, table, made);
+    capi_determinise::determinise(states, starts, arrows, table, made);
 }
 
 // Merges two policies into one that allows what both do.
@@ -295,5 +269,5 @@ pub extern "C" fn hemdroas_merge(
     ensures merged { λ _. ⌜ now (merged .exit) ≡ mergedTo (mergeFor (now (one .entry)) (now (left .entry)) (now (other .entry)) (now (right .entry)) (length (now (table .entry)))) ⌝ }
     ensures table { λ _. ⌜ now (table .exit) ≡ mergeTable (policyFrom (now (one .entry)) (now (left .entry))) (policyFrom (now (other .entry)) (now (right .entry))) (now (table .entry)) ⌝ }
 {
-    *answer = answer_of(capi_policies::merge(one, left, other, right, table, merged));
+    capi_merge::merge(one, left, other, right, table, merged, answer);
 }

@@ -1,0 +1,22 @@
+// Answers as the numbers of a C host.
+use rules::Answer;
+use rules::RunAnswer;
+ghost use mathlib.Core.Path.{_≡_};
+ghost use Prim.Native.Nat.{_<_, _^_};
+ghost use Rattle.capi_numbers.specs.Numbers.{answerTo, runAnswerTo};
+
+pub fn answer_of(a: Answer) -> [u32; 2]
+    requires { ⌜ a .place < 2 ^ 32 ⌝ }
+    ensures { λ r. ⌜ r ≡ answerTo a ⌝ }
+{
+    [a.number as u32, a.place as u32]
+}
+
+pub fn run_answer_of(a: RunAnswer) -> [u32; 4]
+    requires { ⌜ (a .pairs < 2 ^ 32) × (a .used < 2 ^ 32) ⌝ }
+    ensures { λ r. ⌜ r ≡ runAnswerTo a ⌝ }
+{
+    let e = a.ending;
+    let ending = sandbox_endings::ending_number(e);
+    [ending, a.steps, a.pairs as u32, a.used as u32]
+}

@@ -1,0 +1,20 @@
+use mathlib.Core.Path.{ap}
+use Rattle.rules.specs.declared.Installed.{Installed}
+use lib.Dec.{lit<}
+use Rattle.rules.proofs.Counts.{install-bound}
+use Rattle.capi_answers.proofs.Places.{narrow}
+use Rattle.capi_loading.proofs.Hosting.{installed}
+use borrow.Author.Needs.{needs}
+use Rattle.capi_loading.proofs.install.Statement.{statement}
+use Rattle.capi_loading.proofs.install.Tie as tie
+
+pub install-spec : {M : Type 1} → statement M
+install-spec =
+    tie.close
+    (tie.spec
+    (λ c κs. search needs)
+    (λ c κs. search needs)
+    (λ c κs. search needs)
+    (λ c κs. narrow _ _ (ap (λ (i : Installed). i .answer) (c .before .before .before .install .ensures .0)) (install-bound _ _ _) (lit< tt))
+    (λ c. search needs)
+    (λ c. installed _ _ (c .before .before .before .before .before .before .layout-of .ensures) _ _ _ _ _ _ (c .before .before .before .before .install .ensures .0) (c .before .before .before .before .install .ensures .1) (c .before .record-of .ensures) (c .answer-of .ensures)))

@@ -1,0 +1,76 @@
+// Installing a policy and loading a routine, for a C host.
+use capi_answers::answer_of;
+use capi_numbers::RECORD;
+use capi_numbers::layout_of;
+use capi_numbers::record_of;
+use rules::Policy;
+ghost use mathlib.Core.Path.{_≡_};
+ghost use lib.ListN.{length};
+ghost use Rattle.rules.specs.Policies.{policyOf, wordRight};
+ghost use Rattle.rules.specs.Machines.{installAnswer, installMachine, installMemory};
+ghost use Rattle.rules.specs.Loading.{loadAnswer, loadMachine, loadCommands, loadMemory};
+ghost use Rattle.capi_numbers.specs.Numbers.{layoutFrom, machineTo, answerTo};
+ghost use Rattle.capi_loading.specs.Hosts.{yesOrNo};
+
+// Whether four bytes of a policy's table, as one word, are right: 1 for yes, 0 for no.
+pub fn word_right(states: u32, word: u32) -> u32
+    ensures { λ r. ⌜ r ≡ yesOrNo (wordRight states word) ⌝ }
+{
+    if installer::word_right(states, word) {
+        return 1;
+    }
+    0
+}
+
+// Installs a policy.
+pub fn install(
+    layout: &[u32; 16],
+    states: u32,
+    start: u32,
+    table: &[u8],
+    landings: &[u32],
+    memory: &mut [u32],
+    machine: &mut [u32; RECORD],
+    answer: &mut [u32; 2],
+)
+    ensures answer { λ _. ⌜ now (answer .exit) ≡ answerTo (installAnswer (layoutFrom (now (layout .entry))) (policyOf states start (now (table .entry)) (now (landings .entry))) (now (memory .entry))) ⌝ }
+    ensures machine { λ _. ⌜ now (machine .exit) ≡ machineTo (installMachine (layoutFrom (now (layout .entry))) (policyOf states start (now (table .entry)) (now (landings .entry))) (now (memory .entry))) ⌝ }
+    ensures memory { λ _. ⌜ now (memory .exit) ≡ installMemory (layoutFrom (now (layout .entry))) (policyOf states start (now (table .entry)) (now (landings .entry))) (now (memory .entry)) ⌝ }
+{
+    let policy = Policy { states, start };
+    let done = installer::install(layout_of(layout), policy, table, landings, memory);
+    *machine = record_of(done.machine);
+    *answer = answer_of(done.answer);
+}
+
+// Loads a routine: all that comes before a run, in one call.
+pub fn load(
+    layout: &[u32; 16],
+    states: u32,
+    start: u32,
+    table: &[u8],
+    landings: &[u32],
+    bytes: &[u8],
+    commands: &mut [u64],
+    memory: &mut [u32],
+    machine: &mut [u32; RECORD],
+    answer: &mut [u32; 2],
+)
+    ensures answer { λ _. ⌜ now (answer .exit) ≡ answerTo (loadAnswer (layoutFrom (now (layout .entry))) (policyOf states start (now (table .entry)) (now (landings .entry))) (now (bytes .entry)) (length (now (commands .entry))) (now (memory .entry))) ⌝ }
+    ensures machine { λ _. ⌜ now (machine .exit) ≡ machineTo (loadMachine (layoutFrom (now (layout .entry))) (policyOf states start (now (table .entry)) (now (landings .entry))) (now (bytes .entry)) (length (now (commands .entry))) (now (memory .entry))) ⌝ }
+    ensures commands { λ _. ⌜ now (commands .exit) ≡ loadCommands (layoutFrom (now (layout .entry))) (policyOf states start (now (table .entry)) (now (landings .entry))) (now (bytes .entry)) (now (commands .entry)) (now (memory .entry)) ⌝ }
+    ensures memory { λ _. ⌜ now (memory .exit) ≡ loadMemory (layoutFrom (now (layout .entry))) (policyOf states start (now (table .entry)) (now (landings .entry))) (now (bytes .entry)) (length (now (commands .entry))) (now (memory .entry)) ⌝ }
+{
+    let policy = Policy { states, start };
+    let loaded = sandbox_loading::load(
+        layout_of(layout),
+        policy,
+        table,
+        landings,
+        bytes,
+        commands,
+        memory,
+    );
+    *machine = record_of(loaded.machine);
+    *answer = answer_of(loaded.answer);
+}

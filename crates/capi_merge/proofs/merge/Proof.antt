@@ -1,0 +1,30 @@
+use Rattle.capi_merge.proofs.Laws.{eight, narrow-merged, merged}
+use borrow.Author.Needs.{needs}
+use Rattle.capi_merge.proofs.merge.Statement.{statement}
+use Rattle.capi_merge.proofs.merge.Tie as tie
+
+merged-of-requires : tie.Need-merged-of-requires
+merged-of-requires c κs = eight _ _ _ _ _ _ (c .before .before .merge .ensures .0)
+
+answer-of-requires : tie.Need-answer-of-requires
+answer-of-requires c κs = narrow-merged _ _ _ _ _ _ (c .before .before .before .merge .ensures .0)
+
+returns : tie.Need-returns
+returns c =
+    let given = c .before in
+    let done = given .before .before .before in
+    let first = done .before .before .before .side-of .ensures in
+    let second = done .before .before .side-of2 .ensures in
+    merged _ _ _ _ _ _ _ first second _ _ _ _ (done .merge .ensures .0) (done .merge .ensures .1) (given .merged-of .ensures) (c .answer-of .ensures)
+
+pub merge-spec : {M : Type 1} → statement M
+merge-spec =
+    tie.close
+    (tie.spec
+    (λ c κs. search needs)
+    (λ c κs. search needs)
+    (λ c κs. search needs)
+    merged-of-requires
+    answer-of-requires
+    (λ c. search needs)
+    returns)

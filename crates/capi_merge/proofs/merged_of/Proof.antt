@@ -1,0 +1,18 @@
+use borrow.Author.Needs.{needs}
+use Rattle.capi_merge.proofs.Laws.{merged-of}
+use Rattle.capi_merge.proofs.merged_of.Statement.{statement}
+use Rattle.capi_merge.proofs.merged_of.Tie as tie
+
+pub merged-of-spec : {M : Type 1} → statement M
+merged-of-spec =
+    tie.close
+    (tie.spec
+    (λ c. search needs)
+    (λ c. search needs)
+    (λ c. search needs)
+    (λ c. search needs)
+    (λ c. search needs)
+    (λ c. search needs)
+    (λ c. search needs)
+    (λ c. search needs)
+    (λ c. merged-of (c .before .args .m) (c .before .pre)))

@@ -1,0 +1,29 @@
+-- What is made of a C host's numbers, and the numbers that it gets.
+use Prim.Native.Nat.{ℕ, _+_}
+use mathlib.Core.List.{List, [], _∷_}
+use lib.ListN.{getD}
+use Rattle.rules.specs.Names.{orders}
+use Rattle.rules.specs.Policies.{Policy, policyOf}
+use Rattle.policy_maps.specs.Maps.{build}
+use Rattle.policy_merge.specs.declared.Merged.{Merged}
+use Rattle.policy_merge.specs.declared.Side.{Side}
+use Rattle.policy_merge.specs.Pairs.{mergeOf}
+
+-- one side of a merge from its state count, its start and the ceilings of the orders
+abbrev pub ceilingsFrom : List ℕ → List ℕ
+ceilingsFrom xs = build (λ i. getD xs (2 + i) 0) orders
+
+unfoldable pub sideFrom : List ℕ → Side
+sideFrom xs = record { policy = record { states = getD xs 0 0; start = getD xs 1 0 }; ceilings = ceilingsFrom xs }
+
+-- its policy, with its table
+abbrev pub policyFrom : List ℕ → List ℕ → Policy
+policyFrom xs table = policyOf (getD xs 0 0) (getD xs 1 0) table []
+
+-- a merge for the numbers of two sides
+abbrev pub mergeFor : List ℕ → List ℕ → List ℕ → List ℕ → ℕ → Merged
+mergeFor xs left ys right room = mergeOf (policyFrom xs left) (ceilingsFrom xs) (policyFrom ys right) (ceilingsFrom ys) room
+
+-- what was merged as such numbers
+abbrev pub mergedTo : Merged → List ℕ
+mergedTo m = m .policy .states ∷ m .policy .start ∷ m .ceilings
