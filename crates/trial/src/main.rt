@@ -1,7 +1,7 @@
 // Tries the routine on standard input, in document 01's layout and policy: prints its answer and,
 // where that is 0, what one run records and how it ends.
 use libc::STDIN_FILENO;
-use libc::STDOUT_FILENO;
+use lines::print;
 use rules::Layout;
 use rules::Machine;
 use rules::Policy;
@@ -9,21 +9,15 @@ use rules::Refusal;
 ghost use Prim.Native.Nat.{_*_, _≤_};
 ghost use lib.ListN.{length};
 
-// The start of a line, and a number.
-fn print(text: &[u8], n: u64) {
-    io::write_all(STDOUT_FILENO, text);
-    io::print_decimal(STDOUT_FILENO, n);
-}
-
 fn print_answer(number: u8) {
     print(b"answer ", number as u64);
-    io::write_all(STDOUT_FILENO, b"\n");
+    lines::end();
 }
 
 fn print_event(event: u32, value: u32) {
     print(b"event ", event as u64);
     print(b" ", value as u64);
-    io::write_all(STDOUT_FILENO, b"\n");
+    lines::end();
 }
 
 // The pairs at the start of a log, a line each.
@@ -41,7 +35,7 @@ fn print_end(ending: u32, steps: u32, state: u32) {
     print(b"end ", ending as u64);
     print(b" steps ", steps as u64);
     print(b" state ", state as u64);
-    io::write_all(STDOUT_FILENO, b"\n");
+    lines::end();
 }
 
 // One run of a loaded routine. The state cell is cell 0.
