@@ -1,10 +1,11 @@
-// Runs and steps of a record that is lent. Their proofs walk the compiled code by hand, which is why they stand apart from the machine.
+// Runs of a record that is lent; a step is a run of budget 1. Their proofs walk the compiled code by hand, which is why they stand apart from the machine.
 use rules::Layout;
 use rules::Machine;
 use rules::Outcome;
 use rules::RunAnswer;
 ghost use mathlib.Core.Path.{_≡_};
 ghost use Rattle.rules.specs.Machines.{ranOf, runOf};
+ghost use Rattle.machine_lent.specs.Lent.{outcomeOf};
 
 // A run: the record is copied out, run by value, and stored back whole.
 pub fn run(
@@ -16,31 +17,9 @@ pub fn run(
     readings: &[u32],
     log: &mut [u32],
 ) -> RunAnswer
-    ensures answer { λ r. ⌜ r ≡ runOf layout (now (commands .entry)) (now (machine .entry)) (now (memory .entry)) budget (now (readings .entry)) (now (log .entry)) .outcome .answer ⌝ }
-    ensures machine { λ _. ⌜ now (machine .exit) ≡ runOf layout (now (commands .entry)) (now (machine .entry)) (now (memory .entry)) budget (now (readings .entry)) (now (log .entry)) .outcome .machine ⌝ }
-    ensures memory { λ _. ⌜ now (memory .exit) ≡ runOf layout (now (commands .entry)) (now (machine .entry)) (now (memory .entry)) budget (now (readings .entry)) (now (log .entry)) .mem ⌝ }
-    ensures log { λ _. ⌜ now (log .exit) ≡ runOf layout (now (commands .entry)) (now (machine .entry)) (now (memory .entry)) budget (now (readings .entry)) (now (log .entry)) .log ⌝ }
+    ensures { λ r. ⌜ ranOf (outcomeOf (now (machine .exit)) r) (now (memory .exit)) (now (log .exit)) ≡ runOf layout (now (commands .entry)) (now (machine .entry)) (now (memory .entry)) budget (now (readings .entry)) (now (log .entry)) ⌝ }
 {
     let out = machine::run_value(layout, commands, *machine, memory, budget, readings, log);
-    *machine = out.machine;
-    out.answer
-}
-
-// One step of a lent record.
-pub fn step(
-    layout: Layout,
-    commands: &[u64],
-    machine: &mut Machine,
-    memory: &mut [u32],
-    readings: &[u32],
-    log: &mut [u32],
-) -> RunAnswer
-    ensures answer { λ r. ⌜ r ≡ runOf layout (now (commands .entry)) (now (machine .entry)) (now (memory .entry)) 1 (now (readings .entry)) (now (log .entry)) .outcome .answer ⌝ }
-    ensures machine { λ _. ⌜ now (machine .exit) ≡ runOf layout (now (commands .entry)) (now (machine .entry)) (now (memory .entry)) 1 (now (readings .entry)) (now (log .entry)) .outcome .machine ⌝ }
-    ensures memory { λ _. ⌜ now (memory .exit) ≡ runOf layout (now (commands .entry)) (now (machine .entry)) (now (memory .entry)) 1 (now (readings .entry)) (now (log .entry)) .mem ⌝ }
-    ensures log { λ _. ⌜ now (log .exit) ≡ runOf layout (now (commands .entry)) (now (machine .entry)) (now (memory .entry)) 1 (now (readings .entry)) (now (log .entry)) .log ⌝ }
-{
-    let out = machine::step_value(layout, commands, *machine, memory, readings, log);
     *machine = out.machine;
     out.answer
 }

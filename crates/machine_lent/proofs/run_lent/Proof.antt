@@ -30,7 +30,7 @@ use denote.Laws.{Is, shows}
 use denote.Plain.{uint-makes, uint-vals, uint-tells}
 use denote.Builtin.{u32, u64}
 use denote.Ref.{RefT, MutRef}
-use denote.Slice.{sliceVal, MutSlice, ShrSlice, Room, finally, slice-vals, mut-slice-tells, shr-slice-tells, shr-slice-copy}
+use denote.Slice.{MutSlice, ShrSlice, Room, finally, slice-vals, mut-slice-tells, shr-slice-tells, shr-slice-copy}
 use denote.Steps.{only, owned, peeks, heard, nothing}
 use denote.Struct.Steps.{spelt}
 use denote.Struct.Laws as LL
@@ -46,8 +46,7 @@ use denote.Signature.{plain}
 use Rattle.rules.specs.declared.Layout.{Layout}
 use Rattle.rules.specs.declared.Machine.{Machine}
 use Rattle.rules.specs.declared.RunAnswer.{RunAnswer}
-use Rattle.rules.specs.declared.Outcome.{Outcome}
-use Rattle.rules.specs.Machines.{Ran, ranOf, runOf}
+use Rattle.rules.specs.Machines.{Ran, ranOf}
 use Rattle.rules.proofs.Layout as L
 use Rattle.rules.proofs.Layout.Laws as L′
 use Rattle.rules.proofs.Machine as T
@@ -57,6 +56,8 @@ use Rattle.rules.proofs.RunAnswer.Laws as N′
 use Rattle.rules.proofs.Outcome as O
 use Rattle.rules.proofs.Outcome.Laws as O′
 use Rattle.machine_lent.proofs.Lent.{lends, back}
+use Rattle.machine_lent.specs.Lent.{outcomeOf}
+use Rattle.machine_lent.proofs.Walks.{lay, mach, sl, Arg, Vals, Last, args, vals, ran}
 use Rattle.machine_lent.proofs.run as run
 use Rattle.machine_lent.proofs.run.Symbol as run-def
 use Rattle.machine_lent.proofs.run.Symbol.{name as #machine-lent·run}
@@ -81,24 +82,11 @@ stayed = (
   ),
 )
 
--- machine values: of a layout, a record, an outcome and a slice
-abbrev lay : Layout → Val
-lay = LL.val L.the-type L′.the-laws
-
-abbrev mach : Machine → Val
-mach = LL.val T.the-type T′.the-laws
-
-abbrev out : Machine → RunAnswer → Outcome
-out m r = record { machine = m; answer = r }
-
 abbrev outv : Machine → RunAnswer → Val
-outv m r = LL.val O.the-type O′.the-laws (out m r)
+outv m r = LL.val O.the-type O′.the-laws (outcomeOf m r)
 
-abbrev sl : RefT (List ℕ) → Val
-sl x = sliceVal (x .ptr) (length (x .now))
-
-out-is : (m : Machine) (r : RunAnswer) (vs : List Val) → Is T.the-row m (mach m ∷ []) → Is N.the-row r vs → Is O.the-row (out m r) (outv m r ∷ [])
-out-is m r vs g is = LL.owes O.the-type O′.the-laws (out m r) (g, (LL.owes N.the-type N′.the-laws r (LL.owed N.the-type N′.the-laws r vs is), tt))
+out-is : (m : Machine) (r : RunAnswer) (vs : List Val) → Is T.the-row m (mach m ∷ []) → Is N.the-row r vs → Is O.the-row (outcomeOf m r) (outv m r ∷ [])
+out-is m r vs g is = LL.owes O.the-type O′.the-laws (outcomeOf m r) (g, (LL.owes N.the-type N′.the-laws r (LL.owed N.the-type N′.the-laws r vs is), tt))
 
 -- the contract that the proof cites
 abbrev Run : {M : Type 1} (𝓤 : URA M) (H : Heap 𝓤) (A : Atoms 𝓤) (at-mem : Memory → SProp 𝓤) (rn : Routine → Fun 𝓤) → Contract 𝓤
@@ -106,20 +94,14 @@ Run 𝓤 H A at-mem rn = tripleOf 𝓤 H A run.signature (run.spec 𝓤 H A at-m
 
 module _ {M : Type 1} (𝓤 : URA M) (H : Heap 𝓤) (A : Atoms 𝓤) (W : Given 𝓤 H A) (at-mem : Memory → SProp 𝓤) (rn : Routine → Fun 𝓤) (κs : Lfts 4) (qs : Shares 4)
     (y : Layout) (cs : RefT (List ℕ)) (h : Machine) (ms : RefT (List ℕ)) (n : ℕ) (rs gs : RefT (List ℕ)) (y-is : Is L.the-row y (lay y ∷ [])) (h-is : Is T.the-row h (mach h ∷ [])) (n-fits : n < 2 ^ 32) where
-  abbrev Arg : Type 0 → Type 0
-  Arg D = Layout × (RefT (List ℕ) × (D × (RefT (List ℕ) × (ℕ × (RefT (List ℕ) × (RefT (List ℕ) × Unit {0}))))))
-
   abbrev a : Arg Machine
-  a = (y, (cs, (h, (ms, (n, (rs, (gs, tt)))))))
+  a = args y cs ms n rs gs h
 
-  abbrev Vals : Type 0
-  Vals = List Val × (List Val × (List Val × (List Val × (List Val × (List Val × (List Val × Unit {0}))))))
-
-  abbrev vals : Val → Vals
-  vals v = (lay y ∷ [], (sl cs ∷ [], (v ∷ [], (sl ms ∷ [], (vint w32 n ∷ [], (sl rs ∷ [], (sl gs ∷ [], tt)))))))
+  abbrev given : Val → Vals
+  given = vals y cs ms n rs gs
 
   abbrev Post : Val → SProp 𝓤
-  Post = walkOf 𝓤 H A run-lent.ended stayed (run-lent.clauses 𝓤 H A at-mem rn) .post ((κs, qs, tt, a, vals (mach h)), tt)
+  Post = walkOf 𝓤 H A run-lent.ended stayed (run-lent.clauses 𝓤 H A at-mem rn) .post ((κs, qs, tt, a, given (mach h)), tt)
 
   -- what `run`'s triple binds outside: the local at l, lent for the lifetime ν under the name δ, and the slices at their own lifetimes, shares and names
   abbrev x : ℕ → GName → RefT Machine
@@ -129,10 +111,10 @@ module _ {M : Type 1} (𝓤 : URA M) (H : Heap 𝓤) (A : Atoms 𝓤) (W : Given
   κs′ ν = (κs .0, (ν ∷ [], κs .1))
 
   abbrev a′ : ℕ → GName → Arg (RefT Machine)
-  a′ l δ = (y, (cs, (x l δ, (ms, (n, (rs, (gs, tt)))))))
+  a′ l δ = args y cs ms n rs gs (x l δ)
 
   abbrev to-run : ℕ → ℕ → GName → Run 𝓤 H A at-mem rn .Ghost
-  to-run l ν δ = ((κs′ ν, (qs .0, (fullShare, qs .1)), tt, a′ l δ, vals (vptr l 0)), tt)
+  to-run l ν δ = ((κs′ ν, (qs .0, (fullShare, qs .1)), tt, a′ l δ, given (vptr l 0)), tt)
 
   -- the tokens, what the lent local owns, and what each slice owns
   abbrev More : Item 𝓤
@@ -161,25 +143,24 @@ module _ {M : Type 1} (𝓤 : URA M) (H : Heap 𝓤) (A : Atoms 𝓤) (W : Given
       qed W (Toks ν ∷ ‵ Cs ∷ ‵ (Lends l ν δ) ∷ ‵ Ms ∷ ‵ Rs ∷ ‵ Gs ∷ []) ∵ nothing ! $ move ! (6 ∷ 0 ∷ []) $ fjoin ! $ move ! (5 ∷ 0 ∷ []) $ fjoin ! $ owned ! u32 (Is u32) (uint-makes 𝓤 H A W w32) n _ (refl, n-fits) $ fjoin ! $ move ! (4 ∷ 0 ∷ []) $ fjoin ! $
       move ! (3 ∷ 0 ∷ []) $ fjoin ! $ move ! (2 ∷ 0 ∷ []) $ fjoin ! $ owned ! L.the-row (Is L.the-row) (LL.makes L.the-type L′.the-plain 𝓤 H A) y _ y-is $ fjoin ! $ move ! (1 ∷ 0 ∷ []) $ join ! $ nothing ! $ move ! (1 ∷ 0 ∷ []) $ done !
 
-  -- what the definition is applied to
-  abbrev ran : Ran
-  ran = runOf y (cs .now) h (ms .now) n (rs .now) (gs .now)
+  abbrev after : Ran
+  after = ran y cs ms n rs gs h
 
-  exits : (m : Machine) (r : RunAnswer) (zs ws : List ℕ) → Is O.the-row (out m r) (outv m r ∷ []) → r ≡ ran .outcome .answer → m ≡ ran .outcome .machine → zs ≡ ran .mem → ws ≡ ran .log → length zs ≡ length (ms .now) → length ws ≡ length (gs .now)
+  exits : (m : Machine) (r : RunAnswer) (zs ws : List ℕ) → Is O.the-row (outcomeOf m r) (outv m r ∷ []) → ranOf (outcomeOf m r) zs ws ≡ after → length zs ≡ length (ms .now) → length ws ≡ length (gs .now)
       → ent 𝓤 (⋆ 𝓤 H A (‵ (flft (κs .0) (qs .0)) ∷ More ∷ ‵ Cs ∷ ‵ (finally u32 (ms .name) zs) ∷ ‵ Rs ∷ ‵ (finally u32 (gs .name) ws) ∷ [])) (Post (outv m r))
-  exits m r zs ws is e₁ e₂ e₃ e₄ l l′ =
+  exits m r zs ws is e l l′ =
       qed W (‵ (flft (κs .0) (qs .0)) ∷ More ∷ ‵ Cs ∷ ‵ (finally u32 (ms .name) zs) ∷ ‵ Rs ∷ ‵ (finally u32 (gs .name) ws) ∷ []) ∵
-      suffices ! _ (ends-at 𝓤 H A run-lent.ended stayed (run-lent.clauses 𝓤 H A at-mem rn) W ((κs, qs, tt, a, vals (mach h)), tt) (outv m r) (out m r) (tt, (tt, (tt, (zs, (tt, (tt, (ws, tt))))))) (tt, (tt, (tt, (l, (tt, (tt, (l′, tt)))))))) $
-      says ! (λ i. ranOf (out (e₂ i) (e₁ i)) (e₃ i) (e₄ i)) $ join ! $ frame ! $
+      suffices ! _ (ends-at 𝓤 H A run-lent.ended stayed (run-lent.clauses 𝓤 H A at-mem rn) W ((κs, qs, tt, a, given (mach h)), tt) (outv m r) (outcomeOf m r) (tt, (tt, (tt, (zs, (tt, (tt, (ws, tt))))))) (tt, (tt, (tt, (l, (tt, (tt, (l′, tt)))))))) $
+      says ! e $ join ! $ frame ! $
       nothing ! $ move ! (4 ∷ 0 ∷ []) $ fjoin ! $ move ! (3 ∷ 0 ∷ []) $ fjoin ! $ owned ! u32 (Is u32) (uint-makes 𝓤 H A W w32) n _ (refl, n-fits) $ fjoin ! $ move ! (2 ∷ 0 ∷ []) $ fjoin ! $
       owned ! T.the-row (Is T.the-row) (LL.makes T.the-type T′.the-plain 𝓤 H A) h _ h-is $ fjoin ! $ move ! (1 ∷ 0 ∷ []) $ fjoin ! $ owned ! L.the-row (Is L.the-row) (LL.makes L.the-type L′.the-plain 𝓤 H A) y _ y-is $ fjoin ! $
-      owned ! O.the-row (Is O.the-row) (LL.makes O.the-type O′.the-plain 𝓤 H A) (out m r) _ is $ move ! (1 ∷ 0 ∷ []) $ done !
+      owned ! O.the-row (Is O.the-row) (LL.makes O.the-type O′.the-plain 𝓤 H A) (outcomeOf m r) _ is $ move ! (1 ∷ 0 ∷ []) $ done !
 
   module _ (C : Calls 𝓤 H) (Λ : Loops 𝓤 H) (fm : FmC 𝓤 H (W .laws) C) (known : Triple 𝓤 (C #machine-lent·run) (Run 𝓤 H A at-mem rn)) where
     walk : Room u64 (length (cs .now)) → Room u32 (length (ms .now)) → Room u32 (length (rs .now)) → Room u32 (length (gs .now))
-        → ent 𝓤 (onEntry 𝓤 H A run-lent.signature κs qs a (vals (mach h))) (WpFn 𝓤 H C Λ code.function (lay y ∷ sl cs ∷ mach h ∷ sl ms ∷ vint w32 n ∷ sl rs ∷ sl gs ∷ []) Post)
+        → ent 𝓤 (onEntry 𝓤 H A run-lent.signature κs qs a (given (mach h))) (WpFn 𝓤 H C Λ code.function (lay y ∷ sl cs ∷ mach h ∷ sl ms ∷ vint w32 n ∷ sl rs ∷ sl gs ∷ []) Post)
     walk cs-room ms-room rs-room gs-room =
-        qed W ((‵ (flft (κs .0) (qs .0)) ⊛ More) ∷ ‵ (owns (L.the-row ∷ ShrSlice (named 0) (κs .0) u64 ∷ T.the-row ∷ MutSlice (named 1) (κs .1 .0) u32 ∷ u32 ∷ ShrSlice (named 2) (κs .1 .1 .0) u32 ∷ MutSlice (named 3) (κs .1 .1 .1 .0) u32 ∷ []) a (vals (mach h))) ∷ []) ∵
+        qed W ((‵ (flft (κs .0) (qs .0)) ⊛ More) ∷ ‵ (owns (L.the-row ∷ ShrSlice (named 0) (κs .0) u64 ∷ T.the-row ∷ MutSlice (named 1) (κs .1 .0) u32 ∷ u32 ∷ ShrSlice (named 2) (κs .1 .1 .0) u32 ∷ MutSlice (named 3) (κs .1 .1 .1 .0) u32 ∷ []) a (given (mach h))) ∷ []) ∵
         -- what is had at entry is taken apart: what each slice that is read owns, twice
         move ! (1 ∷ []) $ fsplit ! $ drop ! $ fsplit ! $ use1 W (‵ Cs ⊛ ‵ Cs) (shr-slice-copy 𝓤 H A W (named 0) (κs .0) u64 .twice cs (sl cs ∷ [])) $ split ! $
         move ! (2 ∷ []) $ fsplit ! $ drop ! $ fsplit ! $ move ! (1 ∷ []) $ fsplit ! $ drop ! $ fsplit ! $ use1 W (‵ Rs ⊛ ‵ Rs) (shr-slice-copy 𝓤 H A W (named 2) (κs .1 .1 .0) u32 .twice rs (sl rs ∷ [])) $ split ! $
@@ -204,8 +185,8 @@ module _ {M : Type 1} (𝓤 : URA M) (H : Heap 𝓤) (A : Atoms 𝓤) (W : Given
         calls-at ! fm (Run 𝓤 H A at-mem rn) known (to-run l₈ ν δ) (and-then ! (load ! (from ! (stop !)) (look ! 29 refl)) (and-then ! (load ! (from ! (stop !)) (look ! 27 refl)) (and-then ! (load ! (from ! (stop !)) (look ! 12 refl)) (and-then ! (load ! (from ! (stop !)) (look ! 8 refl)) (and-then ! (load ! (from ! (stop !)) (look ! 21 refl)) (and-then ! (load ! (from ! (stop !)) (look ! 19 refl)) (and-then ! (load ! (from ! (stop !)) (look ! 4 refl)) (no-more !)))))))) (λ w.
         use1 W (later (some (λ (r : RunAnswer). (Toks ν ⊛ ‵ (N.the-row .own r (w ∷ []))) ⊛ raw (ensured 𝓤 H A run.ended (run.clauses 𝓤 H A at-mem rn) (κs′ ν) (a′ l₈ δ) tt r)))) (id⊢ 𝓤 _) $ await ! tt $ pick ! (λ r.
         -- what `run` ensures, at some last record and lists
-        split ! $ move ! (1 ∷ []) $ use1 W (some (λ (zs : Unit {0} × (Unit {0} × (Machine × (List ℕ × (Unit {0} × (Unit {0} × (List ℕ × Unit {0}))))))). ‵ (lasts run.ended (κs′ ν) (a′ l₈ δ) zs) ⊛ (raw (fact 𝓤 (r ≡ ran .outcome .answer)) ⊛ (raw (fact 𝓤 (zs .1 .1 .0 ≡ ran .outcome .machine)) ⊛ (raw (fact 𝓤 (zs .1 .1 .1 .0 ≡ ran .mem)) ⊛ raw (fact 𝓤 (zs .1 .1 .1 .1 .1 .1 .0 ≡ ran .log))))))) (id⊢ 𝓤 _) $ pick ! (λ zs.
-        split ! $ move ! (1 ∷ []) $ split ! $ heard ! (r ≡ ran .outcome .answer) (λ e₁. split ! $ heard ! (zs .1 .1 .0 ≡ ran .outcome .machine) (λ e₂. split ! $ heard ! (zs .1 .1 .1 .0 ≡ ran .mem) (λ e₃. heard ! (zs .1 .1 .1 .1 .1 .1 .0 ≡ ran .log) (λ e₄.
+        split ! $ move ! (1 ∷ []) $ use1 W (some (λ (zs : Last Machine). ‵ (lasts run.ended (κs′ ν) (a′ l₈ δ) zs) ⊛ raw (fact 𝓤 (ranOf (outcomeOf (zs .1 .1 .0) r) (zs .1 .1 .1 .0) (zs .1 .1 .1 .1 .1 .1 .0) ≡ after)))) (id⊢ 𝓤 _) $ pick ! (λ zs.
+        split ! $ move ! (1 ∷ []) $ heard ! (ranOf (outcomeOf (zs .1 .1 .0) r) (zs .1 .1 .1 .0) (zs .1 .1 .1 .1 .1 .1 .0) ≡ after) (λ e.
         fsplit ! $ drop ! $ fsplit ! $ drop ! $ fsplit ! $ move ! (1 ∷ []) $ fsplit ! $ fsplit ! $ move ! (1 ∷ []) $ feqL ! (λ l. move ! (1 ∷ []) $ fsplit ! $ drop ! $ fsplit ! $ drop ! $ fsplit ! $ fsplit ! $ move ! (1 ∷ []) $ feqL ! (λ l′.
         -- [log's last list; …; memory's; the last record; the tokens and the result; the lender's part; _15 6; …]
         move ! (4 ∷ []) $ split ! $ move ! (1 ∷ []) $ peeks ! N.the-row (Is N.the-row) (shows 𝓤 H A N.the-row) r (w ∷ []) (λ is.
@@ -217,10 +198,10 @@ module _ {M : Type 1} (𝓤 : URA M) (H : Heap 𝓤) (A : Atoms 𝓤) (W : Given
         move ! (1 ∷ []) $ peeks ! T.the-row (Is T.the-row) (shows 𝓤 H A T.the-row) (zs .1 .1 .0) (mach (zs .1 .1 .0) ∷ []) (λ g. move ! (1 ∷ 0 ∷ []) $
         -- [_8; what it owns; the tokens but commands'; commands'; the answer's; log's last list; …; memory's 7; _15 8; …; _9 20; …; what frees _8 22; _7 23; …; room for _0 37; …; commands; readings]
         assigns ! (of-opd ! (load ! (from ! (stop !)) (look ! 0 refl))) (from ! (stop !)) (init ! 8 refl (LL.lawful T.the-type T′.the-laws 𝓤 H A W .typed (zs .1 .1 .0) _ g .0)) $
-        assigns ! (agg ! (and-then ! (load ! (from ! (stop !)) (look ! 8 refl)) (and-then ! (load ! (from ! (stop !)) (look ! 20 refl)) (no-more !)))) (from ! (stop !)) (init ! 37 refl (LL.lawful O.the-type O′.the-laws 𝓤 H A W .typed (out (zs .1 .1 .0) r) _ (out-is (zs .1 .1 .0) r _ g is) .0)) $
+        assigns ! (agg ! (and-then ! (load ! (from ! (stop !)) (look ! 8 refl)) (and-then ! (load ! (from ! (stop !)) (look ! 20 refl)) (no-more !)))) (from ! (stop !)) (init ! 37 refl (LL.lawful O.the-type O′.the-laws 𝓤 H A W .typed (outcomeOf (zs .1 .1 .0) r) _ (out-is (zs .1 .1 .0) r _ g is) .0)) $
         returns ! (look ! 37 refl) $
         move ! (37 ∷ 38 ∷ []) $ forget ! 0 refl $ free1 ! $ move ! (35 ∷ 36 ∷ []) $ forget ! 0 refl $ free1 ! $ move ! (33 ∷ 34 ∷ []) $ forget ! 0 refl $ free1 ! $ move ! (31 ∷ 32 ∷ []) $ forget ! 0 refl $ free1 ! $ move ! (29 ∷ 30 ∷ []) $ forget ! 0 refl $ free1 ! $ move ! (27 ∷ 28 ∷ []) $ forget ! 0 refl $ free1 ! $ move ! (25 ∷ 26 ∷ []) $ forget ! 0 refl $ free1 ! $ move ! (23 ∷ 24 ∷ []) $ forget ! 0 refl $ free1 ! $ move ! (0 ∷ 22 ∷ []) $ forget ! 0 refl $ free1 ! $ move ! (19 ∷ 20 ∷ []) $ forget ! 0 refl $ free1 ! $ move ! (17 ∷ 18 ∷ []) $ forget ! 0 refl $ free1 ! $ move ! (15 ∷ 16 ∷ []) $ forget ! 0 refl $ free1 ! $ move ! (13 ∷ 14 ∷ []) $ forget ! 0 refl $ free1 ! $ move ! (11 ∷ 12 ∷ []) $ forget ! 0 refl $ free1 ! $ move ! (9 ∷ 10 ∷ []) $ forget ! 0 refl $ free1 ! $ move ! (7 ∷ 8 ∷ []) $ forget ! 0 refl $ free1 ! $ free0 ! $
-        keep ! (2 ∷ 1 ∷ 7 ∷ 6 ∷ 8 ∷ 4 ∷ []) $ by ! (exits (zs .1 .1 .0) r (zs .1 .1 .1 .0) (zs .1 .1 .1 .1 .1 .1 .0) (out-is (zs .1 .1 .0) r _ g is) e₁ e₂ e₃ e₄ l l′)))))))))))))))))))))))))))))))
+        keep ! (2 ∷ 1 ∷ 7 ∷ 6 ∷ 8 ∷ 4 ∷ []) $ by ! (exits (zs .1 .1 .0) r (zs .1 .1 .1 .0) (zs .1 .1 .1 .1 .1 .1 .0) (out-is (zs .1 .1 .0) r _ g is) e l l′))))))))))))))))))))))))))))
 
 module _ {M : Type 1} (𝓤 : URA M) (H : Heap 𝓤) (A : Atoms 𝓤) (W : Given 𝓤 H A) (at-mem : Memory → SProp 𝓤) (rn : Routine → Fun 𝓤) where
   run-lent-walks : (C : Calls 𝓤 H) (Λ : Loops 𝓤 H) → FmC 𝓤 H (W .laws) C → Triple 𝓤 (C #machine-lent·run) (Run 𝓤 H A at-mem rn) → Walks 𝓤 H A run-lent.ended stayed (WpFn 𝓤 H C Λ code.function) (run-lent.clauses 𝓤 H A at-mem rn)

@@ -1,0 +1,48 @@
+-- What the two walks share: a run's arguments and their machine values, and what its contract is about.
+use Prim.Native.Nat.{ℕ}
+use mathlib.Core.List.{[], _∷_, List}
+use lib.ListN.{length}
+use mir.Syntax.{w32}
+use mir.Val.{Val, vint}
+use denote.Ref.{RefT}
+use denote.Slice.{sliceVal}
+use denote.Struct.Laws as LL
+use Rattle.rules.specs.declared.Layout.{Layout}
+use Rattle.rules.specs.declared.Machine.{Machine}
+use Rattle.rules.specs.Machines.{Ran, runOf}
+use Rattle.rules.proofs.Layout as L
+use Rattle.rules.proofs.Layout.Laws as L′
+use Rattle.rules.proofs.Machine as T
+use Rattle.rules.proofs.Machine.Laws as T′
+
+-- machine values: of a layout, a record and a slice
+abbrev pub lay : Layout → Val
+lay = LL.val L.the-type L′.the-laws
+
+abbrev pub mach : Machine → Val
+mach = LL.val T.the-type T′.the-laws
+
+abbrev pub sl : RefT (List ℕ) → Val
+sl x = sliceVal (x .ptr) (length (x .now))
+
+-- the arguments of a run, its record by value or lent
+abbrev pub Arg : Type 0 → Type 0
+Arg D = Layout × (RefT (List ℕ) × (D × (RefT (List ℕ) × (ℕ × (RefT (List ℕ) × (RefT (List ℕ) × Unit {0}))))))
+
+abbrev pub Vals : Type 0
+Vals = List Val × (List Val × (List Val × (List Val × (List Val × (List Val × (List Val × Unit {0}))))))
+
+-- the last content of what a run is lent, its record by value or lent
+abbrev pub Last : Type 0 → Type 0
+Last D = Unit {0} × (Unit {0} × (D × (List ℕ × (Unit {0} × (Unit {0} × (List ℕ × Unit {0}))))))
+
+module _ (y : Layout) (cs ms : RefT (List ℕ)) (n : ℕ) (rs gs : RefT (List ℕ)) where
+  abbrev pub args : {D : Type 0} → D → Arg D
+  args d = (y, (cs, (d, (ms, (n, (rs, (gs, tt)))))))
+
+  abbrev pub vals : Val → Vals
+  vals v = (lay y ∷ [], (sl cs ∷ [], (v ∷ [], (sl ms ∷ [], (vint w32 n ∷ [], (sl rs ∷ [], (sl gs ∷ [], tt)))))))
+
+  -- what the definition is applied to
+  abbrev pub ran : Machine → Ran
+  ran h = runOf y (cs .now) h (ms .now) n (rs .now) (gs .now)

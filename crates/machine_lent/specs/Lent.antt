@@ -1,0 +1,8 @@
+-- What a run of a lent record leaves and answers.
+use Rattle.rules.specs.declared.Machine.{Machine}
+use Rattle.rules.specs.declared.RunAnswer.{RunAnswer}
+use Rattle.rules.specs.declared.Outcome.{Outcome}
+
+-- the record that is left and the answer, as one outcome
+abbrev pub outcomeOf : Machine → RunAnswer → Outcome
+outcomeOf m a = record { machine = m; answer = a }
