@@ -1,10 +1,9 @@
 // Arithmetic of 32-bit numbers: wrapping, two's complement, the conditions.
 use rules::Layout;
+use words_signed::less;
+pub use words_signed::sar;
 ghost use mathlib.Core.Path.{_≡_};
-ghost use Prim.Native.Nat.{min};
 ghost use lib.Bits.{bitAnd, bitOr};
-ghost use Rattle.rules.specs.Names.{topShift};
-ghost use Rattle.rules.specs.Signed.{twos, bitsOf, sarOf, lessOf};
 ghost use Rattle.rules.specs.Commands.{addOf, subOf, shlOf, holdsOf};
 
 pub fn add(x: u32, y: u32) -> u32
@@ -39,50 +38,6 @@ pub fn shl(x: u32, v: u32) -> u32
         return 0;
     }
     x << v
-}
-
-// The number that x stands for as two's complement.
-fn to_signed(x: u32) -> i32
-    ensures { λ r. ⌜ r ≡ twos x ⌝ }
-{
-    if x < 0x8000_0000 {
-        x as i32
-    } else {
-        !((!x) as i32)
-    }
-}
-
-// The bits of z as two's complement.
-fn to_bits(z: i32) -> u32
-    ensures { λ r. ⌜ r ≡ bitsOf z ⌝ }
-{
-    if z >= 0 { z as u32 } else { !((!z) as u32) }
-}
-
-// A shift past a cell's last bit leaves the sign alone, as the shift to that bit does.
-fn to_last_bit(v: u32) -> u32
-    ensures { λ r. ⌜ r ≡ min v topShift ⌝ }
-{
-    if v < Layout::CELL_BITS {
-        return v;
-    }
-    Layout::CELL_BITS - 1
-}
-
-pub fn sar(x: u32, v: u32) -> u32
-    ensures { λ r. ⌜ r ≡ sarOf x v ⌝ }
-{
-    let z = to_signed(x);
-    let s = to_last_bit(v);
-    to_bits(z >> s)
-}
-
-fn less(x: u32, y: u32) -> bool
-    ensures { λ r. ⌜ r ≡ lessOf x y ⌝ }
-{
-    let a = to_signed(x);
-    let b = to_signed(y);
-    a < b
 }
 
 // Condition c.

@@ -1,25 +1,6 @@
 // Cells of 32 bits: their arithmetic, one cell read or set in a slice of them, and the pairs of a log.
 pub mod arith;
-pub mod pairs;
 
-ghost use mathlib.Core.Path.{_≡_};
-ghost use lib.ListN.{getD, set};
-
-// A cell; 0 where there is none.
-pub fn peek(cells: &[u32], at: usize) -> u32
-    ensures { λ r. ⌜ r ≡ getD (now (cells .entry)) at 0 ⌝ }
-{
-    if at >= cells.len() {
-        return 0;
-    }
-    cells[at]
-}
-
-// A cell set; nothing where there is none.
-pub fn poke(cells: &mut [u32], at: usize, x: u32)
-    ensures { λ _. ⌜ now (cells .exit) ≡ set (now (cells .entry)) at x ⌝ }
-{
-    if at < cells.len() {
-        cells[at] = x;
-    }
-}
+pub use words_cells::peek;
+pub use words_cells::poke;
+pub use words_pairs::pairs;

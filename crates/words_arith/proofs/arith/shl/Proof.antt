@@ -1,5 +1,5 @@
 use borrow.Author.Needs.{needs}
-use Rattle.words_arith.proofs.Signs.{all-lost}
+use Rattle.words_signed.proofs.Signs.{all-lost}
 use Rattle.words_arith.proofs.arith.shl.Statement.{statement}
 use Rattle.words_arith.proofs.arith.shl.Tie as tie
 

@@ -1,0 +1,2 @@
+// The pairs of a log.
+pub mod pairs;
