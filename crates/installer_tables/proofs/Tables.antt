@@ -9,6 +9,7 @@ use lib.Seq.{drop-cons, take-add}
 use Rattle.rules.specs.Names.{mostStates}
 use Rattle.rules.specs.Policies.{entryRight, entriesRight, lowBytes, wordBytes, wordRight}
 use Rattle.installer_words.proofs.Words.{word-entries}
+use Rattle.rules.proofs.Entries.{entries-append}
 
 pub byte : (s : ℕ) (t : List ℕ) (i : ℕ) (r : Bool) → i < length t → entryRight s (getD t i 0) ≡ r → entriesRight s (drop i t) ≡ (r && entriesRight s (drop (i + 1) t))
 byte s t i r h e = let n : i + 1 ≡ suc i = omega arith in rw (n, drop-cons t i 0 h, e)
@@ -20,11 +21,6 @@ module _ (s : ℕ) (t : List ℕ) (i : ℕ) where
 
   pub all-done : (ok z : Bool) → length t ≤ i → (ok && entriesRight s (drop i t)) ≡ z → ok ≡ z
   all-done ok z h e = sym (and-true ok) ∙ sym (ap (λ (r : List ℕ). ok && entriesRight s r) (drop-of-length-le t h)) ∙ e
-
--- the entries of two lists
-entries-append : (s : ℕ) (a b : List ℕ) → entriesRight s (a ++ b) ≡ (entriesRight s a && entriesRight s b)
-entries-append s [] b = refl
-entries-append s (x ∷ a) b = ap (λ (r : Bool). entryRight s x && r) (entries-append s a b) ∙ sym (and-assoc (entryRight s x) (entriesRight s a) (entriesRight s b))
 
 pub parts : (s n : ℕ) (t : List ℕ) (p q : Bool) → p ≡ entriesRight s (take n t) → q ≡ entriesRight s (drop n t) → (p && q) ≡ entriesRight s t
 parts s n t p q e f = ap₂ _&&_ e f ∙ sym (entries-append s (take n t) (drop n t)) ∙ ap (entriesRight s) (take-append-drop n t)

@@ -13,9 +13,9 @@ use lib.ListN.{length, getD}
 use borrow.Author.Tests.{ltb-true, ltb-false, eqb-true, eqb-false, leb-true, le-ltb, ne-eqb, not-true}
 use Rattle.rules.specs.Names.{events}
 use Rattle.rules.specs.Policies.{statesRight, allowed}
-use Rattle.rules.proofs.Bools.{no, both, join, either}
+use Rattle.rules.proofs.Bools.{no, both, join, either, or-left, or-right}
 use Rattle.policy_maps.specs.Maps.{bit}
-use Rattle.policy_maps.proofs.Maps.{bit-or, bit-zero, bit-high, or-left, or-right}
+use Rattle.policy_maps.proofs.Maps.{bit-or, bit-zero, bit-high}
 use Rattle.policy_exploration.specs.Reach.{after}
 use Rattle.policy_exploration.specs.Claims.{Arrows}
 use Rattle.policy_exploration.proofs.Reach.{nodes-exact, taken-reaches, reach-right, allowed-reaches}

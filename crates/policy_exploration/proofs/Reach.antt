@@ -10,11 +10,12 @@ use lib.Seq.{getD-append-seam, take-at}
 use borrow.Author.Tests.{ltb-true, ltb-false, leb-true, leb-false, eqb-true, eqb-false, eq-eqb, ne-eqb, lt-ltb}
 use Rattle.rules.specs.Names.{mostStates, events, noArrow}
 use Rattle.rules.specs.Policies.{arrow, allowedFrom, allowed, entryRight, rightPolicy}
-use Rattle.policy_maps.proofs.Maps.{length-build, build-at, or-left, or-right}
+use Rattle.policy_maps.proofs.Maps.{length-build, build-at}
 use Rattle.policy_maps.proofs.Tables.{entries-build}
 use Rattle.policy_exploration.specs.Reach.{place, meet, target, met, nodes, stateOf, entryOf, statesOf, tableOf, policyFrom, few, reachAnswer, reachOf, reachTable, after}
 use Rattle.policy_exploration.specs.Claims.{Arrows, Reached, Exactly, NodesExact, Makes, TakenReaches, ReachRight, AllowedReaches}
 use Rattle.policy_exploration.proofs.Places.{pigeons, place-at, place-of, place-append, place-new, Meets, none, again, anew, meets, meet-none, met-known, More, meet-more}
+use Rattle.rules.proofs.Bools.{or-left, or-right}
 
 -- one event more
 pub after-snoc : (next : ℕ → ℕ → ℕ) (x : ℕ) (es : List ℕ) (e : ℕ) → after next x (es ++ (e ∷ [])) ≡ next (after next x es) e

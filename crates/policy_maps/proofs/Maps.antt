@@ -13,7 +13,7 @@ use lib.ListN.{length, getD, drop, set, length-append, List·getD-append}
 use lib.Pow.{pow-add, pow-pos, pow-lt, pow-mono, high, low, split, mod-mod-pow, shl-shr, field}
 use lib.Seq.{getD-at, set-at, drop-cons, append-snoc}
 use borrow.Author.Tests.{eqb-true, eqb-false, ne-eqb, ltb-true, ltb-false}
-use Rattle.rules.proofs.Bools.{both, either, no}
+use Rattle.rules.proofs.Bools.{both, either, no, or-left, or-right}
 use Rattle.policy_maps.specs.Maps.{every, some, count, mapOf, bit, build}
 
 -- ---- every and some
@@ -34,13 +34,6 @@ pub every-all : (p : ℕ → Bool) (n : ℕ) → ((i : ℕ) → i < n → p i �
 unfolding every
 every-all p zero f = refl
 every-all p (suc n) f = rw (every-all p n (λ i h. f i (omega arith)), f n (omega arith))
-
-pub or-left : (a b : Bool) → a ≡ true → (a || b) ≡ true
-or-left a b e = rw e
-
-pub or-right : (a b : Bool) → b ≡ true → (a || b) ≡ true
-or-right true b e = refl
-or-right false b e = e
 
 pub some-at : (p : ℕ → Bool) (n i : ℕ) → i < n → p i ≡ true → some p n ≡ true
 unfolding some

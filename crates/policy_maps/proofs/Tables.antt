@@ -8,6 +8,7 @@ use lib.ListN.{length, set, drop}
 use Rattle.rules.specs.Policies.{entryRight, entriesRight}
 use Rattle.policy_maps.specs.Maps.{build}
 use Rattle.policy_maps.proofs.Maps.{build-more}
+use Rattle.rules.proofs.Entries.{entries-append}
 
 pub fill-none : (f : ℕ → ℕ) (t : List ℕ) → t ≡ build f 0 ++ drop 0 t
 unfolding build
@@ -18,10 +19,6 @@ fill-more f t₀ t i r e h g = rw (e, g) (build-more f t₀ i h)
 
 pub fill-done : (f : ℕ → ℕ) (t₀ t : List ℕ) (i n : ℕ) → t ≡ build f i ++ drop i t₀ → n ≤ i → i ≤ n → t ≡ build f n ++ drop n t₀
 fill-done f t₀ t i n e h k = let q : i ≡ n = omega arith in e ∙ ap (λ (j : ℕ). build f j ++ drop j t₀) q
-
-entries-append : (s : ℕ) (a b : List ℕ) → entriesRight s (a ++ b) ≡ (entriesRight s a && entriesRight s b)
-entries-append s [] b = refl
-entries-append s (x ∷ a) b = ap (λ (r : Bool). entryRight s x && r) (entries-append s a b) ∙ sym (and-assoc (entryRight s x) (entriesRight s a) (entriesRight s b))
 
 pub entries-build : (s : ℕ) (f : ℕ → ℕ) (n : ℕ) → ((i : ℕ) → i < n → entryRight s (f i) ≡ true) → entriesRight s (build f n) ≡ true
 unfolding build

@@ -13,11 +13,11 @@ use lib.Seq.{drop-cons, getD-at}
 use borrow.Author.Tests.{ltb-true, ltb-false, leb-true, leb-false, eqb-true, eqb-false, not-true}
 use Rattle.rules.specs.Names.{events, noArrow}
 use Rattle.rules.specs.Policies.{Policy, arrow, stateFrom, allowedFrom, allowed}
-use Rattle.rules.proofs.Bools.{no, cases, both, either, join}
+use Rattle.rules.proofs.Bools.{no, cases, both, either, join, or-left, or-right}
 use Rattle.policy_maps.specs.Maps.{count, mapOf, bit}
 use Rattle.policy_precedence.specs.Precedence.{Fit, mostNamed, named, namedCount, pairsIn, firstAt, place, statesOf, firstsIn, arrowOf, stuck, onOf, turnsOf, fullOf, neverOf, madePolicy}
 use Rattle.policy_precedence.specs.Claims.{Unheard, NeverLaws, NeverAllowed}
-use Rattle.policy_maps.proofs.Maps.{or-left, or-right, bit-or, bit-same, bit-zero, bit-map, bit-high, bit-kept, map-lt, count-le, count-sub-less}
+use Rattle.policy_maps.proofs.Maps.{bit-or, bit-same, bit-zero, bit-map, bit-high, bit-kept, map-lt, count-le, count-sub-less}
 use Rattle.policy_precedence.proofs.Laws.{on-is, stuck-is, turns-below, place-less}
 use Rattle.policy_precedence.proofs.Policies.{fit-right, arrow-is, arrow-above}
 use Rattle.policy_precedence.proofs.Orders.{first-recorded, firsts-recorded, open-firsts, moves, moves-named, moves-unnamed, moves-below}

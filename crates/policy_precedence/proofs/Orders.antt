@@ -13,11 +13,11 @@ use lib.Seq.{drop-cons, drop-length}
 use borrow.Author.Tests.{ltb-true, ltb-false, eqb-true, eqb-false, eq-eqb, not-true, not-false}
 use Rattle.rules.specs.Names.{events}
 use Rattle.rules.specs.Policies.{allowedFrom, allowed}
-use Rattle.rules.proofs.Bools.{no, cases, both, either, join}
+use Rattle.rules.proofs.Bools.{no, cases, both, either, join, or-left, or-right}
 use Rattle.policy_maps.specs.Maps.{mapOf, bit}
 use Rattle.policy_precedence.specs.Precedence.{Fit, namedIn, named, namedCount, pairsIn, firstAt, secondAt, place, statesOf, firstsIn, arrowOf, stuck, onOf, madePolicy}
 use Rattle.policy_precedence.specs.Claims.{Among, AreEvents, OrderLaws, AllowedInOrder}
-use Rattle.policy_maps.proofs.Maps.{or-left, or-right, every-at, every-all, some-at, count-less, bit-or, bit-same, bit-other, bit-zero}
+use Rattle.policy_maps.proofs.Maps.{every-at, every-all, some-at, count-less, bit-or, bit-same, bit-other, bit-zero}
 use Rattle.policy_precedence.proofs.Laws.{on-is, on-below, stuck-is}
 use Rattle.policy_precedence.proofs.Policies.{fit-right, arrow-is}
 

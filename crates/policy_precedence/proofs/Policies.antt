@@ -15,8 +15,9 @@ use Rattle.policy_maps.specs.Maps.{mapOf}
 use Rattle.policy_precedence.specs.Precedence.{Fit, named, namedCount, statesOf, bytesOf, arrowOf, entryOf, stuck, tableOf, madePolicy, pairsRight, makeAnswer, makeOf, makeTable}
 use Rattle.policy_precedence.specs.Claims.{Makes, TakenMakes, MadeRight}
 use Rattle.policy_maps.proofs.Tables.{entries-build}
-use Rattle.policy_maps.proofs.Maps.{or-left, or-right, length-build, build-at}
+use Rattle.policy_maps.proofs.Maps.{length-build, build-at}
 use Rattle.policy_precedence.proofs.Laws.{fit-of, states-most, on-below}
+use Rattle.rules.proofs.Bools.{or-left, or-right}
 
 pub fit-right : (ps : List ℕ) → pairsRight ps ≡ true → Fit ps (mapOf (named ps) events)
 fit-right ps t = fit-of ps (mapOf (named ps) events) refl (pairsRight ps) refl t

@@ -24,7 +24,7 @@ use Rattle.rules.specs.Bundles.{shapeOf, bundlesFrom, commandsOf, comman
 use Rattle.rules.specs.Claims.{SizeLaws, Installs}
 use Rattle.rules.specs.Machines.{machineAt, fits, installAnswer, installMemory, installMachine}
 use Rattle.rules.proofs.Facts.{Right, Valid, Bundled, Laid}
-use Rattle.rules.proofs.Bools.{no, cases, both, join, either, cond-ind, unless-ind}
+use Rattle.rules.proofs.Bools.{no, cases, both, join, either, cond-ind, unless-ind, neither}
 use Rattle.rules.proofs.Refusals.{TakesEach, takes-each, taken-then}
 use Rattle.rules.proofs.Layouts.{LayoutFacts, layout-facts, outside}
 use Rattle.rules.proofs.Landings.{length-landings, marks-of}
@@ -292,10 +292,6 @@ unprotected lay i p =
     let b = neither _ _ (a .1) in
     (eqb-false i (lay .cell) (a .0), outside-of (lay .table) i (tableEnd lay) (b .0), outside-of (lay .landings) i (landingsEnd lay) (b .1))
   where
-    neither : (a b : Bool) → (a || b) ≡ false → (a ≡ false) × (b ≡ false)
-    neither true b h = (h, no (sym h))
-    neither false b h = (refl, h)
-
     outside-of : (low i high : ℕ) → (leb low i && ltb i high) ≡ false → (i < low) ⊎ (high ≤ i)
     outside-of low i high h =
         ⊎-elim (λ e. ⊎-elim (λ f. absurd (no (sym h ∙ join _ _ e f))) (λ f. inr (ltb-false i high f)) (cases (ltb i high))) (λ e. inl (leb-false low i e)) (cases (leb low i))

@@ -24,3 +24,4 @@ pub mod Counts
 pub mod Samples
 pub mod Trial
 pub mod Proved
+pub mod Entries

@@ -9,7 +9,7 @@ use Rattle.rules.specs.declared.Fields.{Fields}
 use Rattle.rules.specs.declared.Limits.{Limits}
 use Rattle.rules.specs.Names.{topGuest, topCondition, topWord, topKind}
 use Rattle.rules.specs.Words.{kindOf, dOf, aOf, bOf, cOf, zeroOf, vOf, fieldsOf, packOf, packFields, guestLimits, lacks, hasStray, hasHigh, judgeOf}
-use Rattle.rules.proofs.Bools.{no, cond-ind}
+use Rattle.rules.proofs.Bools.{no, cond-ind, neither}
 use Rattle.rules.proofs.Packing.{InBits, pack-kind, pack-d, pack-a, pack-b, pack-c, pack-zero, pack-v}
 
 -- ---- the judgement of 0
@@ -21,10 +21,6 @@ pub record Kept (l : Limits) (f : Fields) : Type 0 where
   pub b : f .b ≤ l .b
   pub c : f .c ≤ l .c
   pub v : f .v ≤ l .v
-
-neither : (a b : Bool) → (a || b) ≡ false → (a ≡ false) × (b ≡ false)
-neither true b e = no (sym e)
-neither false b e = (refl, e)
 
 kept-of : (l : Limits) (f : Fields) → hasHigh l f ≡ false → Kept l f
 kept-of l f e =

@@ -13,11 +13,7 @@ use Rattle.rules.specs.declared.Layout.{Layout}
 use Rattle.rules.specs.Names.{bundleLength, baseBound}
 use Rattle.rules.specs.Words.{bundlesFor}
 use Rattle.rules.specs.Bundles.{baseRight}
-use Rattle.rules.proofs.Bools.{either}
-
-neither : (a b : Bool) → (a || b) ≡ false → (a ≡ false) × (b ≡ false)
-neither true b e = absurd (true≢false e)
-neither false b e = (refl, e)
+use Rattle.rules.proofs.Bools.{either, neither}
 
 -- N has at most 33 bits
 pub count-bundles : (n : ℕ) → 1 * 2 ^ (32 - leadingZeros 32 n) % 2 ^ 64 ≡ bundlesFor n
