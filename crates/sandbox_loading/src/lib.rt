@@ -44,8 +44,8 @@ pub fn load(
 {
     let mut list = [0u64; 4096];
     let a = translate(layout, bytes, commands.len(), &mut list);
-    let rejected = a.number;
-    if rejected != Refusal::TAKEN {
+    let refused = a.number;
+    if refused != Refusal::TAKEN {
         return Installed {
             machine: Machine::refused(),
             answer: a,
@@ -53,8 +53,8 @@ pub fn load(
     }
     let i = installer::install(layout, policy, table, landings, memory);
     let b = i.answer;
-    let unfit = b.number;
-    if unfit != Refusal::TAKEN {
+    let refused = b.number;
+    if refused != Refusal::TAKEN {
         return i;
     }
     let n = a.place;

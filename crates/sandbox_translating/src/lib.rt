@@ -53,8 +53,8 @@ fn checked(layout: Layout, list: &[u64], a: Answer) -> Answer
     }
     let n = a.place;
     let b = checker::check(layout, &list[..n]);
-    let bad = b.number;
-    if bad != Refusal::TAKEN {
+    let refused = b.number;
+    if refused != Refusal::TAKEN {
         return b;
     }
     a
