@@ -11,6 +11,7 @@ pub mod RoundTrip
 pub mod GuestWords
 pub mod Conditions
 pub mod Passing
+pub mod Shapes
 pub mod Before
 pub mod Endings
 pub mod Sim

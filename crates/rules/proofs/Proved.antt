@@ -5,6 +5,7 @@ use Rattle.rules.proofs.Masks.{masks, sizes}
 use Rattle.rules.proofs.RoundTrip.{words-back, bytes-back}
 use Rattle.rules.proofs.Conditions.{installs}
 use Rattle.rules.proofs.Passing.{rewrite-leaves, rewritten-passes, passed-rewrites, old-refused, passed-decodes}
+use Rattle.rules.proofs.Shapes.{shapes, checks}
 use Rattle.rules.proofs.Before.{lists-before}
 use Rattle.rules.proofs.Endings.{endings}
 use Rattle.rules.proofs.Isolation.{guest-rule, isolation, no-wrap}
@@ -26,6 +27,8 @@ proved =
       rewriteLeaves = rewrite-leaves;
       rewrittenPasses = rewritten-passes;
       passedRewrites = passed-rewrites;
+      shapes = shapes;
+      checks = checks;
       oldRefused = old-refused;
       passedDecodes = passed-decodes;
       listsBefore = lists-before;

@@ -24,7 +24,7 @@ use Rattle.rules.specs.Landings.{listed, landingsOf, bitAt, marked}
 use Rattle.rules.specs.Words.{routine, bundlesFor}
 use Rattle.rules.specs.Bytes.{readAnswer, readOutput, writeAnswer, writeOutput}
 use Rattle.rules.specs.Commands.{wordOf, shlOf, fetchOf}
-use Rattle.rules.specs.Bundles.{addressOf, lastAddress, positionOf, shapeWith, shapeOf, valid, bundleAt, baseRight, countRight, commandsOf, rewriteAnswer, rewriteOutput, checkAnswer}
+use Rattle.rules.specs.Bundles.{addressOf, lastAddress, positionOf, shapeWith, shapeOf, bundleOf, valid, readOff, bundleAt, isBundle, baseRight, countRight, commandsOf, rewriteAnswer, rewriteOutput, checkAnswer}
 use Rattle.rules.specs.Machines.{State, onward, leftIn, runFrom, runOf, installAnswer, installMemory}
 use Rattle.rules.specs.Guests.{Guest, guestAfter, guestStart, boxOf}
 use Rattle.rules.specs.Runs.{begins, begunFrom, Given, Carried, afterRun, allRuns, after, Run, recordedIn, Matches, Lent, Served, pairsOf, eventsOf, waitingAt, pendingAt}
@@ -108,6 +108,37 @@ pub record Rewrites (lay : Layout) (ws : List ℕ) : Type 0 where
 
 abbrev pub PassedRewrites : Type 0
 PassedRewrites = (lay : Layout) (ws : List ℕ) → checkAnswer lay ws .number ≡ 0 → Rewrites lay ws
+
+-- four words are the bundle of some valid instruction among N
+pub record Shaped (lay : Layout) (N : ℕ) (words : List ℕ) : Type 0 where
+  pub instr : Instr
+  pub fields : valid N instr ≡ true
+  pub same : bundleOf lay N instr .words ≡ words
+
+-- four words are the bundle of the instruction that is read off them exactly if they are the bundle of some valid instruction:
+-- how it is read off need not be believed
+pub record ShapeLaws (lay : Layout) (N w x y z : ℕ) : Type 0 where
+  pub shaped : isBundle lay N (readOff lay w y z) w x y z ≡ true → Shaped lay N (w ∷ x ∷ y ∷ z ∷ [])
+  pub found : Shaped lay N (w ∷ x ∷ y ∷ z ∷ []) → isBundle lay N (readOff lay w y z) w x y z ≡ true
+
+abbrev pub Shapes : Type 0
+Shapes = (lay : Layout) (N w x y z : ℕ) → ShapeLaws lay N w x y z
+
+-- 'a list of 4N commands, N a power of two from 1 to 1,024, whose bundles all have these shapes and whose last is HALT'; B is a multiple of 4N
+pub record AllShaped (lay : Layout) (ws : List ℕ) (N : ℕ) : Type 0 where
+  pub layout : rightLayout lay ≡ true
+  pub count : countRight (length ws) ≡ true
+  pub base : baseRight lay N ≡ true
+  pub each : (h : ℕ) → h < N → Shaped lay N (take bundleLength (drop (bundleLength * h) ws))
+  pub last : take bundleLength (drop (bundleLength * (N - 1)) ws) ≡ bundleOf lay N HALT .words
+
+-- the checker passes exactly these
+pub record CheckLaws (lay : Layout) (ws : List ℕ) (N : ℕ) : Type 0 where
+  pub passed : checkAnswer lay ws .number ≡ 0 → AllShaped lay ws N
+  pub passes : AllShaped lay ws N → checkAnswer lay ws ≡ answer 0 0
+
+abbrev pub Checks : Type 0
+Checks = (lay : Layout) (ws : List ℕ) → CheckLaws lay ws (length ws / bundleLength)
 
 -- the words of an event's bundle in the order that [12] gave up, LOOK, STOPIF, KEEP, EVENT, with register r for the hidden one
 abbrev pub oldEvent : ℕ → ℕ → List ℕ
