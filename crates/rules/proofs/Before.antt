@@ -1,11 +1,11 @@
 -- Lists written with another hidden register: which are refused, and which pass as before.
 use mathlib.Core.Path.{_≡_, refl, sym, _∙_, ap}
-use mathlib.Core.Bool.{Bool, true, false, _&&_, _||_}
+use mathlib.Core.Bool.{Bool, true, false, _||_}
 use mathlib.Core.List.{List}
-use Prim.Native.Nat.{ℕ, zero, suc, _+_, _*_, _/_, _%_, _^_, _<_, _≤_}
+use Prim.Native.Nat.{ℕ, zero, suc, _+_, _*_, _/_, _^_, _<_, _≤_}
 use native.Mathlib.Omega.{arith}
 use borrow.Author.Tests.{lt-ltb, ne-eqb}
-use lib.Dec.{eqb, ltb, lit<}
+use lib.Dec.{eqb, lit<}
 use lib.ListN.{length, getD}
 use Rattle.rules.specs.declared.Layout.{Layout}
 use Rattle.rules.specs.declared.Answer.{Answer}
@@ -17,10 +17,10 @@ use Rattle.rules.specs.Layouts.{rightLayout}
 use Rattle.rules.specs.Words.{kindOf, dOf, packOf}
 use Rattle.rules.specs.Commands.{wordOf}
 use Rattle.rules.specs.Bundles.{shapeWith, shapeOf, valid, bundleAt, baseRight, passesAt, checkFrom, countRight, checkAnswer}
-use Rattle.rules.specs.Claims.{hiddenBefore, namesHidden, fieldsBelow, PassesWith, BeforeLaws, ListsBefore}
+use Rattle.rules.specs.Claims.{hiddenBefore, namesHidden, fieldsBelow, PassesWith, ListsBefore}
 use Rattle.rules.proofs.Facts.{Valid}
 use Rattle.rules.proofs.Bools.{no, both, join, cond-ind, unless-ind}
-use Rattle.rules.proofs.Conditions.{Passed, counted, passed-of, passed-count, passed-valid, passed-word, passed-last, valid-is}
+use Rattle.rules.proofs.Conditions.{counted, passed-of, passed-count, passed-valid, passed-word, passed-last, valid-is}
 use Rattle.rules.proofs.Passing.{is-valid, bundle-passes, check-taken}
 
 -- ---- the first command of a bundle

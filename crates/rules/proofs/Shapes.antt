@@ -1,8 +1,8 @@
 -- The checker passes exactly the lists of the bundles of valid instructions.
-use mathlib.Core.Path.{_≡_, refl, sym, _∙_, ap, subst}
+use mathlib.Core.Path.{_≡_, refl, sym, _∙_, ap}
 use mathlib.Core.Bool.{true}
 use mathlib.Core.List.{List, [], _∷_}
-use Prim.Native.Nat.{ℕ, zero, suc, _+_, _-_, _*_, _/_, _%_, _<_, _≤_}
+use Prim.Native.Nat.{ℕ, _+_, _-_, _*_, _/_, _<_, _≤_}
 use native.Mathlib.Omega.{arith}
 use borrow.Author.Tests.{eq-eqb}
 use lib.Dec.{lit<}
@@ -14,7 +14,7 @@ use Rattle.rules.specs.declared.Instr.the-variants.{HALT}
 use Rattle.rules.specs.Names.{bundleLength, answer}
 use Rattle.rules.specs.Commands.{wordOf}
 use Rattle.rules.specs.Bundles.{shapeOf, bundleOf, readOff, bundleAt, isBundle, checkAnswer}
-use Rattle.rules.specs.Claims.{Shaped, Shapes, AllShaped, Checks}
+use Rattle.rules.specs.Claims.{Shapes, AllShaped, Checks}
 use Rattle.rules.proofs.Facts.{Valid}
 use Rattle.rules.proofs.Conditions.{four-words, bundle-parts, valid-is, some-ones, counted, passed-of, passed-count, passed-valid, passed-word, passed-last}
 use Rattle.rules.proofs.Passing.{bundle-back, is-valid, bundle-passes, check-taken}

@@ -25,7 +25,7 @@ use Rattle.rules.specs.Words.{routine, bundlesFor}
 use Rattle.rules.specs.Bytes.{readAnswer, readOutput, writeAnswer, writeOutput}
 use Rattle.rules.specs.Commands.{wordOf, shlOf, fetchOf}
 use Rattle.rules.specs.Bundles.{addressOf, lastAddress, positionOf, shapeWith, shapeOf, bundleOf, valid, readOff, bundleAt, isBundle, baseRight, countRight, commandsOf, rewriteAnswer, rewriteOutput, checkAnswer}
-use Rattle.rules.specs.Machines.{State, onward, leftIn, runFrom, runOf, installAnswer, installMemory}
+use Rattle.rules.specs.Machines.{State, onward, Ran, ranOf, outcomeOf, leftIn, fits, runFrom, runOf, installAnswer, installMemory}
 use Rattle.rules.specs.Guests.{Guest, guestAfter, guestStart, boxOf}
 use Rattle.rules.specs.Runs.{begins, begunFrom, Given, Carried, afterRun, allRuns, after, Run, recordedIn, Matches, Lent, Served, pairsOf, eventsOf, waitingAt, pendingAt}
 
@@ -228,12 +228,17 @@ statusAfter Spent = Running
 statusAfter NoLanding = Strayed
 statusAfter Refused = Running
 
--- a run that is not refused answers 20, 21, 22 or 26 exactly where its record has ended, stopped, faulted or strayed
+-- a run answers 7 exactly where the layout is not right or the lent memory's length not U, and then leaves all as it was;
+-- any other answers 20, 21, 22 or 26 exactly where its record has ended, stopped, faulted or strayed
+pub record EndingLaws (lay : Layout) (m : Machine) (mem log : List ℕ) (r : Ran) : Type 0 where
+  pub refused : endingNumber (r .outcome .answer .ending) ≡ numberOf BadLayout → fits lay mem ≡ false
+  pub unfit : fits lay mem ≡ false → r ≡ ranOf (outcomeOf m Refused 0 0 0) mem log
+  pub status : fits lay mem ≡ true → r .outcome .machine .status ≡ statusAfter (r .outcome .answer .ending)
+
 abbrev pub Endings : Type 0
 Endings =
     (lay : Layout) (ws : List ℕ) (m : Machine) (mem : List ℕ) (budget : ℕ) (reads log : List ℕ) →
-    let o = runOf lay ws m mem budget reads log .outcome in
-    (o .answer .ending ≡ Refused → ⊥) → o .machine .status ≡ statusAfter (o .answer .ending)
+    EndingLaws lay m mem log (runOf lay ws m mem budget reads log)
 
 -- ---- every moment
 
