@@ -8,7 +8,7 @@ use Rattle.rules.proofs.Passing.{rewrite-leaves, rewritten-passes, pass
 use Rattle.rules.proofs.Shapes.{shapes, checks}
 use Rattle.rules.proofs.Before.{lists-before}
 use Rattle.rules.proofs.Endings.{endings}
-use Rattle.rules.proofs.Isolation.{guest-rule, isolation, no-wrap}
+use Rattle.rules.proofs.Isolation.{guest-rule, recorded, isolation, no-wrap}
 use Rattle.rules.proofs.Progress.{resumes, progress}
 use Rattle.rules.proofs.Pauses.{state-cell, paused-waits, pause-rule}
 use Rattle.rules.proofs.Moments.{splits, cuts}
@@ -38,6 +38,7 @@ proved =
       guestRule = guest-rule;
       resumes = resumes;
       progress = progress;
+      recorded = recorded;
       isolation = isolation;
       noWrap = no-wrap;
       stateCell = state-cell;

@@ -323,6 +323,10 @@ Progress =
 
 -- ---- isolation
 
+-- the pairs carried from run to run are those that the runs' answers count: whichever of the two a claim names, it is the same record
+abbrev pub Recorded : Type 0
+Recorded = (lay : Layout) (pol : Policy) (ws mem : List ℕ) (gs : List Given) → after lay pol ws mem gs .records ≡ recordedIn (allRuns lay pol ws mem gs)
+
 -- every element, and two lists element by element
 abbrev pub Every : {A : Type 0} → (A → Type 0) → List A → Type 0
 Every P [] = Unit {0}
