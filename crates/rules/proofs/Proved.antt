@@ -9,6 +9,7 @@ use Rattle.rules.proofs.Shapes.{shapes, checks}
 use Rattle.rules.proofs.Before.{lists-before}
 use Rattle.rules.proofs.Endings.{endings}
 use Rattle.rules.proofs.Isolation.{guest-rule, recorded, isolation, no-wrap}
+use Rattle.rules.proofs.Loading.{loads}
 use Rattle.rules.proofs.Progress.{resumes, progress}
 use Rattle.rules.proofs.Pauses.{state-cell, paused-waits, pause-rule}
 use Rattle.rules.proofs.Moments.{splits, cuts}
@@ -40,6 +41,7 @@ proved =
       progress = progress;
       recorded = recorded;
       isolation = isolation;
+      loads = loads;
       noWrap = no-wrap;
       stateCell = state-cell;
       pausedWaits = paused-waits;

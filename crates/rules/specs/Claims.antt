@@ -22,12 +22,13 @@ use Rattle.rules.specs.Layouts.{span, rightLayout, widthOf, maskOf, inBo
 use Rattle.rules.specs.Policies.{Policy, arrow, allowed, stateOver}
 use Rattle.rules.specs.Landings.{listed, landingsOf, bitAt, marked}
 use Rattle.rules.specs.Words.{routine, bundlesFor}
-use Rattle.rules.specs.Bytes.{readAnswer, readOutput, writeAnswer, writeOutput}
+use Rattle.rules.specs.Bytes.{wordsIn, readAnswer, readOutput, writeAnswer, writeOutput}
 use Rattle.rules.specs.Commands.{wordOf, shlOf, fetchOf}
 use Rattle.rules.specs.Bundles.{addressOf, lastAddress, positionOf, shapeWith, shapeOf, bundleOf, valid, readOff, bundleAt, isBundle, baseRight, countRight, commandsOf, rewriteAnswer, rewriteOutput, checkAnswer}
 use Rattle.rules.specs.Machines.{State, onward, Ran, ranOf, outcomeOf, leftIn, fits, runFrom, runOf, installAnswer, installMemory}
 use Rattle.rules.specs.Guests.{Guest, guestAfter, guestStart, boxOf}
-use Rattle.rules.specs.Runs.{begins, begunFrom, Given, Carried, afterRun, allRuns, after, Run, recordedIn, Matches, Lent, Served, pairsOf, eventsOf, waitingAt, pendingAt}
+use Rattle.rules.specs.Runs.{begins, begunFrom, Given, Carried, carriedOf, atFirst, afterRun, allRuns, after, Run, recordedIn, Matches, Lent, Lends, Served, pairsOf, eventsOf, waitingAt, pendingAt}
+use Rattle.rules.specs.Loading.{loadAnswer, loadCommands, loadMemory, loadMachine}
 
 -- ---- masks and sizes
 
@@ -385,6 +386,29 @@ pub record Isolated (lay : Layout) (pol : Policy) (ws mem : List ℕ) (gs : List
 -- demand 3
 abbrev pub Isolation : Type 0
 Isolation = (lay : Layout) (pol : Policy) (ws mem : List ℕ) (gs : List Given) → Served lay pol ws mem gs → Isolated lay pol ws mem gs
+
+-- ---- loading
+
+-- what is carried into the first run after a load
+abbrev pub loadedAt : Layout → Policy → List ℕ → ℕ → List ℕ → Carried
+loadedAt lay pol bytes room mem = carriedOf (loadMachine lay pol bytes room mem) (loadMemory lay pol bytes room mem) [] [] 0
+
+-- what a load that answers 0 leaves is on demand 3's premise: its commands, the first that the answer counts, are those that the rewriter gives
+-- and the checker passes; record and memory are an installation's. So every list of runs from there is isolated, if each is lent what the load
+-- or the last run left
+pub record Loaded (lay : Layout) (pol : Policy) (bytes out mem ws : List ℕ) : Type 0 where
+  pub rewritten : rewriteAnswer lay (wordsIn bytes) (length out) .number ≡ 0
+  pub commands : ws ≡ commandsOf lay (wordsIn bytes)
+  pub passed : checkAnswer lay ws .number ≡ 0
+  pub installed : installAnswer lay pol mem .number ≡ 0
+  pub first : loadedAt lay pol bytes (length out) mem ≡ atFirst lay pol mem
+  pub isolated : (gs : List Given) → Lends lay ws (loadedAt lay pol bytes (length out) mem) gs → Isolated lay pol ws mem gs
+
+abbrev pub Loads : Type 0
+Loads =
+    (lay : Layout) (pol : Policy) (bytes out mem : List ℕ) →
+    let a = loadAnswer lay pol bytes (length out) mem in
+    a .number ≡ 0 → Loaded lay pol bytes out mem (take (a .place) (loadCommands lay pol bytes out mem))
 
 -- ---- the pc
 

@@ -23,18 +23,12 @@ use Rattle.rules.specs.Bundles.{baseRight, commandsOf, commandCount, placeAnswe
 use Rattle.rules.specs.Machines.{machineRefused, installAnswer, installMemory, installMachine, installOf}
 use Rattle.rules.specs.Loading.{loadAnswer, loadCommands, loadMemory, loadMachine, loadOf}
 use Rattle.rules.proofs.Bools.{cond-ind, cond-map, cases}
-use Rattle.rules.proofs.Refusals.{refused-map}
+use Rattle.rules.proofs.Refusals.{refused-map, else-next, else-kept, else-none}
 use Rattle.rules.proofs.Bytes.{read-ok}
 use Rattle.rules.proofs.Counts.{count-bound, length-commands, rewrite-taken, rewrite-bound}
 use Rattle.sandbox.specs.Translating.{writtenAnswer, writtenOutput, inRoom, checkedAnswer, translateAnswer, Listed}
 
--- the first answer where it is a refusal, else the second
-else-next : (a b : Answer) → a .number ≡ 0 → orElse a b ≡ b
-else-next a b e = rw (eq-eqb _ _ e)
-
-else-kept : (a b : Answer) → (a .number ≡ 0 → ⊥) → orElse a b ≡ a
-else-kept a b h = rw (ne-eqb _ _ h)
-
+-- answers, of which each stands where those before it refuse nothing
 else-assoc : (a b c : Answer) → orElse (orElse a b) c ≡ orElse a (orElse b c)
 else-assoc a b c = by (eqb (a .number) 0) refl
   where
@@ -52,12 +46,6 @@ else-twice a d i z = by (eqb (a .number) 0) refl
     by : (t : Bool) → eqb (a .number) 0 ≡ t → orElse (cond t d a) (orElse i (cond t d a)) ≡ cond t (orElse i d) a
     by true e = rw (eq-eqb _ _ z)
     by false e = rw e
-
--- a refusal of none of the two
-else-none : (a b : Answer) → orElse a b .number ≡ 0 → (a .number ≡ 0) × (b .number ≡ 0)
-else-none a b =
-    cond-ind (λ (x : Answer). x .number ≡ 0 → (a .number ≡ 0) × (b .number ≡ 0)) (eqb (a .number) 0)
-    (λ t e. (eqb-true _ _ t, e)) (λ t e. absurd (eqb-false _ _ t e))
 
 -- ---- reading, then rewriting
 module _ (s : List ℕ) (a : Answer) (e : a ≡ readAnswer s mostInstructions) where
