@@ -92,7 +92,7 @@ module _ (lay : Layout) (ws : List ℕ) (m : Engine) (mem rd log : List ℕ) (z 
       unfolding sendOf
       stopped a = sends ∙ rw (lt-ltb _ _ inside, eq-eqb (entryAt lay mem v) noArrow a)
 
-      paused : (entryAt lay mem v ≡ noArrow → ⊥) → nextOf lay ws rd s ≡ eventEffect v (length log - 2 * 0) (length rd - 0)
+      pub paused : (entryAt lay mem v ≡ noArrow → ⊥) → nextOf lay ws rd s ≡ eventEffect v (length log - 2 * 0) (length rd - 0)
       unfolding sendOf
       paused a = sends ∙ rw (lt-ltb _ _ inside, ne-eqb (entryAt lay mem v) noArrow a)
 

@@ -18,6 +18,7 @@ pub mod Sim
 pub mod Track
 pub mod Twins
 pub mod Isolation
+pub mod Ceilings
 pub mod Loading
 pub mod Progress
 pub mod Pauses

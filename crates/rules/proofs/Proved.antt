@@ -9,6 +9,7 @@ use Rattle.rules.proofs.Shapes.{shapes, checks}
 use Rattle.rules.proofs.Before.{lists-before}
 use Rattle.rules.proofs.Endings.{endings}
 use Rattle.rules.proofs.Isolation.{guest-rule, recorded, isolation, no-wrap}
+use Rattle.rules.proofs.Ceilings.{ceilings}
 use Rattle.rules.proofs.Loading.{loads}
 use Rattle.rules.proofs.Progress.{resumes, progress}
 use Rattle.rules.proofs.Pauses.{state-cell, paused-waits, pause-rule}
@@ -40,6 +41,7 @@ proved =
       resumes = resumes;
       progress = progress;
       recorded = recorded;
+      ceilings = ceilings;
       isolation = isolation;
       loads = loads;
       noWrap = no-wrap;

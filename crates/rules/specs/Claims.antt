@@ -17,7 +17,7 @@ use Rattle.rules.specs.declared.Status.the-variants.{Running, Ended, Sto
 use Rattle.rules.specs.declared.Ending.{Ending}
 use Rattle.rules.specs.declared.Ending.the-variants.{Done, NoArrow, Fault, LogFull, Silent, Spent, NoLanding, Refused}
 use Rattle.rules.specs.declared.Refusal.the-variants.{BadLayout, BadBundle, BadCount, BadBase}
-use Rattle.rules.specs.Names.{events, noArrow, mostInstructions, mostBundles, bundleLength, bundleShift, landingCells, cellBits, guestRegisters, hidden, numberOf, answer, endingNumber}
+use Rattle.rules.specs.Names.{events, orders, noArrow, mostInstructions, mostBundles, bundleLength, bundleShift, landingCells, cellBits, guestRegisters, hidden, numberOf, answer, endingNumber}
 use Rattle.rules.specs.Layouts.{span, rightLayout, widthOf, maskOf, inBox, protected}
 use Rattle.rules.specs.Policies.{Policy, arrow, allowed, stateOver}
 use Rattle.rules.specs.Landings.{listed, landingsOf, bitAt, marked}
@@ -26,8 +26,8 @@ use Rattle.rules.specs.Bytes.{wordsIn, readAnswer, readOutput, writeAnsw
 use Rattle.rules.specs.Commands.{wordOf, shlOf, fetchOf}
 use Rattle.rules.specs.Bundles.{addressOf, lastAddress, positionOf, shapeWith, shapeOf, bundleOf, valid, readOff, bundleAt, isBundle, baseRight, countRight, commandsOf, rewriteAnswer, rewriteOutput, checkAnswer}
 use Rattle.rules.specs.Machines.{State, onward, Ran, ranOf, outcomeOf, leftIn, fits, runFrom, runOf, installAnswer, installMemory}
-use Rattle.rules.specs.Guests.{Guest, guestAfter, guestStart, boxOf}
-use Rattle.rules.specs.Runs.{begins, begunFrom, Given, Carried, carriedOf, atFirst, afterRun, allRuns, after, Run, recordedIn, Matches, Lent, Lends, Served, pairsOf, eventsOf, waitingAt, pendingAt}
+use Rattle.rules.specs.Guests.{Pair, Guest, guestAfter, guestStart, boxOf}
+use Rattle.rules.specs.Runs.{begins, begunFrom, Given, Carried, carriedOf, atFirst, afterRun, allRuns, after, Run, runsOf, recordedIn, Matches, Lent, Lends, Served, pairsOf, eventsOf, waitingAt, pendingAt}
 use Rattle.rules.specs.Loading.{loadAnswer, loadCommands, loadMemory, loadMachine}
 
 -- ---- masks and sizes
@@ -338,6 +338,13 @@ Each R [] [] = Unit {0}
 Each R [] (y ∷ ys) = ⊥
 Each R (x ∷ xs) [] = ⊥
 Each R (x ∷ xs) (y ∷ ys) = R x y × Each R xs ys
+
+-- request 2: an order's pair is at most its ceiling; of every list of runs of any commands, from any record
+abbrev pub Limited : Layout → Pair → Type 0
+Limited lay p = p .event < orders → p .value ≤ getD (lay .ceilings) (p .event) 0
+
+abbrev pub Ceilings : Type 0
+Ceilings = (lay : Layout) (ws : List ℕ) (c : Carried) (gs : List Given) → Every (Limited lay) (recordedIn (runsOf lay ws c gs))
 
 -- a run does not answer 22
 abbrev pub Sound : Run → Type 0

@@ -1,5 +1,5 @@
 -- Every claim of this crate, a field each: its one term is `proved`, in proofs/Proved.antt.
-use Rattle.rules.specs.Claims.{Masks, Landings, Installs, Sizes, WordsBack, BytesBack, RewriteLeaves, RewrittenPasses, PassedRewrites, Shapes, Checks, OldRefused, PassedDecodes, ListsBefore, Endings, Splits, Cuts, GuestRule, Resumes, Progress, Recorded, Isolation, Loads, NoWrap, StateCell, PausedWaits, PauseRule}
+use Rattle.rules.specs.Claims.{Masks, Landings, Installs, Sizes, WordsBack, BytesBack, RewriteLeaves, RewrittenPasses, PassedRewrites, Shapes, Checks, OldRefused, PassedDecodes, ListsBefore, Endings, Splits, Cuts, GuestRule, Resumes, Progress, Recorded, Ceilings, Isolation, Loads, NoWrap, StateCell, PausedWaits, PauseRule}
 use Rattle.rules.specs.Tray.{TrayHolds}
 use Rattle.rules.specs.Sample.{SampleHolds}
 
@@ -25,6 +25,7 @@ pub record Proved : Type 0 where
   pub resumes : Resumes
   pub progress : Progress
   pub recorded : Recorded
+  pub ceilings : Ceilings
   pub isolation : Isolation
   pub loads : Loads
   pub noWrap : NoWrap
