@@ -5,8 +5,8 @@ use mathlib.Core.Logic.{_⊎_, inl, inr, ⊎-elim}
 use mathlib.Core.List.{List}
 use Prim.Native.Nat.{ℕ, zero, suc, _+_, _-_, _*_, _<_, _≤_}
 use native.Mathlib.Omega.{arith}
-use borrow.Author.Tests.{lt-ltb, le-ltb, eq-eqb, ne-eqb, eqb-true, ltb-true}
-use lib.Dec.{eqb, ltb}
+use borrow.Author.Tests.{lt-ltb, le-ltb, eq-eqb, ne-eqb, ltb-true}
+use lib.Dec.{ltb}
 use lib.ListN.{length}
 use Rattle.rules.specs.declared.Layout.{Layout}
 use Rattle.rules.specs.declared.Instr.the-variants.{EVENT}
@@ -23,7 +23,7 @@ use Rattle.rules.specs.Bundles.{placeAnswer, rewriteAnswer}
 use Rattle.rules.specs.Machines.{State, applyOf, seen, endingOf, eventEffect}
 use Rattle.rules.proofs.Bools.{no, cases}
 use Rattle.rules.proofs.Endings.{over-ind}
-use Rattle.rules.proofs.Refusals.{refused-map}
+use Rattle.rules.proofs.Refusals.{refused-map, else-kept, else-none}
 use Rattle.engine_rules.specs.declared.Engine.{Engine}
 use Rattle.engine_rules.specs.Engines.{sendOf, actOf, nextFor, nextOf, entryAt, movedOf, effectOn, endedIn, runFrom, startOf, refusalBy, refusalOf, runOf}
 use Rattle.engine_rules.specs.Order.{addressOf, only, EngineOrder, EngineRefuses, EngineRewriter, EngineTakes}
@@ -92,7 +92,7 @@ module _ (lay : Layout) (ws : List ℕ) (m : Engine) (mem rd log : List ℕ) (z 
       unfolding sendOf
       stopped a = sends ∙ rw (lt-ltb _ _ inside, eq-eqb (entryAt lay mem v) noArrow a)
 
-      paused : (entryAt lay mem v ≡ noArrow → ⊥) → nextOf lay ws rd s ≡ eventEffect v (length log - 2 * 0) (length rd - 0)
+      pub paused : (entryAt lay mem v ≡ noArrow → ⊥) → nextOf lay ws rd s ≡ eventEffect v (length log - 2 * 0) (length rd - 0)
       unfolding sendOf
       paused a = sends ∙ rw (lt-ltb _ _ inside, ne-eqb (entryAt lay mem v) noArrow a)
 
@@ -123,23 +123,17 @@ engine-order lay ws m mem rd log z =
     }
 
 -- ---- the rewriter's refusals
-else-same : (x p : ℕ) (b : Answer) → (x ≡ 0 → ⊥) → orElse (answer x p) b ≡ answer x p
-else-same x p b h = rw (ne-eqb x 0 h)
-
 refusals : (lay : Layout) (ws : List ℕ) (room : ℕ) (r m : Bool) → rightLayout lay ≡ r → ltb mostInstructions (length ws) ≡ m → rewriteAnswer lay ws room ≡ orElse (refusalBy lay ws (lay .size)) (placeAnswer lay (length ws) room)
 unfolding rewriteAnswer refusalBy
 refusals lay ws room false m er em = rw er
 refusals lay ws room true true er em = rw (er, eq-eqb (lay .size) (lay .size) refl, em)
 refusals lay ws room true false er em =
     let z = placeAnswer lay (length ws) room in
-    rw (er, eq-eqb (lay .size) (lay .size) refl, em) (sym (refused-map (judgeAt (length ws)) (λ a. orElse a z) (λ x p h. else-same x p z h) ws 0 (answer 0 0)))
+    rw (er, eq-eqb (lay .size) (lay .size) refl, em) (sym (refused-map (judgeAt (length ws)) (λ a. orElse a z) (λ x p h. else-kept (answer x p) z h) ws 0 (answer 0 0)))
 
 pub engine-rewriter : EngineRewriter
 engine-rewriter lay ws room = refusals lay ws room _ _ refl refl
 
-none-refuses : (a b : Answer) → orElse a b .number ≡ 0 → a .number ≡ 0
-none-refuses a b e = ⊎-elim (λ t. eqb-true _ _ t) (λ t. (let z : orElse a b ≡ a = rw t in ap (λ (x : Answer). x .number) (sym z) ∙ e)) (cases (eqb (a .number) 0))
-
 pub engine-takes : EngineTakes
 engine-takes lay ws room mem e size =
-    ap (λ (k : ℕ). refusalBy lay ws k .number) size ∙ none-refuses (refusalBy lay ws (lay .size)) (placeAnswer lay (length ws) room) (ap (λ (x : Answer). x .number) (sym (engine-rewriter lay ws room)) ∙ e)
+    ap (λ (k : ℕ). refusalBy lay ws k .number) size ∙ else-none (refusalBy lay ws (lay .size)) (placeAnswer lay (length ws) room) (ap (λ (x : Answer). x .number) (sym (engine-rewriter lay ws room)) ∙ e) .0

@@ -3,23 +3,17 @@ use mathlib.Core.Path.{_≡_, ap}
 use mathlib.Core.Bool.{Bool, true, false, cond}
 use mathlib.Core.List.{List}
 use Prim.Native.Nat.{ℕ, suc, _+_, _/_, _<_, _≤_}
-use borrow.Author.Tests.{eq-eqb, ne-eqb, lt-ltb, le-ltb}
+use borrow.Author.Tests.{lt-ltb, le-ltb}
 use lib.ListN.{length}
 use Rattle.rules.specs.declared.Layout.{Layout}
 use Rattle.rules.specs.declared.Answer.{Answer}
 use Rattle.rules.specs.declared.Instr.{Instr}
 use Rattle.rules.specs.declared.Refusal.the-variants.{Taken, Oversize, NotForward}
-use Rattle.rules.specs.Names.{mostInstructions, bundleLength, numberOf, answer, refusal, orElse}
+use Rattle.rules.specs.Names.{mostInstructions, bundleLength, numberOf, answer, refusal}
 use Rattle.rules.specs.Words.{judgeAt, firstRefused, routine}
 use Rattle.rules.specs.Bundles.{bundleAt, checkAnswer}
+use Rattle.rules.proofs.Refusals.{else-next, else-kept}
 use Rattle.forward.specs.Forward.{forwardAt, forwardFrom, forwardAnswer, checkForwardAnswer}
-
--- ---- of two answers, the first if it refuses
-or-first : (a b : Answer) → (a .number ≡ 0 → ⊥) → orElse a b ≡ a
-or-first a b f = ap (λ (t : Bool). cond t b a) (ne-eqb (a .number) 0 f)
-
-or-second : (a b : Answer) → a .number ≡ 0 → orElse a b ≡ b
-or-second a b z = ap (λ (t : Bool). cond t b a) (eq-eqb (a .number) 0 z)
 
 -- ---- instructions in order: the first that breaks the class is answered
 module _ (is : ℕ → Instr) (h m : ℕ) where
@@ -43,18 +37,18 @@ module _ (ws : List ℕ) where
   module _ (l : length ws ≤ mostInstructions) where
     pub words-refused : (judged .number ≡ 0 → ⊥) → forwardAnswer ws ≡ judged
     unfolding forwardAnswer
-    words-refused f = rw (le-ltb mostInstructions (length ws) l) (or-first judged _ f)
+    words-refused f = rw (le-ltb mostInstructions (length ws) l) (else-kept judged _ f)
 
     pub words-taken : judged .number ≡ 0 → forwardAnswer ws ≡ forwardFrom (routine ws) 0 (length ws)
     unfolding forwardAnswer
-    words-taken z = rw (le-ltb mostInstructions (length ws) l) (or-second judged _ z)
+    words-taken z = rw (le-ltb mostInstructions (length ws) l) (else-next judged _ z)
 
 -- ---- command lists: the checker's refusals, the class
 module _ (lay : Layout) (ws : List ℕ) where
   pub list-refused : (checkAnswer lay ws .number ≡ 0 → ⊥) → checkForwardAnswer lay ws ≡ checkAnswer lay ws
   unfolding checkForwardAnswer
-  list-refused f = or-first (checkAnswer lay ws) _ f
+  list-refused f = else-kept (checkAnswer lay ws) _ f
 
   pub list-passed : checkAnswer lay ws .number ≡ 0 → checkForwardAnswer lay ws ≡ forwardFrom (bundleAt lay ws) 0 (length ws / bundleLength)
   unfolding checkForwardAnswer
-  list-passed z = or-second (checkAnswer lay ws) _ z
+  list-passed z = else-next (checkAnswer lay ws) _ z

@@ -90,6 +90,13 @@ passed-of lay ws =
       each = λ h l. check-each lay n ws 0 n e h (omega arith) (omega arith);
     })))
 
+pub passed-count : (lay : Layout) (ws : List ℕ) (n : ℕ) → Passed lay ws n → countRight (length ws) ≡ true
+passed-count lay ws n p =
+    let q : length ws / bundleLength ≡ n = omega (arith, p .count) in
+    let fours : length ws % bundleLength ≡ 0 = omega (arith, p .count) in
+    let most : length ws ≤ mostCommands = omega (arith, p .count, p .most) in
+    rw (q, fours, le-leb _ _ most, eq-eqb _ _ (p .single))
+
 pub layout-of : (lay : Layout) (ws : List ℕ) → checkAnswer lay ws .number ≡ 0 → rightLayout lay ≡ true
 layout-of lay ws e = passed-of lay ws e .right
 
@@ -160,7 +167,7 @@ bundle-parts lay n i w x y z t =
     (valid-is n i (t₀ .0), eqb-true _ _ (t₀ .1), eqb-true _ _ (t₁ .1), eqb-true _ _ (t₂ .1), eqb-true _ _ (t₃ .1))
 
 -- four words, by position
-four-words : (ws : List ℕ) (at : ℕ) (word : ℕ → ℕ) → getD ws at 0 ≡ word 0 → getD ws (at + 1) 0 ≡ word 1 → getD ws (at + 2) 0 ≡ word 2 → getD ws (at + 3) 0 ≡ word 3 → (p : ℕ) → p < bundleLength → getD ws (at + p) 0 ≡ word p
+pub four-words : (ws : List ℕ) (at : ℕ) (word : ℕ → ℕ) → getD ws at 0 ≡ word 0 → getD ws (at + 1) 0 ≡ word 1 → getD ws (at + 2) 0 ≡ word 2 → getD ws (at + 3) 0 ≡ word 3 → (p : ℕ) → p < bundleLength → getD ws (at + p) 0 ≡ word p
 four-words ws at word a b c d zero l = let z : at + 0 ≡ at = omega arith in rw z a
 four-words ws at word a b c d (suc zero) l = b
 four-words ws at word a b c d (suc (suc zero)) l = c

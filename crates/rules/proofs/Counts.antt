@@ -213,13 +213,13 @@ load-bound lay pol s room mem =
 
 -- ---- a run
 
--- an event is let through only with two free cells, and a reading only with one left
+-- an event is let through only with two free cells, a reading only with one left; no order is one
 abbrev pub Room : ℕ → ℕ → Effect → Type 0
 Room free left (Go to) = Unit {0}
 Room free left (Put d x) = Unit {0}
 Room free left (Cell i x) = Unit {0}
 Room free left (Order v) = 2 ≤ free
-Room free left (Probe v) = (2 ≤ free) × (1 ≤ left)
+Room free left (Probe v) = (2 ≤ free) × (1 ≤ left) × (orders ≤ v)
 Room free left (End t) = Unit {0}
 Room free left (Wait e) = Unit {0}
 
@@ -244,7 +244,7 @@ room (StopIf d) s = cond-ind (Room (s .free) (s .left)) (eqb (regAt s d) noArrow
 room (Keep d) s = cond-ind (Room (s .free) (s .left)) (ltb (s .cell) (length (s .mem))) (λ _. tt) (λ _. tt)
 room (Event v) s =
     cond-ind (Room (s .free) (s .left)) (ltb v orders) (λ _. in-room (s .free) (s .left) (Order v) (λ f. f))
-    (λ _. cond-ind (Room (s .free) (s .left)) (eqb (s .left) 0) (λ _. tt) (λ e. in-room (s .free) (s .left) (Probe v) (λ f. (f, omega (arith, eqb-false (s .left) 0 e)))))
+    (λ o. cond-ind (Room (s .free) (s .left)) (eqb (s .left) 0) (λ _. tt) (λ e. in-room (s .free) (s .left) (Probe v) (λ f. (f, omega (arith, eqb-false (s .left) 0 e), ltb-false _ _ o))))
 room Stray s = tt
 
 -- pairs and readings of a state: at most p and u; the pairs lie in a log as long as l and as l beyond them, the readings in rd

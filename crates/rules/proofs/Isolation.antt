@@ -1,6 +1,6 @@
 -- The claims over lists of runs, from what the parts answered: guest rule, pc, isolation.
 use mathlib.Core.Path.{_≡_, refl, sym, _∙_, ap, subst}
-use mathlib.Core.Bool.{true, false, _||_}
+use mathlib.Core.Bool.{true, false}
 use mathlib.Core.Logic.{⊎-elim}
 use mathlib.Core.List.{List, []}
 use Prim.Native.Nat.{ℕ, _+_, _-_, _*_, _/_, _^_, _<_, _≤_}
@@ -18,12 +18,12 @@ use Rattle.rules.specs.Bundles.{commandsOf, bundleAt}
 use Rattle.rules.specs.Machines.{onward, installAnswer, installMemory}
 use Rattle.rules.specs.Guests.{Pair, guestStart}
 use Rattle.rules.specs.Runs.{Given, eventsOf, carriedOf, atFirst, afterRun, after, Served}
-use Rattle.rules.specs.Claims.{givenFor, GuestRule, NoWrap, Isolation}
+use Rattle.rules.specs.Claims.{givenFor, GuestRule, NoWrap, Recorded, Isolation}
 use Rattle.rules.proofs.Bools.{both, either}
 use Rattle.rules.proofs.Facts.{Right, Bundled}
 use Rattle.rules.proofs.Conditions.{passed-of, bundled-of, right-of, laid-of, machine-of, bundled-routine, right-routine}
 use Rattle.rules.proofs.Sim.{Stays}
-use Rattle.rules.proofs.Track.{recorded, stays-run, stays-runs, install, agrees-after, pc-in, allowed-runs, sound-runs, kept-runs, lasts}
+use Rattle.rules.proofs.Track.{recorded as recorded-runs, stays-run, stays-runs, install, agrees-after, pc-in, allowed-runs, sound-runs, kept-runs, lasts}
 use Rattle.rules.proofs.Twins.{alone}
 
 -- the guest tracks an installation that answered 0
@@ -90,6 +90,9 @@ protected-out lay pol n i ok p ne =
     (either _ _ q))
     (either _ _ p)
 
+pub recorded : Recorded
+recorded lay pol ws mem gs = recorded-runs lay ws (atFirst lay pol mem) gs
+
 pub isolation : Isolation
 isolation lay pol ws mem gs v =
     let n = length ws / bundleLength in
@@ -103,7 +106,7 @@ isolation lay pol ws mem gs v =
       kept = kept-runs lay pol ws n is ok bs g0 (atFirst lay pol mem) gs (v .lends) w;
       lasting = λ i p ne. lasts lay pol ws n is ok bs g0 (atFirst lay pol mem) gs (v .lends) w i (protected-out lay pol n i ok p ne) ne p;
       allowed =
-          ap (λ (ps : List Pair). allowed pol (eventsOf ps)) (sym (recorded lay ws (atFirst lay pol mem) gs))
+          ap (λ (ps : List Pair). allowed pol (eventsOf ps)) (sym (recorded lay pol ws mem gs))
           ∙ allowed-runs lay pol ws n is ok bs g0 (after lay pol ws mem gs) (stays lay pol ws mem gs n is ok bs v);
       alone = alone lay pol ws mem gs n is ok bs (laid-of lay pol mem (v .installed)) v;
     }

@@ -13,17 +13,18 @@ use Rattle.rules.specs.Machines.{State, nextOf, stepOf, endingOf, Ran, e
 use Rattle.rules.specs.Runs.{begins, begunFrom, Given, Carried, afterRun, Lends}
 use Rattle.rules.specs.Claims.{Splits, givenFor, Cuts}
 
+-- a status or an effect that is known
+pub over-at : {A : Type 0} (t u : Status) (x y : A) → t ≡ u → unlessOver u x y ≡ unlessOver t x y
+over-at t u x y h = ap (λ (v : Status). unlessOver v x y) (sym h)
+
+pub wait-at : {A : Type 0} (t : Status) (e d : Effect) (x z : A) (w : Ending → A) → t ≡ Running → d ≡ e → unlessWait e w z ≡ unlessOver t x (unlessWait d w z)
+wait-at t e d x z w h q = ap (λ (v : Effect). unlessWait v w z) (sym q) ∙ over-at t Running x (unlessWait d w z) h
+
 module _ (lay : Layout) (ws rd : List ℕ) (l : ℕ) where
   -- x and b: a run and its bundles that go on from where r and c end
   record Follows (x r : Ran) (b c : ℕ) : Type 0 where
     run : x ≡ runFrom lay ws rd (suc l) (r .outcome .answer .steps) (leftIn r)
     begun : b ≡ begunFrom lay ws rd (suc l) c (leftIn r)
-
-  over-at : {A : Type 0} (t u : Status) (x y : A) → t ≡ u → unlessOver u x y ≡ unlessOver t x y
-  over-at t u x y h = ap (λ (v : Status). unlessOver v x y) (sym h)
-
-  wait-at : {A : Type 0} (t : Status) (e d : Effect) (x z : A) (w : Ending → A) → t ≡ Running → d ≡ e → unlessWait e w z ≡ unlessOver t x (unlessWait d w z)
-  wait-at t e d x z w h q = ap (λ (v : Effect). unlessWait v w z) (sym q) ∙ over-at t Running x (unlessWait d w z) h
 
   over-follows : (k b c d : ℕ) (s : State) (t : Status) (x r : Ran) → s .status ≡ t → (t ≡ Running → Follows x r c d) → Follows (unlessOver t (endedIn (endingOf (s .status)) k s) x) (unlessOver t (endedIn (endingOf (s .status)) k s) r) (unlessOver t b c) (unlessOver t b d)
   unfolding runFrom begunFrom

@@ -48,7 +48,7 @@ bundle-of : (base v : ℕ) → (base + bundleLength * v - base) / bundleLength �
 bundle-of base v = omega arith
 
 module _ (lay : Layout) (n : ℕ) where
-  bundle-back : (i : Instr) → Valid n i → readOff lay (wordOf (shapeOf lay n i 0)) (wordOf (shapeOf lay n i 2)) (wordOf (shapeOf lay n i 3)) ≡ i
+  pub bundle-back : (i : Instr) → Valid n i → readOff lay (wordOf (shapeOf lay n i 0)) (wordOf (shapeOf lay n i 2)) (wordOf (shapeOf lay n i 3)) ≡ i
   unfolding readOff shapeOf wordOf
   bundle-back HALT g = refl
   bundle-back (PLAIN k d a b v) g =

@@ -10,7 +10,7 @@ use lib.Seq.{drop-cons, take-at, sets, sets-eq}
 use lib.Dec.{eqb}
 use borrow.Author.Tests.{eq-eqb, ne-eqb, eqb-true, eqb-false}
 use Rattle.rules.specs.declared.Answer.{Answer}
-use Rattle.rules.specs.Names.{answer, outputOf}
+use Rattle.rules.specs.Names.{answer, orElse, outputOf}
 use Rattle.rules.specs.Words.{firstRefused}
 use Rattle.rules.proofs.Bools.{cond-ind, cond-map}
 
@@ -59,6 +59,19 @@ module _ (judge : ℕ → ℕ) where
     pub refused-done : length ws ≤ i → z ≡ a
     unfolding firstRefused
     refused-done h = sym (ea ∙ rw (drop-of-length-le ws h))
+
+-- ---- of two answers, the first if it refuses
+pub else-next : (a b : Answer) → a .number ≡ 0 → orElse a b ≡ b
+else-next a b e = rw (eq-eqb _ _ e)
+
+pub else-kept : (a b : Answer) → (a .number ≡ 0 → ⊥) → orElse a b ≡ a
+else-kept a b h = rw (ne-eqb _ _ h)
+
+-- neither refuses
+pub else-none : (a b : Answer) → orElse a b .number ≡ 0 → (a .number ≡ 0) × (b .number ≡ 0)
+else-none a b =
+    cond-ind (λ (x : Answer). x .number ≡ 0 → (a .number ≡ 0) × (b .number ≡ 0)) (eqb (a .number) 0)
+    (λ t e. (eqb-true _ _ t, e)) (λ t e. absurd (eqb-false _ _ t e))
 
 -- ---- an output
 module _ (a : Answer) (xs out : List ℕ) where

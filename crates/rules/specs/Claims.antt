@@ -17,17 +17,18 @@ use Rattle.rules.specs.declared.Status.the-variants.{Running, Ended, Sto
 use Rattle.rules.specs.declared.Ending.{Ending}
 use Rattle.rules.specs.declared.Ending.the-variants.{Done, NoArrow, Fault, LogFull, Silent, Spent, NoLanding, Refused}
 use Rattle.rules.specs.declared.Refusal.the-variants.{BadLayout, BadBundle, BadCount, BadBase}
-use Rattle.rules.specs.Names.{events, noArrow, mostInstructions, mostBundles, bundleLength, bundleShift, landingCells, cellBits, guestRegisters, hidden, numberOf, answer, endingNumber}
+use Rattle.rules.specs.Names.{events, orders, noArrow, mostInstructions, mostBundles, bundleLength, bundleShift, landingCells, cellBits, guestRegisters, hidden, numberOf, answer, endingNumber}
 use Rattle.rules.specs.Layouts.{span, rightLayout, widthOf, maskOf, inBox, protected}
 use Rattle.rules.specs.Policies.{Policy, arrow, allowed, stateOver}
 use Rattle.rules.specs.Landings.{listed, landingsOf, bitAt, marked}
 use Rattle.rules.specs.Words.{routine, bundlesFor}
-use Rattle.rules.specs.Bytes.{readAnswer, readOutput, writeAnswer, writeOutput}
+use Rattle.rules.specs.Bytes.{wordsIn, readAnswer, readOutput, writeAnswer, writeOutput}
 use Rattle.rules.specs.Commands.{wordOf, shlOf, fetchOf}
-use Rattle.rules.specs.Bundles.{addressOf, lastAddress, positionOf, shapeWith, shapeOf, valid, bundleAt, baseRight, countRight, commandsOf, rewriteAnswer, rewriteOutput, checkAnswer}
-use Rattle.rules.specs.Machines.{State, onward, leftIn, runFrom, runOf, installAnswer, installMemory}
-use Rattle.rules.specs.Guests.{Guest, guestAfter, guestStart, boxOf}
-use Rattle.rules.specs.Runs.{begins, begunFrom, Given, Carried, afterRun, allRuns, after, Run, recordedIn, Matches, Lent, Served, pairsOf, eventsOf, waitingAt, pendingAt}
+use Rattle.rules.specs.Bundles.{addressOf, lastAddress, positionOf, shapeWith, shapeOf, bundleOf, valid, readOff, bundleAt, isBundle, baseRight, countRight, commandsOf, rewriteAnswer, rewriteOutput, checkAnswer}
+use Rattle.rules.specs.Machines.{State, onward, Ran, ranOf, outcomeOf, leftIn, fits, runFrom, runOf, installAnswer, installMemory}
+use Rattle.rules.specs.Guests.{Pair, Guest, guestAfter, guestStart, boxOf}
+use Rattle.rules.specs.Runs.{begins, begunFrom, Given, Carried, carriedOf, atFirst, afterRun, allRuns, after, Run, runsOf, recordedIn, Matches, Lent, Lends, Served, pairsOf, eventsOf, waitingAt, pendingAt}
+use Rattle.rules.specs.Loading.{loadAnswer, loadCommands, loadMemory, loadMachine}
 
 -- ---- masks and sizes
 
@@ -108,6 +109,37 @@ pub record Rewrites (lay : Layout) (ws : List ℕ) : Type 0 where
 
 abbrev pub PassedRewrites : Type 0
 PassedRewrites = (lay : Layout) (ws : List ℕ) → checkAnswer lay ws .number ≡ 0 → Rewrites lay ws
+
+-- four words are the bundle of some valid instruction among N
+pub record Shaped (lay : Layout) (N : ℕ) (words : List ℕ) : Type 0 where
+  pub instr : Instr
+  pub fields : valid N instr ≡ true
+  pub same : bundleOf lay N instr .words ≡ words
+
+-- four words are the bundle of the instruction that is read off them exactly if they are the bundle of some valid instruction:
+-- how it is read off need not be believed
+pub record ShapeLaws (lay : Layout) (N w x y z : ℕ) : Type 0 where
+  pub shaped : isBundle lay N (readOff lay w y z) w x y z ≡ true → Shaped lay N (w ∷ x ∷ y ∷ z ∷ [])
+  pub found : Shaped lay N (w ∷ x ∷ y ∷ z ∷ []) → isBundle lay N (readOff lay w y z) w x y z ≡ true
+
+abbrev pub Shapes : Type 0
+Shapes = (lay : Layout) (N w x y z : ℕ) → ShapeLaws lay N w x y z
+
+-- 'a list of 4N commands, N a power of two from 1 to 1,024, whose bundles all have these shapes and whose last is HALT'; B is a multiple of 4N
+pub record AllShaped (lay : Layout) (ws : List ℕ) (N : ℕ) : Type 0 where
+  pub layout : rightLayout lay ≡ true
+  pub count : countRight (length ws) ≡ true
+  pub base : baseRight lay N ≡ true
+  pub each : (h : ℕ) → h < N → Shaped lay N (take bundleLength (drop (bundleLength * h) ws))
+  pub last : take bundleLength (drop (bundleLength * (N - 1)) ws) ≡ bundleOf lay N HALT .words
+
+-- the checker passes exactly these
+pub record CheckLaws (lay : Layout) (ws : List ℕ) (N : ℕ) : Type 0 where
+  pub passed : checkAnswer lay ws .number ≡ 0 → AllShaped lay ws N
+  pub passes : AllShaped lay ws N → checkAnswer lay ws ≡ answer 0 0
+
+abbrev pub Checks : Type 0
+Checks = (lay : Layout) (ws : List ℕ) → CheckLaws lay ws (length ws / bundleLength)
 
 -- the words of an event's bundle in the order that [12] gave up, LOOK, STOPIF, KEEP, EVENT, with register r for the hidden one
 abbrev pub oldEvent : ℕ → ℕ → List ℕ
@@ -197,12 +229,17 @@ statusAfter Spent = Running
 statusAfter NoLanding = Strayed
 statusAfter Refused = Running
 
--- a run that is not refused answers 20, 21, 22 or 26 exactly where its record has ended, stopped, faulted or strayed
+-- a run answers 7 exactly where the layout is not right or the lent memory's length not U, and then leaves all as it was;
+-- any other answers 20, 21, 22 or 26 exactly where its record has ended, stopped, faulted or strayed
+pub record EndingLaws (lay : Layout) (m : Machine) (mem log : List ℕ) (r : Ran) : Type 0 where
+  pub refused : endingNumber (r .outcome .answer .ending) ≡ numberOf BadLayout → fits lay mem ≡ false
+  pub unfit : fits lay mem ≡ false → r ≡ ranOf (outcomeOf m Refused 0 0 0) mem log
+  pub status : fits lay mem ≡ true → r .outcome .machine .status ≡ statusAfter (r .outcome .answer .ending)
+
 abbrev pub Endings : Type 0
 Endings =
     (lay : Layout) (ws : List ℕ) (m : Machine) (mem : List ℕ) (budget : ℕ) (reads log : List ℕ) →
-    let o = runOf lay ws m mem budget reads log .outcome in
-    (o .answer .ending ≡ Refused → ⊥) → o .machine .status ≡ statusAfter (o .answer .ending)
+    EndingLaws lay m mem log (runOf lay ws m mem budget reads log)
 
 -- ---- every moment
 
@@ -287,6 +324,10 @@ Progress =
 
 -- ---- isolation
 
+-- the pairs carried from run to run are those that the runs' answers count: whichever of the two a claim names, it is the same record
+abbrev pub Recorded : Type 0
+Recorded = (lay : Layout) (pol : Policy) (ws mem : List ℕ) (gs : List Given) → after lay pol ws mem gs .records ≡ recordedIn (allRuns lay pol ws mem gs)
+
 -- every element, and two lists element by element
 abbrev pub Every : {A : Type 0} → (A → Type 0) → List A → Type 0
 Every P [] = Unit {0}
@@ -297,6 +338,13 @@ Each R [] [] = Unit {0}
 Each R [] (y ∷ ys) = ⊥
 Each R (x ∷ xs) [] = ⊥
 Each R (x ∷ xs) (y ∷ ys) = R x y × Each R xs ys
+
+-- request 2: an order's pair is at most its ceiling; of every list of runs of any commands, from any record
+abbrev pub Limited : Layout → Pair → Type 0
+Limited lay p = p .event < orders → p .value ≤ getD (lay .ceilings) (p .event) 0
+
+abbrev pub Ceilings : Type 0
+Ceilings = (lay : Layout) (ws : List ℕ) (c : Carried) (gs : List Given) → Every (Limited lay) (recordedIn (runsOf lay ws c gs))
 
 -- a run does not answer 22
 abbrev pub Sound : Run → Type 0
@@ -345,6 +393,29 @@ pub record Isolated (lay : Layout) (pol : Policy) (ws mem : List ℕ) (gs : List
 -- demand 3
 abbrev pub Isolation : Type 0
 Isolation = (lay : Layout) (pol : Policy) (ws mem : List ℕ) (gs : List Given) → Served lay pol ws mem gs → Isolated lay pol ws mem gs
+
+-- ---- loading
+
+-- what is carried into the first run after a load
+abbrev pub loadedAt : Layout → Policy → List ℕ → ℕ → List ℕ → Carried
+loadedAt lay pol bytes room mem = carriedOf (loadMachine lay pol bytes room mem) (loadMemory lay pol bytes room mem) [] [] 0
+
+-- what a load that answers 0 leaves is on demand 3's premise: its commands, the first that the answer counts, are those that the rewriter gives
+-- and the checker passes; record and memory are an installation's. So every list of runs from there is isolated, if each is lent what the load
+-- or the last run left
+pub record Loaded (lay : Layout) (pol : Policy) (bytes out mem ws : List ℕ) : Type 0 where
+  pub rewritten : rewriteAnswer lay (wordsIn bytes) (length out) .number ≡ 0
+  pub commands : ws ≡ commandsOf lay (wordsIn bytes)
+  pub passed : checkAnswer lay ws .number ≡ 0
+  pub installed : installAnswer lay pol mem .number ≡ 0
+  pub first : loadedAt lay pol bytes (length out) mem ≡ atFirst lay pol mem
+  pub isolated : (gs : List Given) → Lends lay ws (loadedAt lay pol bytes (length out) mem) gs → Isolated lay pol ws mem gs
+
+abbrev pub Loads : Type 0
+Loads =
+    (lay : Layout) (pol : Policy) (bytes out mem : List ℕ) →
+    let a = loadAnswer lay pol bytes (length out) mem in
+    a .number ≡ 0 → Loaded lay pol bytes out mem (take (a .place) (loadCommands lay pol bytes out mem))
 
 -- ---- the pc
 

@@ -10,8 +10,8 @@ pub mod Bundles
 pub mod Machines
 pub mod Guests
 pub mod Runs
-pub mod Claims
 pub mod Loading
+pub mod Claims
 pub mod Tray
 pub mod Sample
 pub mod Proved

@@ -1,5 +1,5 @@
 -- Every claim of this crate, a field each: its one term is `proved`, in proofs/Proved.antt.
-use Rattle.rules.specs.Claims.{Masks, Landings, Installs, Sizes, WordsBack, BytesBack, RewriteLeaves, RewrittenPasses, PassedRewrites, OldRefused, PassedDecodes, ListsBefore, Endings, Splits, Cuts, GuestRule, Resumes, Progress, Isolation, NoWrap, StateCell, PausedWaits, PauseRule}
+use Rattle.rules.specs.Claims.{Masks, Landings, Installs, Sizes, WordsBack, BytesBack, RewriteLeaves, RewrittenPasses, PassedRewrites, Shapes, Checks, OldRefused, PassedDecodes, ListsBefore, Endings, Splits, Cuts, GuestRule, Resumes, Progress, Recorded, Ceilings, Isolation, Loads, NoWrap, StateCell, PausedWaits, PauseRule}
 use Rattle.rules.specs.Tray.{TrayHolds}
 use Rattle.rules.specs.Sample.{SampleHolds}
 
@@ -13,6 +13,8 @@ pub record Proved : Type 0 where
   pub rewriteLeaves : RewriteLeaves
   pub rewrittenPasses : RewrittenPasses
   pub passedRewrites : PassedRewrites
+  pub shapes : Shapes
+  pub checks : Checks
   pub oldRefused : OldRefused
   pub passedDecodes : PassedDecodes
   pub listsBefore : ListsBefore
@@ -22,7 +24,10 @@ pub record Proved : Type 0 where
   pub guestRule : GuestRule
   pub resumes : Resumes
   pub progress : Progress
+  pub recorded : Recorded
+  pub ceilings : Ceilings
   pub isolation : Isolation
+  pub loads : Loads
   pub noWrap : NoWrap
   pub stateCell : StateCell
   pub pausedWaits : PausedWaits

@@ -17,7 +17,8 @@ use Rattle.rules.specs.Bundles.{commandsOf, commandCount, rewriteAnswer, checkA
 use Rattle.rules.specs.Machines.{machineRefused, installAnswer, installMemory, installMachine, installOf}
 use Rattle.rules.specs.Loading.{loadAnswer, loadCommands, loadMemory, loadMachine, loadOf}
 use Rattle.sandbox_translating.specs.Translating.{translateAnswer, Listed}
-use Rattle.sandbox_translating.proofs.Elses.{else-next, else-kept, else-three, else-twice}
+use Rattle.rules.proofs.Refusals.{else-next, else-kept}
+use Rattle.sandbox_translating.proofs.Elses.{else-three, else-twice}
 
 module _ (lay : Layout) (pol : Policy) (s out mem : List ℕ) where
   abbrev installs : Answer

@@ -2,17 +2,9 @@
 use mathlib.Core.Path.{_≡_, refl, sym, ap, _∙_}
 use mathlib.Core.Bool.{Bool, true, false, cond}
 use lib.Dec.{eqb}
-use borrow.Author.Tests.{eq-eqb, ne-eqb, eqb-true, eqb-false}
+use borrow.Author.Tests.{eq-eqb}
 use Rattle.rules.specs.declared.Answer.{Answer}
 use Rattle.rules.specs.Names.{orElse}
-use Rattle.rules.proofs.Bools.{cond-ind}
-
--- the first answer where it is a refusal, else the second
-pub else-next : (a b : Answer) → a .number ≡ 0 → orElse a b ≡ b
-else-next a b e = rw (eq-eqb _ _ e)
-
-pub else-kept : (a b : Answer) → (a .number ≡ 0 → ⊥) → orElse a b ≡ a
-else-kept a b h = rw (ne-eqb _ _ h)
 
 pub else-assoc : (a b c : Answer) → orElse (orElse a b) c ≡ orElse a (orElse b c)
 else-assoc a b c = by (eqb (a .number) 0) refl
@@ -31,9 +23,3 @@ else-twice a d i z = by (eqb (a .number) 0) refl
     by : (t : Bool) → eqb (a .number) 0 ≡ t → orElse (cond t d a) (orElse i (cond t d a)) ≡ cond t (orElse i d) a
     by true e = rw (eq-eqb _ _ z)
     by false e = rw e
-
--- a refusal of none of the two
-pub else-none : (a b : Answer) → orElse a b .number ≡ 0 → (a .number ≡ 0) × (b .number ≡ 0)
-else-none a b =
-    cond-ind (λ (x : Answer). x .number ≡ 0 → (a .number ≡ 0) × (b .number ≡ 0)) (eqb (a .number) 0)
-    (λ t e. (eqb-true _ _ t, e)) (λ t e. absurd (eqb-false _ _ t e))

@@ -18,11 +18,11 @@ use Rattle.rules.specs.Words.{judgeAt, firstRefused, bundlesFor}
 use Rattle.rules.specs.Bytes.{wordsIn, readAnswer, readOutput}
 use Rattle.rules.specs.Bundles.{baseRight, commandsOf, commandCount, placeAnswer, rewriteAnswer, rewriteOutput, checkAnswer}
 use Rattle.rules.proofs.Bools.{cond-ind, cond-map, cases}
-use Rattle.rules.proofs.Refusals.{refused-map}
+use Rattle.rules.proofs.Refusals.{refused-map, else-next, else-kept, else-none}
 use Rattle.rules.proofs.Bytes.{read-ok}
 use Rattle.rules.proofs.Counts.{count-bound, length-commands, rewrite-taken, rewrite-bound}
 use Rattle.sandbox_translating.specs.Translating.{writtenAnswer, writtenOutput, inRoom, checkedAnswer, translateAnswer, Listed}
-use Rattle.sandbox_translating.proofs.Elses.{else-next, else-kept, else-assoc, else-none}
+use Rattle.sandbox_translating.proofs.Elses.{else-assoc}
 
 -- ---- reading, then rewriting
 module _ (s : List ℕ) (a : Answer) (e : a ≡ readAnswer s mostInstructions) where

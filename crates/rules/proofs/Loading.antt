@@ -1,0 +1,70 @@
+-- What a load that answers 0 leaves is on demand 3's premise.
+use mathlib.Core.Path.{_≡_, refl, sym, _∙_, ap, subst}
+use mathlib.Core.List.{List}
+use Prim.Native.Nat.{ℕ}
+use borrow.Author.Tests.{eq-eqb}
+use lib.ListN.{length, take}
+use Rattle.rules.specs.declared.Layout.{Layout}
+use Rattle.rules.specs.declared.Answer.{Answer}
+use Rattle.rules.specs.Names.{mostInstructions, answer}
+use Rattle.rules.specs.Policies.{Policy}
+use Rattle.rules.specs.Bytes.{wordsIn, readAnswer}
+use Rattle.rules.specs.Bundles.{commandsOf, commandCount, rewriteAnswer, checkAnswer}
+use Rattle.rules.specs.Machines.{installAnswer}
+use Rattle.rules.specs.Loading.{loadAnswer, loadCommands, loadMemory, loadMachine}
+use Rattle.rules.specs.Runs.{Carried, atFirst, Lends}
+use Rattle.rules.specs.Claims.{loadedAt, Loads}
+use Rattle.rules.proofs.Refusals.{else-next, else-none, output-start}
+use Rattle.rules.proofs.Counts.{length-commands}
+use Rattle.rules.proofs.Isolation.{isolation}
+
+module _ (lay : Layout) (pol : Policy) (bytes : List ℕ) (room : ℕ) (mem : List ℕ) (z : loadAnswer lay pol bytes room mem .number ≡ 0) where
+  -- no part refuses
+  record Parts : Type 0 where
+    rewritten : rewriteAnswer lay (wordsIn bytes) room .number ≡ 0
+    passed : checkAnswer lay (commandsOf lay (wordsIn bytes)) .number ≡ 0
+    installed : installAnswer lay pol mem .number ≡ 0
+    whole : loadAnswer lay pol bytes room mem ≡ answer 0 (commandCount (length (wordsIn bytes)))
+
+  parts : Parts
+  unfolding loadAnswer
+  parts =
+      let r = else-none (readAnswer bytes mostInstructions) _ z in
+      let w = else-none (rewriteAnswer lay (wordsIn bytes) room) _ (r .1) in
+      let c = else-none (checkAnswer lay (commandsOf lay (wordsIn bytes))) _ (w .1) in
+      let i = else-none (installAnswer lay pol mem) _ (c .1) in
+      record {
+        rewritten = w .0;
+        passed = c .0;
+        installed = i .0;
+        whole = else-next _ _ (r .0) ∙ else-next _ _ (w .0) ∙ else-next _ _ (c .0) ∙ else-next _ _ (i .0);
+      }
+
+  first : loadedAt lay pol bytes room mem ≡ atFirst lay pol mem
+  unfolding loadMachine loadMemory
+  first = rw (eq-eqb _ _ z)
+
+  commands : (out : List ℕ) → length out ≡ room → take (loadAnswer lay pol bytes room mem .place) (loadCommands lay pol bytes out mem) ≡ commandsOf lay (wordsIn bytes)
+  unfolding loadCommands
+  commands out e =
+      rw e
+      (output-start (loadAnswer lay pol bytes room mem) (commandsOf lay (wordsIn bytes)) out z _
+      (length-commands lay (wordsIn bytes) ∙ ap (λ (a : Answer). a .place) (sym (parts .whole))))
+
+pub loads : Loads
+loads lay pol bytes out mem z =
+    let p = parts lay pol bytes (length out) mem z in
+    let f = first lay pol bytes (length out) mem z in
+    let c = commands lay pol bytes (length out) mem z out refl in
+    let ws = take (loadAnswer lay pol bytes (length out) mem .place) (loadCommands lay pol bytes out mem) in
+    let passed = ap (λ (l : List ℕ). checkAnswer lay l .number) c ∙ p .passed in
+    record {
+      rewritten = p .rewritten;
+      commands = c;
+      passed = passed;
+      installed = p .installed;
+      first = f;
+      isolated =
+          λ gs l.
+          isolation lay pol ws mem gs (record { passed = passed; installed = p .installed; lends = subst (λ (x : Carried). Lends lay ws x gs) f l });
+    }
