@@ -8,15 +8,55 @@ use words::arith;
 use words::layout;
 ghost use mathlib.Core.Path.{_≡_};
 ghost use mathlib.Core.Bool.{cond};
-ghost use Prim.Native.Nat.{_+_, _*_, _<_};
+ghost use Prim.Native.Nat.{_+_, _*_};
 ghost use lib.ListN.{getD};
 ghost use Rattle.rules.specs.declared.Effect.the-variants.{Go};
 ghost use Rattle.rules.specs.Names.{events};
 ghost use Rattle.rules.specs.Landings.{marked};
-ghost use Rattle.rules.specs.Words.{judgeAt, instrOf, bundlesFor};
+ghost use Rattle.rules.specs.Layouts.{maskOf};
+ghost use Rattle.rules.specs.Words.{dOf, aOf, bOf, cOf, vOf, instrOf, bundlesFor};
 ghost use Rattle.rules.specs.Commands.{holdsOf};
 ghost use Rattle.rules.specs.Machines.{onward, viewOf};
+ghost use Rattle.engine_acts.specs.Named.{Named};
 ghost use Rattle.engine_rules.specs.Engines.{Judged, jumpOf, sendOf, actOf, nextFor};
+
+// ---- the fields of a word that was judged, and the registers that they name
+
+fn target(w: u64) -> usize
+    ensures { λ r. ⌜ r ≡ dOf w ⌝ }
+{
+    ((w >> 8) % 16) as usize
+}
+
+fn number(w: u64) -> u32
+    ensures { λ r. ⌜ r ≡ vOf w ⌝ }
+{
+    (w >> 32) as u32
+}
+
+fn left_of(w: u64, regs: &[u32; Engine::REGISTERS]) -> u32
+    requires { ⌜ Named w ⌝ }
+    ensures { λ r. ⌜ r ≡ getD (now (regs .entry)) (aOf w) 0 ⌝ }
+{
+    regs[((w >> 12) % 16) as usize]
+}
+
+fn right_of(w: u64, regs: &[u32; Engine::REGISTERS]) -> u32
+    requires { ⌜ Named w ⌝ }
+    ensures { λ r. ⌜ r ≡ getD (now (regs .entry)) (bOf w) 0 ⌝ }
+{
+    regs[((w >> 16) % 16) as usize]
+}
+
+// The cell of a LOAD or a STORE.
+fn address(w: u64, low: u32, high: u32, regs: &[u32; Engine::REGISTERS]) -> usize
+    requires { ⌜ Named w ⌝ }
+    ensures { λ r. ⌜ r ≡ maskOf low high (getD (now (regs .entry)) (aOf w) 0) ⌝ }
+{
+    layout::mask(left_of(w, regs), low, high) as usize
+}
+
+// ---- what an instruction would do
 
 // The address of the policy's entry for event v in the present state, summed without wrap.
 pub fn entry(layout: Layout, v: u32, memory: &[u32]) -> usize
@@ -99,7 +139,8 @@ fn jump(
     Effect::Go(arith::add(at, 1))
 }
 
-// What the word of an instruction would do, n of them in all. Single numbers, no range: so the match becomes one jump.
+// What the word of an instruction would do, n of them in all. Single numbers, no range: so the match becomes one jump; and each arm takes
+// only the fields that it uses, so that none is taken before the jump.
 fn act(
     layout: Layout,
     w: u64,
@@ -111,34 +152,42 @@ fn act(
     free: usize,
     left: usize,
 ) -> Effect
-    requires { ⌜ (judgeAt n w ≡ 0) × (top + 1 ≡ bundlesFor n) ⌝ }
+    requires { ⌜ Named w × (top + 1 ≡ bundlesFor n) ⌝ }
     ensures { λ r. ⌜ r ≡ actOf layout (bundlesFor n) (instrOf w) (viewOf (now (regs .entry)) at (now (memory .entry)) (layout .cell) (layout .table) (layout .base) (layout .landings) free left) ⌝ }
 {
-    let k = w % 256;
-    let d = ((w >> 8) % 16) as usize;
-    let a = ((w >> 12) % 16) as usize;
-    let b = ((w >> 16) % 16) as usize;
-    let c = (w >> 20) % 16;
-    let v = (w >> 32) as u32;
-    let x = regs[a];
-    let y = regs[b];
-    match k {
+    match w % 256 {
         0 => Effect::End(Status::Ended),
-        1 => Effect::Put(d, v),
-        2 => Effect::Put(d, x),
-        3 => Effect::Put(d, arith::add(x, y)),
-        4 => Effect::Put(d, arith::sub(x, y)),
-        5 => Effect::Put(d, arith::and(x, y)),
-        6 => Effect::Put(d, arith::or(x, y)),
-        7 => Effect::Put(d, arith::sar(x, v)),
+        1 => Effect::Put(target(w), number(w)),
+        2 => Effect::Put(target(w), left_of(w, regs)),
+        3 => Effect::Put(target(w), arith::add(left_of(w, regs), right_of(w, regs))),
+        4 => Effect::Put(target(w), arith::sub(left_of(w, regs), right_of(w, regs))),
+        5 => Effect::Put(target(w), arith::and(left_of(w, regs), right_of(w, regs))),
+        6 => Effect::Put(target(w), arith::or(left_of(w, regs), right_of(w, regs))),
+        7 => Effect::Put(target(w), arith::sar(left_of(w, regs), number(w))),
         8 => Effect::Put(
-            d,
-            words_arith::peek(memory, layout::mask(x, layout.low, layout.high) as usize),
+            target(w),
+            words_arith::peek(memory, address(w, layout.low, layout.high, regs)),
         ),
-        9 => Effect::Cell(layout::mask(x, layout.low, layout.high) as usize, y),
-        10 => branch(c, x, y, v, at),
-        11 => jump(c, x, y, regs[d], at, n, top, layout.landings, memory),
-        _ => send(layout, v, regs, at, memory, free, left),
+        9 => Effect::Cell(address(w, layout.low, layout.high, regs), right_of(w, regs)),
+        10 => branch(
+            (w >> 20) % 16,
+            left_of(w, regs),
+            right_of(w, regs),
+            number(w),
+            at,
+        ),
+        11 => jump(
+            (w >> 20) % 16,
+            left_of(w, regs),
+            right_of(w, regs),
+            regs[target(w)],
+            at,
+            n,
+            top,
+            layout.landings,
+            memory,
+        ),
+        _ => send(layout, number(w), regs, at, memory, free, left),
     }
 }
 

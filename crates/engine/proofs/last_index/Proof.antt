@@ -1,6 +1,6 @@
 use native.Mathlib.Omega.{arith}
 use borrow.Author.Needs.{needs}
-use Rattle.engine_acts.proofs.Acting.{count-fits}
+use Rattle.engine.proofs.Running.{count-fits}
 use Rattle.engine.proofs.last_index.Statement.{statement}
 use Rattle.engine.proofs.last_index.Tie as tie
 

@@ -1,0 +1,13 @@
+use borrow.Author.Needs.{needs}
+use Rattle.engine_apply.proofs.probe.Statement.{statement}
+use Rattle.engine_apply.proofs.probe.Tie as tie
+
+pub probe-spec : {M : Type 1} → statement M
+probe-spec =
+    tie.close
+    (tie.spec
+    (λ c κs. search needs)
+    (λ c κs. search needs)
+    (λ c κs. search needs)
+    (λ c. search needs)
+    (λ c. let x = c .before .before .before .before .before .before .peek .ensures in (simp (c .before .before .before .before .put .ensures, x), simp (c .before .before .put2 .ensures, x))))

@@ -1,0 +1,15 @@
+use borrow.Author.Tests.{not-true, not-false}
+use borrow.Author.Needs.{needs}
+use Rattle.engine_judge.proofs.Judging.{bad-layout, oversize, judged}
+use Rattle.engine_judge.proofs.judge.Statement.{statement}
+use Rattle.engine_judge.proofs.judge.Tie as tie
+
+pub judge-spec : {M : Type 1} → statement M
+judge-spec =
+    tie.close
+    (tie.spec
+    (λ c κs. search needs)
+    (λ c. search (bad-layout, not-true, needs))
+    (λ c. search (oversize, not-false, needs))
+    (λ c κs. search needs)
+    (λ c. search (judged, not-false, needs)))

@@ -1,0 +1,32 @@
+use Prim.Native.Nat.{_≤_, _-_}
+use mathlib.Core.Path.{_≡_, refl}
+use native.Mathlib.Omega.{arith}
+use lib.ListN.{length, drop}
+use borrow.Author.Needs.{needs}
+use Rattle.rules.specs.Names.{answer}
+use Rattle.rules.specs.Words.{judgeAt, firstRefused}
+use Rattle.rules.proofs.Refusals.{refused-stop, refused-more, refused-done}
+use Rattle.engine_judge.proofs.judge_all.Statement.{statement}
+use Rattle.engine_judge.proofs.judge_all.Tie as tie
+
+abbrev Inv-loop : tie.InvT-loop
+Inv-loop words n i₀ i = (i ≤ length words) × (firstRefused (judgeAt (length words)) words 0 (answer 0 0) ≡ firstRefused (judgeAt (length words)) (drop i words) i (answer 0 0))
+
+abbrev μ-loop : tie.MeasureT-loop
+μ-loop words n i₀ i = length words - i
+
+pub judge-all-spec : {M : Type 1} → statement M
+judge-all-spec =
+    tie.close
+    (tie.spec
+    Inv-loop
+    μ-loop
+    (λ c. (omega arith, refl))
+    (λ c. search needs)
+    (λ c. search needs)
+    (λ c κs. search needs)
+    (λ c. search (refused-stop, needs))
+    (λ c. search needs)
+    (λ c. search needs)
+    (λ c. search (refused-more, needs))
+    (λ c. search (refused-done, needs)))
