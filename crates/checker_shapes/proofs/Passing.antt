@@ -1,93 +1,103 @@
--- Laws of one bundle.
-use mathlib.Core.Path.{_≡_, refl, sym, subst, _∙_}
-use mathlib.Core.Bool.{Bool, true, false, _&&_, _||_}
-use Prim.Native.Nat.{ℕ, _+_, _-_, _/_, _%_, _^_, _≤_, _<_}
+-- Laws of a bundle, by the kind of its first word.
+use mathlib.Core.Path.{_≡_, refl, sym, _∙_, ap}
+use mathlib.Core.Bool.{Bool, true, false, _&&_, _||_, and-true, and-false, cond}
+use Prim.Native.Nat.{ℕ, _-_, _^_, _≤_, _<_}
 use native.Mathlib.Omega.{arith}
-use lib.Dec.{eqb}
-use borrow.Author.Tests.{le-leb, lt-ltb, eqb-true, eq-eqb, ne-eqb}
+use lib.Dec.{ltb, leb, eqb}
+use borrow.Author.Tests.{ne-eqb, eqb-true, eqb-false, ltb-true, ltb-false, lt-leb}
 use Rattle.rules.specs.declared.Layout.{Layout}
 use Rattle.rules.specs.declared.Instr.{Instr}
-use Rattle.rules.specs.declared.Instr.the-variants.{PLAIN}
-use Rattle.rules.specs.Names.{mostBundles}
-use Rattle.rules.specs.Words.{kindOf, dOf, aOf, bOf, cOf, vOf, zeroOf, packOf, judgeAt, instrOf}
+use Rattle.rules.specs.declared.Instr.the-variants.{HALT, PLAIN, LOAD, STORE, GOIF, GOX, EVENT}
+use Rattle.rules.specs.Words.{kindOf, dOf, aOf, bOf, cOf, vOf}
 use Rattle.rules.specs.Commands.{wordOf}
-use Rattle.rules.specs.Bundles.{addressOf, shapeOf, bundleOf, valid, readOff, isBundle}
+use Rattle.rules.specs.Bundles.{shapeOf, valid, readOff, isBundle}
 use Rattle.rules.proofs.Bools.{both}
-use Rattle.rules.proofs.Facts.{Valid}
-use Rattle.rules.proofs.WordLaws.{pack-fields}
-use Rattle.rules.proofs.GuestWords.{taken-valid}
-use Rattle.words.specs.Packing.{Fits}
-use Rattle.checker_shapes.specs.Sameness.{sameWords, PlainWord}
-use Rattle.checker_shapes.proofs.Shapes.{off-plain}
+use Rattle.checker_shapes.specs.Sameness.{alone, plainWords, accessOf, landingOf, goifWords, eventWords}
+use Rattle.checker_shapes.proofs.Shapes.{plain-is, goif-is}
 
--- ---- one bundle
+-- no count of bundles is asked of LOAD and STORE
+any-count : (l : Layout) (n w x y z d a b : ℕ) (t : Bool) → isBundle l 0 (cond t (LOAD d a) (STORE a b)) w x y z ≡ isBundle l n (cond t (LOAD d a) (STORE a b)) w x y z
+unfolding isBundle valid shapeOf
+any-count l n w x y z d a b true = refl
+any-count l n w x y z d a b false = refl
 
-pub fits : (l : Layout) (n : ℕ) (i : Instr) (t : Bool) → 0 < n → n ≤ mostBundles → addressOf l n ≤ 2 ^ 32 → t ≡ valid n i → t ≡ true → Fits l n i
-fits l n i t s m r et e = record { some = s; most = m; top = r; valid = sym et ∙ e }
+module _ (l : Layout) (n w x y z : ℕ) where
+  halt-is : alone w x y z 1 ≡ isBundle l n HALT w x y z
+  unfolding isBundle valid shapeOf wordOf
+  halt-is = refl
 
-module _ (l : Layout) (n : ℕ) (i : Instr) (w x y z : ℕ) (t : Bool) (et : t ≡ valid n i) where
-  pub not-bundle : t ≡ false → false ≡ isBundle l n i w x y z
-  unfolding isBundle
-  not-bundle h = rw (← et, h)
+  event-is : eventWords w x y z ≡ isBundle l n (EVENT (vOf w)) w x y z
+  unfolding isBundle valid shapeOf wordOf
+  event-is = refl
 
-  pub is-bundle : t ≡ true → (s : Bool) → s ≡ sameWords w x y z (bundleOf l n i .words) → s ≡ isBundle l n i w x y z
-  unfolding isBundle
-  is-bundle h s es = es ∙ rw (← et, h)
+  off-halt : kindOf w ≡ 1 → HALT ≡ readOff l w y z
+  unfolding readOff
+  off-halt k = rw k
 
--- ---- a plain command
+  off-plain : (kindOf w ≡ 1 → ⊥) → (kindOf w ≡ 9 → ⊥) → (kindOf w ≡ 14 → ⊥) → (kindOf w ≡ 11 → ⊥) → (kindOf w ≡ 16 → ⊥)
+      → PLAIN (kindOf w - 1) (dOf w) (aOf w) (bOf w) (vOf w) ≡ readOff l w y z
+  unfolding readOff
+  off-plain a b c d f =
+      rw (ne-eqb (kindOf w) 1 a, ne-eqb (kindOf w) 9 b, ne-eqb (kindOf w) 14 c, ne-eqb (kindOf w) 11 d, ne-eqb (kindOf w) 16 f)
 
-pub plain-facts : (n w : ℕ) → 2 ≤ kindOf w → kindOf w ≤ 8 → (j : ℕ) → j ≡ judgeAt n (w - 1) → (eqb j 0 && eqb (w / 2 ^ 20 % 2 ^ 12) 0) ≡ true → PlainWord n w
-plain-facts n w lo hi j ej t =
-    let t1 = both (eqb j 0) (eqb (w / 2 ^ 20 % 2 ^ 12) 0) t in
-    (lo, hi, sym ej ∙ eqb-true j 0 (t1 .0), eqb-true (w / 2 ^ 20 % 2 ^ 12) 0 (t1 .1))
+  -- ---- the last bundle
 
-module _ (w : ℕ) (lo : 2 ≤ kindOf w) (hi : kindOf w ≤ 8) where
-  abbrev plain : Instr
-  plain = PLAIN (kindOf w - 1) (dOf w) (aOf w) (bOf w) (vOf w)
+  module _ (m : Bool) where
+    pub last-is : m ≡ false → (r : Bool) → r ≡ alone w x y z 1 → r ≡ (isBundle l n (readOff l w y z) w x y z && (m || eqb (kindOf w) 1))
+    last-is em r er = er ∙ rw em (go (eqb (kindOf w) 1) refl)
+      where
+        go : (t : Bool) → eqb (kindOf w) 1 ≡ t → alone w x y z 1 ≡ (isBundle l n (readOff l w y z) w x y z && eqb (kindOf w) 1)
+        go true e = rw (e, ← (off-halt (eqb-true _ _ e))) (halt-is ∙ sym (and-true (isBundle l n HALT w x y z)))
+        go false e =
+            rw (e, ne-eqb w 1 (λ (q : w ≡ 1). eqb-false _ _ e (ap (λ (v : ℕ). kindOf v) q)))
+            (sym (and-false (isBundle l n (readOff l w y z) w x y z)))
 
-  plain-instr : instrOf (w - 1) ≡ plain
-  unfolding instrOf
-  plain-instr =
-      let k : kindOf (w - 1) ≡ kindOf w - 1 = omega arith in
-      let q8 : (w - 1) / 2 ^ 8 ≡ w / 2 ^ 8 = omega arith in
-      let q12 : (w - 1) / 2 ^ 12 ≡ w / 2 ^ 12 = omega arith in
-      let q16 : (w - 1) / 2 ^ 16 ≡ w / 2 ^ 16 = omega arith in
-      let q32 : (w - 1) / 2 ^ 32 ≡ w / 2 ^ 32 = omega arith in
-      rw (k, q8, q12, q16, q32, ne-eqb (kindOf w - 1) 0 (λ (e : kindOf w - 1 ≡ 0). omega arith), lt-ltb (kindOf w - 1) 8 (omega arith))
+    -- ---- those before it
 
-  plain-off : (l : Layout) (y z : ℕ) → plain ≡ readOff l w y z
-  plain-off l y z =
-      off-plain l w y z (λ (e : kindOf w ≡ 1). omega arith) (λ (e : kindOf w ≡ 9). omega arith) (λ (e : kindOf w ≡ 14). omega arith) (λ (e : kindOf w ≡ 11). omega arith)
-      (λ (e : kindOf w ≡ 16). omega arith) (kindOf w - 1) refl
+    module _ (em : m ≡ true) (r : Bool) where
+      passing : (i : Instr) → i ≡ readOff l w y z → r ≡ isBundle l n i w x y z → r ≡ (isBundle l n (readOff l w y z) w x y z && (m || eqb (kindOf w) 1))
+      passing i ei er = rw (em, and-true (isBundle l n (readOff l w y z) w x y z), ← ei) er
 
-  plain-valid : (n : ℕ) → judgeAt n (w - 1) ≡ 0 → valid n plain ≡ true
-  unfolding valid
-  plain-valid n j =
-      let g : Valid (n + 1) plain = subst (Valid (n + 1)) plain-instr (taken-valid n (w - 1) j) in
-      simp (le-leb _ _ (g .0), le-leb _ _ (g .1), lt-ltb _ _ (g .2), lt-ltb _ _ (g .3), lt-ltb _ _ (g .4), le-leb _ _ (g .5), le-leb _ _ (g .6), le-leb _ _ (g .7), le-leb _ _ (g .8))
+      pub pass-halt : kindOf w ≡ 1 → r ≡ alone w x y z 1 → r ≡ (isBundle l n (readOff l w y z) w x y z && (m || eqb (kindOf w) 1))
+      pass-halt k er = passing HALT (off-halt k) (er ∙ halt-is)
 
-  plain-word : w / 2 ^ 20 % 2 ^ 12 ≡ 0 → w ≡ packOf (kindOf w - 1 + 1) (dOf w) (aOf w) (bOf w) 0 (vOf w)
-  plain-word e =
-      let z : zeroOf w ≡ 0 = omega arith in
-      let c : cOf w ≡ 0 = omega arith in
-      let k : kindOf w - 1 + 1 ≡ kindOf w = omega arith in
-      rw k (sym (rw c at (pack-fields w z)))
+      pub pass-plain : (ltb 1 (kindOf w) && ltb (kindOf w) 9) ≡ true → r ≡ plainWords w x y z → r ≡ (isBundle l n (readOff l w y z) w x y z && (m || eqb (kindOf w) 1))
+      pass-plain t er =
+          let h = both (ltb 1 (kindOf w)) (ltb (kindOf w) 9) t in
+          let lo : 2 ≤ kindOf w = ltb-true 1 (kindOf w) (h .0) in
+          let hi : kindOf w < 9 = ltb-true (kindOf w) 9 (h .1) in
+          passing (PLAIN (kindOf w - 1) (dOf w) (aOf w) (bOf w) (vOf w))
+          (off-plain (λ (e : kindOf w ≡ 1). omega arith) (λ (e : kindOf w ≡ 9). omega arith) (λ (e : kindOf w ≡ 14). omega arith) (λ (e : kindOf w ≡ 11). omega arith) (λ (e : kindOf w ≡ 16). omega arith))
+          (er ∙ plain-is n w lo (omega arith) l x y z)
 
-plain-bundle : (l : Layout) (n w x y z : ℕ) → PlainWord n w → x ≡ 0 → y ≡ 0 → z ≡ 0 → isBundle l n (readOff l w y z) w x y z ≡ true
-unfolding isBundle shapeOf wordOf
-plain-bundle l n w x y z p ex ey ez =
-    rw (← (plain-off w (p .0) (p .1) l y z), plain-valid w (p .0) (p .1) n (p .2), eq-eqb w _ (plain-word w (p .0) (p .1) (p .3)), ex, ey, ez)
+      pub pass-access : kindOf w ≡ 9 → r ≡ isBundle l 0 (accessOf w y) w x y z → r ≡ (isBundle l n (readOff l w y z) w x y z && (m || eqb (kindOf w) 1))
+      unfolding readOff
+      pass-access k er = passing (accessOf w y) (rw k) (er ∙ any-count l n w x y z (dOf y) (aOf w) (bOf y) (eqb (kindOf y) 12))
 
-module _ (l : Layout) (n w x y z : ℕ) (m : Bool) where
-  pub passing : (i : Instr) → i ≡ readOff l w y z → (s : Bool) → s ≡ isBundle l n i w x y z
-      → (s && (m || eqb (kindOf w) 1)) ≡ (isBundle l n (readOff l w y z) w x y z && (m || eqb (kindOf w) 1))
-  passing i ei s es = rw (es, ei)
+      pub pass-gox : kindOf w ≡ 11 → r ≡ isBundle l n (GOX (aOf w) (aOf z) (bOf z) (cOf z)) w x y z → r ≡ (isBundle l n (readOff l w y z) w x y z && (m || eqb (kindOf w) 1))
+      unfolding readOff
+      pass-gox k er = passing (GOX (aOf w) (aOf z) (bOf z) (cOf z)) (rw k) er
 
-  pub plain-passing : (p : Bool) → (p ≡ true → PlainWord n w) → (p && eqb x 0 && eqb y 0 && eqb z 0 && m) ≡ true
-      → true ≡ (isBundle l n (readOff l w y z) w x y z && (m || eqb (kindOf w) 1))
-  plain-passing p f t =
-      let t4 = both (p && eqb x 0 && eqb y 0 && eqb z 0) m t in
-      let t3 = both (p && eqb x 0 && eqb y 0) (eqb z 0) (t4 .0) in
-      let t2 = both (p && eqb x 0) (eqb y 0) (t3 .0) in
-      let t1 = both p (eqb x 0) (t2 .0) in
-      rw (plain-bundle l n w x y z (f (t1 .0)) (eqb-true x 0 (t1 .1)) (eqb-true y 0 (t2 .1)) (eqb-true z 0 (t3 .1)), t4 .1)
+      pub pass-goif : w < 2 ^ 64 → kindOf w ≡ 14 → r ≡ goifWords l n w x y z → r ≡ (isBundle l n (readOff l w y z) w x y z && (m || eqb (kindOf w) 1))
+      unfolding readOff
+      pass-goif fits k er = passing (GOIF (aOf w) (bOf w) (cOf w) (landingOf l (vOf w))) (rw k) (er ∙ goif-is l n w fits k x y z)
+
+      pub pass-event : kindOf w ≡ 16 → r ≡ eventWords w x y z → r ≡ (isBundle l n (readOff l w y z) w x y z && (m || eqb (kindOf w) 1))
+      unfolding readOff
+      pass-event k er = passing (EVENT (vOf w)) (rw k) (er ∙ event-is)
+
+    -- a kind that no shape begins with
+    pub pass-none : (ltb 1 (kindOf w) && ltb (kindOf w) 9) ≡ false → (kindOf w ≡ 1 → ⊥) → (kindOf w ≡ 9 → ⊥) → (kindOf w ≡ 11 → ⊥) → (kindOf w ≡ 14 → ⊥) → (kindOf w ≡ 16 → ⊥)
+        → false ≡ (isBundle l n (readOff l w y z) w x y z && (m || eqb (kindOf w) 1))
+    unfolding isBundle valid
+    pass-none t k1 k9 k11 k14 k16 = rw (← (off-plain k1 k9 k14 k11 k16)) (go (ltb 1 (kindOf w)) refl)
+      where
+        go : (s : Bool) → ltb 1 (kindOf w) ≡ s → false ≡ (isBundle l n (PLAIN (kindOf w - 1) (dOf w) (aOf w) (bOf w) (vOf w)) w x y z && (m || eqb (kindOf w) 1))
+        go true e =
+            let f : ltb (kindOf w) 9 ≡ false = (rw e at t) in
+            let h : 9 ≤ kindOf w = ltb-false (kindOf w) 9 f in
+            rw (lt-leb (kindOf w - 1) 7 (omega arith), and-false (leb 1 (kindOf w - 1)))
+        go false e =
+            let h : kindOf w ≤ 1 = ltb-false 1 (kindOf w) e in
+            let z : kindOf w ≡ 0 = omega arith in
+            rw z

@@ -1,187 +1,181 @@
--- Laws of the bundle that four words can be, and of the words of a bundle.
-use mathlib.Core.Path.{_≡_, refl, sym, _∙_, ap}
-use mathlib.Core.Bool.{Bool, true, false, _&&_, and-false, cond}
-use mathlib.Core.List.{[], _∷_}
-use Prim.Native.Nat.{ℕ, _+_, _-_, _/_, _^_, _≤_, _<_}
+-- Laws of the shapes, each of four words and the instruction whose bundle they can be.
+use mathlib.Core.Path.{_≡_, refl, sym, _∙_, ap, subst}
+use mathlib.Core.Bool.{Bool, true, false, _&&_, cond}
+use Prim.Native.Nat.{ℕ, zero, suc, _+_, _-_, _*_, _/_, _%_, _^_, _≤_, _<_}
 use native.Mathlib.Omega.{arith}
+use native.Mathlib.Nat.{mod-eq-of-lt}
 use lib.Dec.{ltb, leb, eqb}
-use borrow.Author.Tests.{lt-ltb, le-leb, lt-leb, ne-eqb}
+use borrow.Author.Tests.{lt-ltb, le-ltb, le-leb, eqb-true, eq-eqb, ne-eqb, ltb-true, ltb-false}
 use Rattle.rules.specs.declared.Layout.{Layout}
 use Rattle.rules.specs.declared.Fields.{Fields}
 use Rattle.rules.specs.declared.Instr.{Instr}
-use Rattle.rules.specs.declared.Instr.the-variants.{HALT, PLAIN, LOAD, STORE, GOIF, GOX, EVENT}
-use Rattle.rules.specs.declared.Bundle.{Bundle}
-use Rattle.rules.specs.declared.Limits.{Limits}
-use Rattle.rules.specs.Names.{bundleLength, guestRegisters, hidden, topRegister, topCondition, events}
-use Rattle.rules.specs.Words.{kindOf, dOf, aOf, bOf, cOf, vOf, fieldsOf}
-use Rattle.rules.specs.Words.{limitOf}
-use Rattle.rules.specs.Commands.{limitsOf}
-use Rattle.rules.specs.Bundles.{addressOf, lastAddress, bundleOf, readOff, valid}
-use Rattle.words.specs.Packing.{cutWord, Fits}
-use Rattle.words.proofs.Laying.{lay-halt, lay-plain, lay-load, lay-store, lay-goif, lay-gox, lay-event}
-use Rattle.checker_shapes.specs.Sameness.{sameWords, alone}
+use Rattle.rules.specs.declared.Instr.the-variants.{PLAIN, LOAD, STORE, GOIF, GOX}
+use Rattle.rules.specs.Names.{bundleLength, guestRegisters, hidden, topCondition, events}
+use Rattle.rules.specs.Words.{kindOf, dOf, aOf, bOf, cOf, vOf, zeroOf, fieldsOf, packOf, packFields}
+use Rattle.rules.specs.Commands.{limitsOf, isCommand, wordOf}
+use Rattle.rules.specs.Bundles.{addressOf, lastAddress, shapeOf, valid, isBundle}
+use Rattle.rules.proofs.Bools.{both, join}
+use Rattle.rules.proofs.Facts.{Valid}
+use Rattle.rules.proofs.Conditions.{valid-is}
+use Rattle.rules.proofs.WordLaws.{bits-pack, pack-fields}
+use Rattle.words.specs.Packing.{cutWord}
+use Rattle.words.specs.Guests.{guestsOf}
+use Rattle.words.proofs.Laws.{Within, command-in, command-from, bool-ext}
+use Rattle.checker_shapes.specs.Sameness.{plainWords, accessOf, landingOf, landsOf, goifWords, eventWords}
 
--- ---- the instruction whose bundle four words can be
+-- packing cuts nothing off fields that fit
+pub uncut : (w k d a b c v : ℕ) → k < 2 ^ 8 → d < 2 ^ 4 → a < 2 ^ 4 → b < 2 ^ 4 → c < 2 ^ 4 → v < 2 ^ 32 → (p : ℕ) → p ≡ cutWord k d a b c v → eqb w p ≡ eqb w (packOf k d a b c v)
+uncut w k d a b c v hk hd ha hb hc hv p e =
+    rw (e, mod-eq-of-lt hk, mod-eq-of-lt hd, mod-eq-of-lt ha, mod-eq-of-lt hb, mod-eq-of-lt hc, mod-eq-of-lt hv)
 
-pub off-plain : (l : Layout) (w y z : ℕ) → (kindOf w ≡ 1 → ⊥) → (kindOf w ≡ 9 → ⊥) → (kindOf w ≡ 14 → ⊥) → (kindOf w ≡ 11 → ⊥) → (kindOf w ≡ 16 → ⊥)
-    → (x : ℕ) → x ≡ kindOf w - 1 → PLAIN x (dOf w) (aOf w) (bOf w) (vOf w) ≡ readOff l w y z
-unfolding readOff
-off-plain l w y z a b c d f x e =
-    rw (ne-eqb (kindOf w) 1 a, ne-eqb (kindOf w) 9 b, ne-eqb (kindOf w) 14 c, ne-eqb (kindOf w) 11 d, ne-eqb (kindOf w) 16 f, e)
+pub plain-words : (w x y z : ℕ) (p q : Bool) → p ≡ isCommand w → q ≡ guestsOf w → (p && q && eqb x 0 && eqb y 0 && eqb z 0) ≡ plainWords w x y z
+plain-words w x y z p q ep eq = rw (ep, eq)
 
-pub is-access : (a y : ℕ) (f : Fields) → f ≡ fieldsOf y → f .kind ≡ 12 → LOAD (f .d) a ≡ cond (eqb (kindOf y) 12) (LOAD (dOf y) a) (STORE a (bOf y))
-is-access a y f e k = let k′ : kindOf y ≡ 12 = sym (ap (λ (g : Fields). g .kind) e) ∙ k in rw (e, k′)
+pub goif-words : (l : Layout) (n w x y z : ℕ) (p q s : Bool) → p ≡ isCommand w → q ≡ guestsOf w → s ≡ landsOf l n (vOf w) → (p && q && s && eqb x 0 && eqb y 0 && eqb z 0) ≡ goifWords l n w x y z
+goif-words l n w x y z p q s ep eq es = rw (ep, eq, es)
 
-pub is-other : (a y : ℕ) (f : Fields) → f ≡ fieldsOf y → (f .kind ≡ 12 → ⊥) → STORE a (f .b) ≡ cond (eqb (kindOf y) 12) (LOAD (dOf y) a) (STORE a (bOf y))
-is-other a y f e k = rw (e, ne-eqb (kindOf y) 12 (λ (q : kindOf y ≡ 12). k (ap (λ (g : Fields). g .kind) e ∙ q)))
+pub event-words : (w x y z : ℕ) (p q s t : Bool) → p ≡ eqb w (packOf 16 hidden 0 0 0 (vOf w)) → q ≡ eqb x (packOf 17 hidden 0 0 0 0) → s ≡ eqb y (packOf 19 0 0 0 0 (vOf w)) → t ≡ eqb z (packOf 18 hidden 0 0 0 0)
+    → (ltb (vOf w) events && p && q && s && t) ≡ eventWords w x y z
+event-words w x y z p q s t ep eq es et = rw (ep, eq, es, et)
 
-pub is-gox : (d z : ℕ) (f : Fields) → f ≡ fieldsOf z → GOX d (f .a) (f .b) (f .c) ≡ GOX d (aOf z) (bOf z) (cOf z)
-is-gox d z f e = rw e
+-- ---- LOAD and STORE
 
-module _ (l : Layout) (w y z : ℕ) (f : Fields) (e : f ≡ fieldsOf w) where
-  kind-of : f .kind ≡ kindOf w
-  kind-of = ap (λ (g : Fields). g .kind) e
+module _ (l : Layout) (w x y z : ℕ) (p q s : Bool) (ep : p ≡ eqb w (packOf 9 hidden (aOf w) 0 0 (l .high))) (eq : q ≡ eqb x (packOf 10 hidden hidden 0 0 (l .low))) where
+  pub load-is : s ≡ eqb y (packOf 12 (dOf y) hidden 0 0 0)
+      → (ltb (dOf y) guestRegisters && ltb (aOf w) guestRegisters && p && q && s && eqb z 0) ≡ isBundle l 0 (LOAD (dOf y) (aOf w)) w x y z
+  unfolding isBundle valid shapeOf wordOf
+  load-is es = rw (ep, eq, es)
 
-  pub off-halt : f .kind ≡ 1 → HALT ≡ readOff l w y z
-  unfolding readOff
-  off-halt k = rw (sym kind-of ∙ k)
+  pub store-is : s ≡ eqb y (packOf 13 0 hidden (bOf y) 0 0)
+      → (ltb (aOf w) guestRegisters && ltb (bOf y) guestRegisters && p && q && s && eqb z 0) ≡ isBundle l 0 (STORE (aOf w) (bOf y)) w x y z
+  unfolding isBundle valid shapeOf wordOf
+  store-is es = rw (ep, eq, es)
 
-  pub off-access : f .kind ≡ 9 → (r : Instr) → r ≡ cond (eqb (kindOf y) 12) (LOAD (dOf y) (f .a)) (STORE (f .a) (bOf y)) → r ≡ readOff l w y z
-  unfolding readOff
-  off-access k r p = p ∙ rw (e, sym kind-of ∙ k)
+module _ (l : Layout) (w x y z : ℕ) (r : Bool) where
+  pub by-load : kindOf y ≡ 12 → r ≡ isBundle l 0 (LOAD (dOf y) (aOf w)) w x y z → r ≡ isBundle l 0 (accessOf w y) w x y z
+  by-load k e = e ∙ rw k
 
-  pub off-goif : f .kind ≡ 14 → (x : ℕ) → x ≡ f .v - l .base → GOIF (f .a) (f .b) (f .c) (x / bundleLength) ≡ readOff l w y z
-  unfolding readOff
-  off-goif k x ex = rw (ex, e, sym kind-of ∙ k)
+  pub by-store : (kindOf y ≡ 12 → ⊥) → r ≡ isBundle l 0 (STORE (aOf w) (bOf y)) w x y z → r ≡ isBundle l 0 (accessOf w y) w x y z
+  by-store k e = e ∙ rw (ne-eqb (kindOf y) 12 k)
 
-  pub off-gox : f .kind ≡ 11 → (r : Instr) → r ≡ GOX (f .a) (aOf z) (bOf z) (cOf z) → r ≡ readOff l w y z
-  unfolding readOff
-  off-gox k r p = p ∙ rw (e, sym kind-of ∙ k)
+-- ---- GOX: its second word holds the last address, formed from the one after it
 
-  pub off-event : f .kind ≡ 16 → EVENT (f .v) ≡ readOff l w y z
-  unfolding readOff
-  off-event k = rw (e, sym kind-of ∙ k)
+pub gox-is : (l : Layout) (n w x y z : ℕ) (g : ℕ) → g ≡ addressOf l n → (p q s t : Bool) → p ≡ eqb w (packOf 11 hidden (aOf w) 0 0 2) → q ≡ eqb x (packOf 9 hidden hidden 0 0 (g - 1))
+    → s ≡ eqb y (packOf 10 hidden hidden 0 0 (l .base)) → t ≡ eqb z (packOf 15 hidden (aOf z) (bOf z) (cOf z) 0)
+    → (ltb (aOf w) guestRegisters && ltb (aOf z) guestRegisters && ltb (bOf z) guestRegisters && leb (cOf z) topCondition && p && q && s && t)
+    ≡ isBundle l n (GOX (aOf w) (aOf z) (bOf z) (cOf z)) w x y z
+unfolding isBundle valid shapeOf wordOf
+gox-is l n w x y z g eg p q s t ep eq es et = rw (ep, eq, es, et, eg)
 
-  pub off-rest : (f .kind ≡ 1 → ⊥) → (f .kind ≡ 9 → ⊥) → (f .kind ≡ 14 → ⊥) → (f .kind ≡ 11 → ⊥) → (f .kind ≡ 16 → ⊥)
-      → (x : ℕ) → x ≡ f .kind - 1 → PLAIN x (f .d) (f .a) (f .b) (f .v) ≡ readOff l w y z
-  off-rest k1 k9 k14 k11 k16 x ex =
-      rw e
-      (off-plain l w y z (λ (q : kindOf w ≡ 1). k1 (kind-of ∙ q)) (λ (q : kindOf w ≡ 9). k9 (kind-of ∙ q)) (λ (q : kindOf w ≡ 14). k14 (kind-of ∙ q))
-      (λ (q : kindOf w ≡ 11). k11 (kind-of ∙ q)) (λ (q : kindOf w ≡ 16). k16 (kind-of ∙ q)) x (ex ∙ ap (λ (m : ℕ). m - 1) kind-of))
+-- ---- GOIF
 
--- ---- what makes an instruction valid
+module _ (l : Layout) (n v : ℕ) where
+  pub lands-below : v < l .base → false ≡ landsOf l n v
+  lands-below h = rw (ne-eqb v (addressOf l (landingOf l v)) (λ (e : v ≡ addressOf l (landingOf l v)). omega arith))
 
-pub three-limits : (k : ℕ) → 1 ≤ k → k ≤ 7 → (k ≡ 1 → ⊥) → (k ≡ 2 → ⊥) → (k ≡ 7 → ⊥) → limitOf topRegister topRegister topRegister 0 0 ≡ limitsOf (k + 1)
-three-limits k h0 h1 n1 n2 n3 =
-    let l : k + 1 < 8 = omega arith in
-    let m0 : k + 1 ≡ 0 → ⊥ = λ (e : k + 1 ≡ 0). omega arith in
-    let m1 : k + 1 ≡ 1 → ⊥ = λ (e : k + 1 ≡ 1). omega arith in
-    let m2 : k + 1 ≡ 2 → ⊥ = λ (e : k + 1 ≡ 2). n1 (omega arith) in
-    let m3 : k + 1 ≡ 3 → ⊥ = λ (e : k + 1 ≡ 3). n2 (omega arith) in
-    rw (ne-eqb (k + 1) 0 m0, ne-eqb (k + 1) 1 m1, ne-eqb (k + 1) 2 m2, ne-eqb (k + 1) 3 m3, lt-ltb (k + 1) 8 l)
+  pub lands-is : l .base ≤ v → (eqb ((v - l .base) % bundleLength) 0 && ltb (landingOf l v) n) ≡ landsOf l n v
+  lands-is h =
+      ap (λ (t : Bool). t && ltb (landingOf l v) n)
+      (bool-ext (eqb ((v - l .base) % bundleLength) 0) (eqb v (addressOf l (landingOf l v)))
+      (λ t. let e = eqb-true ((v - l .base) % bundleLength) 0 t in eq-eqb v (addressOf l (landingOf l v)) (omega arith))
+      (λ t. let e = eqb-true v (addressOf l (landingOf l v)) t in eq-eqb ((v - l .base) % bundleLength) 0 (omega arith)))
 
-module _ (k d a b v : ℕ) where
-  pub plain-low : k < 1 → false ≡ valid 0 (PLAIN k d a b v)
+module _ (l : Layout) (n w : ℕ) (fits : w < 2 ^ 64) (k : kindOf w ≡ 14) where
+  abbrev g : ℕ
+  g = landingOf l (vOf w)
+
+  abbrev goif : Instr
+  goif = GOIF (aOf w) (bOf w) (cOf w) g
+
+  abbrev goif-fields : Fields
+  goif-fields = record { kind = 14; d = 0; a = aOf w; b = bOf w; c = cOf w; v = addressOf l g }
+
+  goif-in : (isCommand w && guestsOf w && landsOf l n (vOf w)) ≡ true → (valid n goif && eqb w (packFields goif-fields)) ≡ true
   unfolding valid
-  plain-low h = rw (lt-leb 1 k h)
+  goif-in t =
+      let t₁ = both (isCommand w && guestsOf w) (landsOf l n (vOf w)) t in
+      let t₀ = both (isCommand w) (guestsOf w) (t₁ .0) in
+      let i : Within (limitsOf 14) w = subst (λ (j : ℕ). Within (limitsOf j) w) k (command-in w (t₀ .0)) in
+      let gb = both (ltb (dOf w) guestRegisters && ltb (aOf w) guestRegisters) (ltb (bOf w) guestRegisters) (t₀ .1) in
+      let ga = both (ltb (dOf w) guestRegisters) (ltb (aOf w) guestRegisters) (gb .0) in
+      let at = both (eqb (vOf w) (addressOf l g)) (ltb g n) (t₁ .1) in
+      let ev : vOf w ≡ addressOf l g = eqb-true _ _ (at .0) in
+      let ed : dOf w ≡ 0 = omega (arith, i .d) in
+      let ew : w ≡ packFields goif-fields = sym (rw (k, ed, ev) at (pack-fields w (i .zero))) in
+      simp (ga .1, gb .1, le-leb (cOf w) topCondition (i .c), at .1, eq-eqb w (packFields goif-fields) ew)
 
-  pub plain-high : 7 < k → false ≡ valid 0 (PLAIN k d a b v)
+  goif-out : (valid n goif && eqb w (packFields goif-fields)) ≡ true → (isCommand w && guestsOf w && landsOf l n (vOf w)) ≡ true
+  goif-out t =
+      let t₀ = both (valid n goif) (eqb w (packFields goif-fields)) t in
+      let h : Valid n goif = valid-is n goif (t₀ .0) in
+      let ew : w ≡ packFields goif-fields = eqb-true _ _ (t₀ .1) in
+      let back = bits-pack goif-fields (omega arith, omega arith, omega arith, omega arith, omega arith) in
+      let ed : dOf w ≡ 0 = ap dOf ew ∙ ap (λ (f : Fields). f .d) (back .0) in
+      let ev : vOf w ≡ addressOf l g = ap vOf ew ∙ ap (λ (f : Fields). f .v) (back .0) in
+      let ez : zeroOf w ≡ 0 = ap zeroOf ew ∙ back .1 in
+      let i : Within (limitsOf 14) w =
+      record { kind = omega arith; zero = ez; d = omega arith; a = omega arith; b = omega arith; c = h .2; v = omega arith } in
+      let c : isCommand w ≡ true = command-from w (subst (λ (j : ℕ). Within (limitsOf j) w) (sym k) i) in
+      simp (c, lt-ltb (dOf w) guestRegisters (omega arith), lt-ltb (aOf w) guestRegisters (h .0), lt-ltb (bOf w) guestRegisters (h .1), eq-eqb (vOf w) (addressOf l g) ev, lt-ltb g n (h .3))
+
+  pub goif-is : (x y z : ℕ) → (isCommand w && guestsOf w && landsOf l n (vOf w) && eqb x 0 && eqb y 0 && eqb z 0) ≡ isBundle l n goif w x y z
+  unfolding isBundle shapeOf wordOf
+  goif-is x y z =
+      ap (λ (t : Bool). t && eqb x 0 && eqb y 0 && eqb z 0)
+      (bool-ext (isCommand w && guestsOf w && landsOf l n (vOf w)) (valid n goif && eqb w (packFields goif-fields)) goif-in goif-out)
+
+-- ---- the plain kinds
+
+no-condition : (k : ℕ) → 2 ≤ k → k ≤ 8 → limitsOf k .c ≡ 0
+no-condition zero lo hi = absurd (omega arith)
+no-condition (suc zero) lo hi = absurd (omega arith)
+no-condition (suc (suc zero)) lo hi = refl
+no-condition (suc (suc (suc zero))) lo hi = refl
+no-condition (suc (suc (suc (suc zero)))) lo hi = refl
+no-condition (suc (suc (suc (suc (suc zero))))) lo hi = refl
+no-condition (suc (suc (suc (suc (suc (suc zero)))))) lo hi = refl
+no-condition (suc (suc (suc (suc (suc (suc (suc zero))))))) lo hi = refl
+no-condition (suc (suc (suc (suc (suc (suc (suc (suc zero)))))))) lo hi = refl
+no-condition (suc (suc (suc (suc (suc (suc (suc (suc (suc k))))))))) lo hi = absurd (omega arith)
+
+module _ (n w : ℕ) (lo : 2 ≤ kindOf w) (hi : kindOf w ≤ 8) where
+  abbrev pub plain-instr : Instr
+  plain-instr = PLAIN (kindOf w - 1) (dOf w) (aOf w) (bOf w) (vOf w)
+
+  abbrev plain-fields : Fields
+  plain-fields = record { kind = kindOf w - 1 + 1; d = dOf w; a = aOf w; b = bOf w; c = 0; v = vOf w }
+
+  next : kindOf w - 1 + 1 ≡ kindOf w
+  next = omega arith
+
+  plain-in : (isCommand w && guestsOf w) ≡ true → (valid n plain-instr && eqb w (packFields plain-fields)) ≡ true
   unfolding valid
-  plain-high h = rw (lt-leb k 7 h, and-false (leb 1 k))
+  plain-in t =
+      let t₀ = both (isCommand w) (guestsOf w) t in
+      let i₀ : Within (limitsOf (kindOf w)) w = command-in w (t₀ .0) in
+      let i : Within (limitsOf (kindOf w - 1 + 1)) w = subst (λ (j : ℕ). Within (limitsOf j) w) (sym next) i₀ in
+      let gb = both (ltb (dOf w) guestRegisters && ltb (aOf w) guestRegisters) (ltb (bOf w) guestRegisters) (t₀ .1) in
+      let ga = both (ltb (dOf w) guestRegisters) (ltb (aOf w) guestRegisters) (gb .0) in
+      let none = no-condition (kindOf w) lo hi in
+      let ec : cOf w ≡ 0 = omega (arith, i₀ .c, none) in
+      let ew : w ≡ packFields plain-fields = rw next (sym (rw ec at (pack-fields w (i₀ .zero)))) in
+      simp (le-leb 1 (kindOf w - 1) (omega arith), le-leb (kindOf w - 1) 7 (omega arith), ga .0, ga .1, gb .1, le-leb _ _ (i .d), le-leb _ _ (i .a), le-leb _ _ (i .b), le-leb _ _ (i .v), eq-eqb w (packFields plain-fields) ew)
 
-  pub plain-in : 1 ≤ k → k ≤ 7 → (t : Limits) → t ≡ limitsOf (k + 1) → (g : Bool) → g ≡ (ltb d guestRegisters && ltb a guestRegisters)
-      → (g && ltb b guestRegisters && leb d (t .d) && leb a (t .a) && leb b (t .b) && leb v (t .v)) ≡ valid 0 (PLAIN k d a b v)
-  unfolding valid
-  plain-in h0 h1 t et g eg = rw (eg, le-leb 1 k h0, le-leb k 7 h1, ← et)
+  plain-out : (valid n plain-instr && eqb w (packFields plain-fields)) ≡ true → (isCommand w && guestsOf w) ≡ true
+  plain-out t =
+      let t₀ = both (valid n plain-instr) (eqb w (packFields plain-fields)) t in
+      let h : Valid n plain-instr = valid-is n plain-instr (t₀ .0) in
+      let ew : w ≡ packFields plain-fields = eqb-true _ _ (t₀ .1) in
+      let back = bits-pack plain-fields (omega arith, omega arith, omega arith, omega arith, omega arith) in
+      let ec : cOf w ≡ 0 = ap cOf ew ∙ ap (λ (f : Fields). f .c) (back .0) in
+      let ez : zeroOf w ≡ 0 = ap zeroOf ew ∙ back .1 in
+      let i : Within (limitsOf (kindOf w - 1 + 1)) w =
+      record { kind = omega arith; zero = ez; d = h .5; a = h .6; b = h .7; c = omega arith; v = h .8 } in
+      let c : isCommand w ≡ true = command-from w (subst (λ (j : ℕ). Within (limitsOf j) w) next i) in
+      simp (c, lt-ltb _ _ (h .2), lt-ltb _ _ (h .3), lt-ltb _ _ (h .4))
 
-module _ (n : ℕ) (i : Instr) where
-  pub valid-halt : i ≡ HALT → true ≡ valid n i
-  unfolding valid
-  valid-halt e = rw e
-
-  pub valid-plain : (k d a b v : ℕ) → i ≡ PLAIN k d a b v → (g : Bool) → g ≡ valid 0 (PLAIN k d a b v) → g ≡ valid n i
-  unfolding valid
-  valid-plain k d a b v e g eg = eg ∙ rw e
-
-  pub valid-load : (d a : ℕ) → i ≡ LOAD d a → (g : Bool) → g ≡ (ltb d guestRegisters && ltb a guestRegisters) → g ≡ valid n i
-  unfolding valid
-  valid-load d a e g eg = eg ∙ rw e
-
-  pub valid-store : (a b : ℕ) → i ≡ STORE a b → (g : Bool) → g ≡ (ltb a guestRegisters && ltb b guestRegisters) → g ≡ valid n i
-  unfolding valid
-  valid-store a b e g eg = eg ∙ rw e
-
-  pub valid-goif : (a b c v : ℕ) → i ≡ GOIF a b c v → (g : Bool) → g ≡ (ltb a guestRegisters && ltb b guestRegisters) → (g && leb c topCondition && ltb v n) ≡ valid n i
-  unfolding valid
-  valid-goif a b c v e g eg = rw (eg, e)
-
-  pub valid-gox : (d a b c : ℕ) → i ≡ GOX d a b c → (g : Bool) → g ≡ (ltb d guestRegisters && ltb a guestRegisters)
-      → (g && ltb b guestRegisters && leb c topCondition) ≡ valid n i
-  unfolding valid
-  valid-gox d a b c e g eg = rw (eg, e)
-
-  pub valid-event : (x : ℕ) → i ≡ EVENT x → ltb x events ≡ valid n i
-  unfolding valid
-  valid-event x e = rw e
-
--- ---- whether words are those of a bundle
-
-pub both-words : (p q p′ q′ : Bool) → p ≡ p′ → q ≡ q′ → (p && q) ≡ (p′ && q′)
-both-words p q p′ q′ ep eq = rw (ep, eq)
-
-pub all-four : (p q s t p′ q′ s′ t′ : Bool) → p ≡ p′ → q ≡ q′ → s ≡ s′ → t ≡ t′ → (p && q && s && t) ≡ (p′ && q′ && s′ && t′)
-all-four p q s t p′ q′ s′ t′ ep eq es et = rw (ep, eq, es, et)
-
--- the second word of GOX holds the last address, formed from the one after it
-pub gox-words : (l : Layout) (n x : ℕ) (p q s t p′ s′ t′ : Bool) (g : ℕ) → g ≡ addressOf l n → p ≡ p′ → q ≡ eqb x (cutWord 9 hidden hidden 0 0 (g - 1)) → s ≡ s′ → t ≡ t′
-    → (p && q && s && t) ≡ (p′ && eqb x (cutWord 9 hidden hidden 0 0 (lastAddress l n)) && s′ && t′)
-gox-words l n x p q s t p′ s′ t′ g eg ep eq es et =
-    all-four p q s t p′ _ s′ t′ ep (eq ∙ ap (λ (m : ℕ). eqb x (cutWord 9 hidden hidden 0 0 (m - 1))) eg) es et
-
-module _ (l : Layout) (n : ℕ) (i : Instr) (f : Fits l n i) (w x y z : ℕ) where
-  same-words : (w′ x′ y′ z′ : ℕ) → record { words = w′ ∷ x′ ∷ y′ ∷ z′ ∷ [] } ≡ bundleOf l n i
-      → (eqb w w′ && eqb x x′ && eqb y y′ && eqb z z′) ≡ sameWords w x y z (bundleOf l n i .words)
-  same-words w′ x′ y′ z′ e = ap (λ (b : Bundle). sameWords w x y z (b .words)) e
-
-  pub same-halt : i ≡ HALT → (r : Bool) → r ≡ alone w x y z (cutWord 1 0 0 0 0 0) → r ≡ sameWords w x y z (bundleOf l n i .words)
-  same-halt e r p = p ∙ same-words (cutWord 1 0 0 0 0 0) 0 0 0 (lay-halt l n i f e (cutWord 1 0 0 0 0 0) refl)
-
-  pub same-plain : (k d a b v : ℕ) → i ≡ PLAIN k d a b v → (r : Bool) → r ≡ alone w x y z (cutWord (k + 1) d a b 0 v) → r ≡ sameWords w x y z (bundleOf l n i .words)
-  same-plain k d a b v e r p =
-      p ∙ same-words (cutWord (k + 1) d a b 0 v) 0 0 0 (lay-plain l n i f k d a b v e (cutWord (k + 1) d a b 0 v) refl)
-
-  module _ (hh : l .high < 2 ^ 32) (hl : l .low < 2 ^ 32) where
-    pub same-load : (d a : ℕ) → i ≡ LOAD d a → (m : Bool) → m ≡ (eqb w (cutWord 9 hidden a 0 0 (l .high)) && eqb x (cutWord 10 hidden hidden 0 0 (l .low)))
-        → (t : Bool) → t ≡ eqb y (cutWord 12 d hidden 0 0 0) → (m && t && eqb z 0) ≡ sameWords w x y z (bundleOf l n i .words)
-    same-load d a e m em t et =
-        rw (em, et)
-        (same-words (cutWord 9 hidden a 0 0 (l .high)) (cutWord 10 hidden hidden 0 0 (l .low)) (cutWord 12 d hidden 0 0 0) 0
-        (lay-load l n i f hh hl d a e (cutWord 9 hidden a 0 0 (l .high)) (cutWord 10 hidden hidden 0 0 (l .low)) (cutWord 12 d hidden 0 0 0) refl refl refl))
-
-    pub same-store : (a b : ℕ) → i ≡ STORE a b → (m : Bool) → m ≡ (eqb w (cutWord 9 hidden a 0 0 (l .high)) && eqb x (cutWord 10 hidden hidden 0 0 (l .low)))
-        → (t : Bool) → t ≡ eqb y (cutWord 13 0 hidden b 0 0) → (m && t && eqb z 0) ≡ sameWords w x y z (bundleOf l n i .words)
-    same-store a b e m em t et =
-        rw (em, et)
-        (same-words (cutWord 9 hidden a 0 0 (l .high)) (cutWord 10 hidden hidden 0 0 (l .low)) (cutWord 13 0 hidden b 0 0) 0
-        (lay-store l n i f hh hl a b e (cutWord 9 hidden a 0 0 (l .high)) (cutWord 10 hidden hidden 0 0 (l .low)) (cutWord 13 0 hidden b 0 0) refl refl refl))
-
-  pub same-goif : (a b c v : ℕ) → i ≡ GOIF a b c v → (t : ℕ) → t ≡ addressOf l v → (r : Bool) → r ≡ alone w x y z (cutWord 14 0 a b c t)
-      → r ≡ sameWords w x y z (bundleOf l n i .words)
-  same-goif a b c v e t et r p =
-      p ∙ same-words (cutWord 14 0 a b c t) 0 0 0 (lay-goif l n i f a b c v e (cutWord 14 0 a b c t) (ap (cutWord 14 0 a b c) et))
-
-  pub same-gox : (d a b c : ℕ) → i ≡ GOX d a b c → (r : Bool)
-      → r ≡ (eqb w (cutWord 11 hidden d 0 0 2) && eqb x (cutWord 9 hidden hidden 0 0 (lastAddress l n)) && eqb y (cutWord 10 hidden hidden 0 0 (l .base)) && eqb z (cutWord 15 hidden a b c 0))
-      → r ≡ sameWords w x y z (bundleOf l n i .words)
-  same-gox d a b c e r p =
-      p
-      ∙ same-words (cutWord 11 hidden d 0 0 2) (cutWord 9 hidden hidden 0 0 (lastAddress l n)) (cutWord 10 hidden hidden 0 0 (l .base)) (cutWord 15 hidden a b c 0)
-      (lay-gox l n i f d a b c e (cutWord 11 hidden d 0 0 2) (cutWord 9 hidden hidden 0 0 (lastAddress l n)) (cutWord 10 hidden hidden 0 0 (l .base)) (cutWord 15 hidden a b c 0) refl refl refl refl)
-
-  pub same-event : (v : ℕ) → i ≡ EVENT v → (r : Bool)
-      → r ≡ (eqb w (cutWord 16 hidden 0 0 0 v) && eqb x (cutWord 17 hidden 0 0 0 0) && eqb y (cutWord 19 0 0 0 0 v) && eqb z (cutWord 18 hidden 0 0 0 0))
-      → r ≡ sameWords w x y z (bundleOf l n i .words)
-  same-event v e r p =
-      p
-      ∙ same-words (cutWord 16 hidden 0 0 0 v) (cutWord 17 hidden 0 0 0 0) (cutWord 19 0 0 0 0 v) (cutWord 18 hidden 0 0 0 0)
-      (lay-event l n i f v e (cutWord 16 hidden 0 0 0 v) (cutWord 17 hidden 0 0 0 0) (cutWord 19 0 0 0 0 v) (cutWord 18 hidden 0 0 0 0) refl refl refl refl)
+  pub plain-is : (l : Layout) (x y z : ℕ) → (isCommand w && guestsOf w && eqb x 0 && eqb y 0 && eqb z 0) ≡ isBundle l n plain-instr w x y z
+  unfolding isBundle shapeOf wordOf
+  plain-is l x y z =
+      ap (λ (t : Bool). t && eqb x 0 && eqb y 0 && eqb z 0)
+      (bool-ext (isCommand w && guestsOf w) (valid n plain-instr && eqb w (packFields plain-fields)) plain-in plain-out)

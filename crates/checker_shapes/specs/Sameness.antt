@@ -1,19 +1,40 @@
--- The comparison of four words with those of a bundle, and the words that are bundles almost by themselves.
-use Prim.Native.Nat.{ℕ, _-_, _/_, _%_, _^_, _≤_}
-use mathlib.Core.Path.{_≡_}
-use mathlib.Core.Bool.{Bool, _&&_}
-use mathlib.Core.List.{List}
-use lib.ListN.{getD}
-use lib.Dec.{eqb}
-use Rattle.rules.specs.Words.{kindOf, judgeAt}
-
-abbrev pub sameWords : ℕ → ℕ → ℕ → ℕ → List ℕ → Bool
-sameWords w x y z ws = eqb w (getD ws 0 0) && eqb x (getD ws 1 0) && eqb y (getD ws 2 0) && eqb z (getD ws 3 0)
+-- The tests of four words, shape by shape.
+use Prim.Native.Nat.{ℕ, _-_, _/_}
+use mathlib.Core.Bool.{Bool, _&&_, cond}
+use lib.Dec.{ltb, eqb}
+use Rattle.rules.specs.declared.Layout.{Layout}
+use Rattle.rules.specs.declared.Instr.{Instr}
+use Rattle.rules.specs.declared.Instr.the-variants.{LOAD, STORE}
+use Rattle.rules.specs.Names.{bundleLength, hidden, events}
+use Rattle.rules.specs.Words.{kindOf, dOf, aOf, bOf, vOf, packOf}
+use Rattle.rules.specs.Commands.{isCommand}
+use Rattle.rules.specs.Bundles.{addressOf}
+use Rattle.words.specs.Guests.{guestsOf}
 
 -- a command's word, and three of commands that do nothing
 abbrev pub alone : ℕ → ℕ → ℕ → ℕ → ℕ → Bool
 alone w x y z w′ = eqb w w′ && eqb x 0 && eqb y 0 && eqb z 0
 
--- a plain command whose word is the next after its instruction's
-abbrev pub PlainWord : ℕ → ℕ → Type 0
-PlainWord n w = (2 ≤ kindOf w) × (kindOf w ≤ 8) × (judgeAt n (w - 1) ≡ 0) × (w / 2 ^ 20 % 2 ^ 12 ≡ 0)
+-- a command on the guest's registers, and three that do nothing
+abbrev pub plainWords : ℕ → ℕ → ℕ → ℕ → Bool
+plainWords w x y z = isCommand w && guestsOf w && eqb x 0 && eqb y 0 && eqb z 0
+
+-- LOAD or STORE, by the third word
+abbrev pub accessOf : ℕ → ℕ → Instr
+accessOf w y = cond (eqb (kindOf y) 12) (LOAD (dOf y) (aOf w)) (STORE (aOf w) (bOf y))
+
+-- the bundle to which an address leads, and whether it is the address of one among n
+abbrev pub landingOf : Layout → ℕ → ℕ
+landingOf l v = (v - l .base) / bundleLength
+
+abbrev pub landsOf : Layout → ℕ → ℕ → Bool
+landsOf l n v = eqb v (addressOf l (landingOf l v)) && ltb (landingOf l v) n
+
+-- GOIF to one of n bundles, and three that do nothing
+abbrev pub goifWords : Layout → ℕ → ℕ → ℕ → ℕ → ℕ → Bool
+goifWords l n w x y z = isCommand w && guestsOf w && landsOf l n (vOf w) && eqb x 0 && eqb y 0 && eqb z 0
+
+-- an event, one number throughout
+abbrev pub eventWords : ℕ → ℕ → ℕ → ℕ → Bool
+eventWords w x y z =
+    ltb (vOf w) events && eqb w (packOf 16 hidden 0 0 0 (vOf w)) && eqb x (packOf 17 hidden 0 0 0 0) && eqb y (packOf 19 0 0 0 0 (vOf w)) && eqb z (packOf 18 hidden 0 0 0 0)

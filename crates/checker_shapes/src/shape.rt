@@ -1,27 +1,20 @@
-// The shape of one bundle: the instruction that four words can be, whether it is valid, and whether they are its words.
+// The shapes of a bundle. Whole words are compared; no bundle is built, and no instruction.
 use rules::Bundle;
 use rules::Fields;
-use rules::Instr;
 use rules::Layout;
-use rules::Limits;
 use rules::Machine;
 use rules::Policy;
+use words::command::is_command;
 use words::guest::TOP_CONDITION;
-use words::guest::TOP_SHIFT;
-use words::guest::TOP_WORD;
-use words::guest::fields;
+use words::guest::guests;
 use words::guest::pack;
 ghost use mathlib.Core.Path.{_≡_};
-ghost use mathlib.Core.Bool.{cond, _&&_};
-ghost use Prim.Native.Nat.{_+_, _-_, _≤_, _<_, _^_};
-ghost use lib.Dec.{ltb, eqb};
-ghost use Rattle.rules.specs.declared.Instr.the-variants.{PLAIN, LOAD, STORE, GOX};
-ghost use Rattle.rules.specs.Names.{guestRegisters, hidden};
-ghost use Rattle.rules.specs.Words.{kindOf, dOf, aOf, bOf, cOf};
-ghost use Rattle.rules.specs.Commands.{limitsOf};
-ghost use Rattle.rules.specs.Bundles.{addressOf, lastAddress, bundleOf, valid as isValid, readOff};
-ghost use Rattle.words.specs.Packing.{cutWord, Fits};
-ghost use Rattle.checker_shapes.specs.Sameness.{sameWords, alone as aloneOf};
+ghost use Prim.Native.Nat.{_≤_, _<_, _^_};
+ghost use lib.Dec.{eqb};
+ghost use Rattle.rules.specs.declared.Instr.the-variants.{GOX, LOAD, STORE};
+ghost use Rattle.rules.specs.Words.{dOf, aOf, bOf, cOf, packOf};
+ghost use Rattle.rules.specs.Bundles.{addressOf, isBundle};
+ghost use Rattle.checker_shapes.specs.Sameness.{alone, plainWords, accessOf, landsOf, goifWords, eventWords};
 
 // The hidden register, which is also the count of the guest's.
 const HIDDEN: u64 = Machine::HIDDEN as u64;
@@ -30,138 +23,13 @@ const LENGTH: u64 = Bundle::LENGTH as u64;
 
 const EVENTS: u64 = Policy::EVENTS as u64;
 
-// The greatest values of the fields of SET, MOVE, SAR, and of the kinds with three registers.
-const SET: Limits = Limits {
-    d: HIDDEN,
-    a: 0,
-    b: 0,
-    c: 0,
-    v: TOP_WORD,
-};
+// The shift that makes of an instruction's number the distance of its bundle.
+const SHIFT: u64 = 2;
 
-const MOVE: Limits = Limits {
-    d: HIDDEN,
-    a: HIDDEN,
-    b: 0,
-    c: 0,
-    v: 0,
-};
-
-const SAR: Limits = Limits {
-    d: HIDDEN,
-    a: HIDDEN,
-    b: 0,
-    c: 0,
-    v: TOP_SHIFT,
-};
-
-const THREE: Limits = Limits {
-    d: HIDDEN,
-    a: HIDDEN,
-    b: HIDDEN,
-    c: 0,
-    v: 0,
-};
-
-// ---- the instruction
-
-// x − y, or 0.
-fn minus(x: u64, y: u64) -> u64
-    ensures { λ r. ⌜ r ≡ x - y ⌝ }
-{
-    if x < y { 0 } else { x - y }
-}
-
-// LOAD or STORE, by its third word.
-fn access(a: u64, y: u64) -> Instr
-    ensures { λ r. ⌜ r ≡ cond (eqb (kindOf y) 12) (LOAD (dOf y) a) (STORE a (bOf y)) ⌝ }
-{
-    let f = fields(y);
-    if f.kind == 12 {
-        return Instr::LOAD(f.d, a);
-    }
-    Instr::STORE(a, f.b)
-}
-
-// GOX, by its fourth word.
-fn gox(d: u64, z: u64) -> Instr
-    ensures { λ r. ⌜ r ≡ GOX d (aOf z) (bOf z) (cOf z) ⌝ }
-{
-    let f = fields(z);
-    Instr::GOX(d, f.a, f.b, f.c)
-}
-
-// The instruction whose bundle four words can be, by the kind of the first; y and z are the last two.
-pub(crate) fn read_off(l: Layout, w: u64, y: u64, z: u64) -> Instr
-    ensures { λ r. ⌜ r ≡ readOff l w y z ⌝ }
-{
-    let f = fields(w);
-    let kind = f.kind;
-    match kind {
-        1 => Instr::HALT,
-        9 => access(f.a, y),
-        14 => Instr::GOIF(f.a, f.b, f.c, minus(f.v, l.base as u64) / LENGTH),
-        11 => gox(f.a, z),
-        16 => Instr::EVENT(f.v),
-        _ => Instr::PLAIN(minus(kind, 1), f.d, f.a, f.b, f.v),
-    }
-}
-
-// ---- whether it is valid
-
-// The limits of the commands that kinds 1 to 7 become.
-fn plain_limits(k: u64) -> Limits
-    requires { ⌜ (1 ≤ k) × (k ≤ 7) ⌝ }
-    ensures { λ r. ⌜ r ≡ limitsOf (k + 1) ⌝ }
-{
-    match k {
-        1 => SET,
-        2 => MOVE,
-        7 => SAR,
-        _ => THREE,
-    }
-}
-
-// Whether two registers are the guest's.
-fn guests(a: u64, b: u64) -> bool
-    ensures { λ r. ⌜ r ≡ (ltb a guestRegisters && ltb b guestRegisters) ⌝ }
-{
-    (a < HIDDEN) & (b < HIDDEN)
-}
-
-// Whether a plain instruction is valid, among any number.
-fn plain_valid(k: u64, d: u64, a: u64, b: u64, v: u64) -> bool
-    ensures { λ r. ⌜ r ≡ isValid 0 (PLAIN k d a b v) ⌝ }
-{
-    if k < 1 {
-        return false;
-    }
-    if k > 7 {
-        return false;
-    }
-    let most = plain_limits(k);
-    guests(d, a) & (b < HIDDEN) & (d <= most.d) & (a <= most.a) & (b <= most.b) & (v <= most.v)
-}
-
-// Whether an instruction's fields are in range, its registers the guest's, and its jump below n.
-pub(crate) fn valid(n: usize, i: Instr) -> bool
-    ensures { λ r. ⌜ r ≡ isValid n i ⌝ }
-{
-    match i {
-        Instr::HALT => true,
-        Instr::PLAIN(k, d, a, b, v) => plain_valid(k, d, a, b, v),
-        Instr::LOAD(d, a) => guests(d, a),
-        Instr::STORE(a, b) => guests(a, b),
-        Instr::GOIF(a, b, c, v) => guests(a, b) & (c <= TOP_CONDITION) & (v < n as u64),
-        Instr::GOX(d, a, b, c) => guests(d, a) & (b < HIDDEN) & (c <= TOP_CONDITION),
-        Instr::EVENT(e) => e < EVENTS,
-    }
-}
-
-// ---- whether the words are its own: compared one by one, no bundle is built
-
+// Whether a word is that of a kind and its fields.
 fn is_word(w: u64, kind: u64, d: u64, a: u64, b: u64, c: u64, v: u64) -> bool
-    ensures { λ r. ⌜ r ≡ eqb w (cutWord kind d a b c v) ⌝ }
+    requires { ⌜ (kind < 2 ^ 8) × (d < 2 ^ 4) × (a < 2 ^ 4) × (b < 2 ^ 4) × (c < 2 ^ 4) × (v < 2 ^ 32) ⌝ }
+    ensures { λ r. ⌜ r ≡ eqb w (packOf kind d a b c v) ⌝ }
 {
     w
         == pack(Fields {
@@ -174,71 +42,118 @@ fn is_word(w: u64, kind: u64, d: u64, a: u64, b: u64, c: u64, v: u64) -> bool
         })
 }
 
-// One command, and three that do nothing.
-fn alone(w: u64, x: u64, y: u64, z: u64, kind: u64, d: u64, a: u64, b: u64, c: u64, v: u64) -> bool
-    ensures { λ r. ⌜ r ≡ aloneOf w x y z (cutWord kind d a b c v) ⌝ }
+// HALT, and three that do nothing.
+pub(crate) fn halts(w: u64, x: u64, y: u64, z: u64) -> bool
+    ensures { λ r. ⌜ r ≡ alone w x y z 1 ⌝ }
 {
-    is_word(w, kind, d, a, b, c, v) & (x == 0) & (y == 0) & (z == 0)
+    (w == 1) & (x == 0) & (y == 0) & (z == 0)
 }
 
-// The two words that force an address into the guest's range.
-fn masked(l: Layout, a: u64, w: u64, x: u64) -> bool
-    ensures { λ r. ⌜ r ≡ (eqb w (cutWord 9 hidden a 0 0 (l .high)) && eqb x (cutWord 10 hidden hidden 0 0 (l .low))) ⌝ }
+// A plain command on the guest's registers, and three that do nothing.
+pub(crate) fn plain(w: u64, x: u64, y: u64, z: u64) -> bool
+    ensures { λ r. ⌜ r ≡ plainWords w x y z ⌝ }
 {
-    is_word(w, 9, HIDDEN, a, 0, 0, l.high as u64)
+    is_command(w) & guests(w) & (x == 0) & (y == 0) & (z == 0)
+}
+
+// ---- LOAD and STORE
+
+fn loads(l: Layout, w: u64, x: u64, y: u64, z: u64) -> bool
+    ensures { λ r. ⌜ r ≡ isBundle l 0 (LOAD (dOf y) (aOf w)) w x y z ⌝ }
+{
+    let to = (y >> 8) % 16;
+    let a = (w >> 12) % 16;
+    (to < HIDDEN)
+        & (a < HIDDEN)
+        & is_word(w, 9, HIDDEN, a, 0, 0, l.high as u64)
         & is_word(x, 10, HIDDEN, HIDDEN, 0, 0, l.low as u64)
+        & is_word(y, 12, to, HIDDEN, 0, 0, 0)
+        & (z == 0)
 }
 
-// The address of bundle v.
-fn address(l: Layout, v: u64) -> u64
-    requires { ⌜ addressOf l v < 2 ^ 64 ⌝ }
-    ensures { λ r. ⌜ r ≡ addressOf l v ⌝ }
+fn stores(l: Layout, w: u64, x: u64, y: u64, z: u64) -> bool
+    ensures { λ r. ⌜ r ≡ isBundle l 0 (STORE (aOf w) (bOf y)) w x y z ⌝ }
 {
-    l.base as u64 + LENGTH * v
+    let a = (w >> 12) % 16;
+    let from = (y >> 16) % 16;
+    (a < HIDDEN)
+        & (from < HIDDEN)
+        & is_word(w, 9, HIDDEN, a, 0, 0, l.high as u64)
+        & is_word(x, 10, HIDDEN, HIDDEN, 0, 0, l.low as u64)
+        & is_word(y, 13, 0, HIDDEN, from, 0, 0)
+        & (z == 0)
 }
 
-fn is_gox(
-    l: Layout,
-    n: usize,
-    d: u64,
-    a: u64,
-    b: u64,
-    c: u64,
-    w: u64,
-    x: u64,
-    y: u64,
-    z: u64,
-) -> bool
+// LOAD or STORE, by the third word.
+pub(crate) fn accesses(l: Layout, w: u64, x: u64, y: u64, z: u64) -> bool
+    ensures { λ r. ⌜ r ≡ isBundle l 0 (accessOf w y) w x y z ⌝ }
+{
+    if y % 256 == 12 {
+        return loads(l, w, x, y, z);
+    }
+    stores(l, w, x, y, z)
+}
+
+// ---- jumps
+
+// The address of bundle g.
+fn address(l: Layout, g: u64) -> u64
+    requires { ⌜ addressOf l g < 2 ^ 64 ⌝ }
+    ensures { λ r. ⌜ r ≡ addressOf l g ⌝ }
+{
+    l.base as u64 + LENGTH * g
+}
+
+// GOX, with the last address of n bundles and the first.
+pub(crate) fn goes(l: Layout, n: usize, w: u64, x: u64, y: u64, z: u64) -> bool
     requires { ⌜ (0 < n) × (addressOf l n ≤ 2 ^ 32) ⌝ }
-    ensures { λ r. ⌜ r ≡ (eqb w (cutWord 11 hidden d 0 0 2) && eqb x (cutWord 9 hidden hidden 0 0 (lastAddress l n)) && eqb y (cutWord 10 hidden hidden 0 0 (l .base)) && eqb z (cutWord 15 hidden a b c 0)) ⌝ }
+    ensures { λ r. ⌜ r ≡ isBundle l n (GOX (aOf w) (aOf z) (bOf z) (cOf z)) w x y z ⌝ }
 {
-    is_word(w, 11, HIDDEN, d, 0, 0, 2)
-        & is_word(x, 9, HIDDEN, HIDDEN, 0, 0, address(l, n as u64) - 1)
+    let d = (w >> 12) % 16;
+    let a = (z >> 12) % 16;
+    let b = (z >> 16) % 16;
+    let c = (z >> 20) % 16;
+    let last = address(l, n as u64) - 1;
+    (d < HIDDEN)
+        & (a < HIDDEN)
+        & (b < HIDDEN)
+        & (c <= TOP_CONDITION)
+        & is_word(w, 11, HIDDEN, d, 0, 0, SHIFT)
+        & is_word(x, 9, HIDDEN, HIDDEN, 0, 0, last)
         & is_word(y, 10, HIDDEN, HIDDEN, 0, 0, l.base as u64)
         & is_word(z, 15, HIDDEN, a, b, c, 0)
 }
 
-fn is_event(e: u64, w: u64, x: u64, y: u64, z: u64) -> bool
-    ensures { λ r. ⌜ r ≡ (eqb w (cutWord 16 hidden 0 0 0 e) && eqb x (cutWord 17 hidden 0 0 0 0) && eqb y (cutWord 19 0 0 0 0 e) && eqb z (cutWord 18 hidden 0 0 0 0)) ⌝ }
+// Whether an address is that of one of n bundles.
+fn lands(l: Layout, n: usize, v: u64) -> bool
+    requires { ⌜ v < 2 ^ 32 ⌝ }
+    ensures { λ r. ⌜ r ≡ landsOf l n v ⌝ }
 {
-    is_word(w, 16, HIDDEN, 0, 0, 0, e)
+    let base = l.base as u64;
+    if v < base {
+        return false;
+    }
+    let away = v - base;
+    (away % LENGTH == 0) & (away / LENGTH < n as u64)
+}
+
+// GOIF to one of n bundles, and three that do nothing.
+pub(crate) fn goes_if(l: Layout, n: usize, w: u64, x: u64, y: u64, z: u64) -> bool
+    ensures { λ r. ⌜ r ≡ goifWords l n w x y z ⌝ }
+{
+    is_command(w) & guests(w) & lands(l, n, w >> 32) & (x == 0) & (y == 0) & (z == 0)
+}
+
+// ---- events
+
+// An event: one number throughout.
+pub(crate) fn sends(w: u64, x: u64, y: u64, z: u64) -> bool
+    ensures { λ r. ⌜ r ≡ eventWords w x y z ⌝ }
+{
+    let e = w >> 32;
+    (e < EVENTS)
+        & is_word(w, 16, HIDDEN, 0, 0, 0, e)
         & is_word(x, 17, HIDDEN, 0, 0, 0, 0)
         & is_word(y, 19, 0, 0, 0, 0, e)
         & is_word(z, 18, HIDDEN, 0, 0, 0, 0)
-}
-
-// Whether four words are those of an instruction's bundle.
-pub(crate) fn same(l: Layout, n: usize, i: Instr, w: u64, x: u64, y: u64, z: u64) -> bool
-    requires { ⌜ Fits l n i ⌝ }
-    ensures { λ r. ⌜ r ≡ sameWords w x y z (bundleOf l n i .words) ⌝ }
-{
-    match i {
-        Instr::HALT => alone(w, x, y, z, 1, 0, 0, 0, 0, 0),
-        Instr::PLAIN(k, d, a, b, v) => alone(w, x, y, z, k + 1, d, a, b, 0, v),
-        Instr::LOAD(d, a) => { masked(l, a, w, x) & is_word(y, 12, d, HIDDEN, 0, 0, 0) & (z == 0) }
-        Instr::STORE(a, b) => { masked(l, a, w, x) & is_word(y, 13, 0, HIDDEN, b, 0, 0) & (z == 0) }
-        Instr::GOIF(a, b, c, v) => alone(w, x, y, z, 14, 0, a, b, c, address(l, v)),
-        Instr::GOX(d, a, b, c) => is_gox(l, n, d, a, b, c, w, x, y, z),
-        Instr::EVENT(e) => is_event(e, w, x, y, z),
-    }
 }

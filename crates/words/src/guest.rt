@@ -1,7 +1,9 @@
 // The words of a guest's instructions: their fields, their first refusal, the instruction that they stand for.
 pub use words_fields::fields;
+pub use words_fields::guests;
 pub use words_fields::instruction;
 pub use words_fields::pack;
+pub use words_guest::clean;
 pub use words_guest::judge_all;
 pub use words_guest::judge_at;
 pub use words_guest::judge_word;

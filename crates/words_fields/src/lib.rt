@@ -4,6 +4,7 @@ use rules::Instr;
 ghost use mathlib.Core.Path.{_≡_};
 ghost use Rattle.rules.specs.Words.{fieldsOf, packFields, instrOf};
 ghost use Rattle.words_fields.specs.Cut.{cutOf};
+ghost use Rattle.words_fields.specs.Guests.{guestsOf};
 
 pub fn fields(w: u64) -> Fields
     ensures { λ r. ⌜ r ≡ fieldsOf w ⌝ }
@@ -28,6 +29,14 @@ pub fn pack(f: Fields) -> u64
         + ((f.b % 16) << 16)
         + ((f.c % 16) << 20)
         + ((f.v % 0x1_0000_0000) << 32)
+}
+
+// Whether no register field of a word names the hidden register, all of whose four bits stand: one test for the three.
+pub fn guests(w: u64) -> bool
+    ensures { λ r. ⌜ r ≡ guestsOf w ⌝ }
+{
+    let pairs = w & (w >> 1);
+    (pairs & (pairs >> 2)) & 0x1_1100 == 0
 }
 
 // By its kind; kinds 1 to 7 are the plain ones.

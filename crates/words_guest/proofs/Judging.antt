@@ -1,16 +1,17 @@
 -- Laws of a guest word's first refusal.
-use mathlib.Core.Path.{_≡_, sym, _∙_}
-use mathlib.Core.Bool.{Bool, true, false, _&&_}
+use mathlib.Core.Path.{_≡_, refl, sym, _∙_}
+use mathlib.Core.Bool.{Bool, true, false, _&&_, not}
 use Prim.Native.Nat.{ℕ, _≤_, _<_, _^_}
 use lib.Bits.{bitAnd}
 use lib.Dec.{ltb, eqb}
-use borrow.Author.Tests.{eq-eqb, ne-eqb, eqb-true, ltb-true}
+use borrow.Author.Tests.{eq-eqb, ne-eqb, eqb-true, ltb-true, not-true}
 use Rattle.rules.specs.declared.Fields.{Fields}
 use Rattle.rules.specs.declared.Refusal.the-variants.{Taken, BadLanding}
 use Rattle.rules.specs.Names.{guestRegisters, topKind, numberOf}
 use Rattle.rules.specs.Words.{guestLimits, judgeOf, fieldsOf, kindOf, dOf, aOf, bOf, vOf, zeroOf, judgeWord, judgeAt}
 use Rattle.rules.proofs.WordLaws.{judged}
 use Rattle.words_fields.specs.Strays.{strayOf}
+use Rattle.words_fields.specs.Guests.{guestsOf}
 use Rattle.words_fields.proofs.Tables.{and-left, and-right}
 use Rattle.words_guest.proofs.Masks.{guest-within}
 
@@ -20,18 +21,18 @@ word-judged w f e x ex = ex ∙ rw e
 
 -- ---- a word without a stray bit
 
-pub clean-good : (w : ℕ) → w < 2 ^ 64 → kindOf w ≤ topKind → (s : ℕ) → s ≡ strayOf (guestLimits (kindOf w))
-    → (eqb (bitAnd w s) 0 && ltb (dOf w) guestRegisters && ltb (aOf w) guestRegisters && ltb (bOf w) guestRegisters) ≡ true → judgeWord w ≡ 0
-clean-good w fits h s es t =
-    let m = eqb (bitAnd w s) 0 in
+pub clean-good : (w : ℕ) → w < 2 ^ 64 → kindOf w ≤ topKind → (s : ℕ) → s ≡ strayOf (guestLimits (kindOf w)) → (g : Bool) → g ≡ guestsOf w
+    → (eqb (bitAnd w s) 0 && g) ≡ true → judgeWord w ≡ 0
+clean-good w fits h s es g eg t =
     let d = ltb (dOf w) guestRegisters in
     let a = ltb (aOf w) guestRegisters in
     let b = ltb (bOf w) guestRegisters in
-    let tb = and-left (m && d && a) b t in
-    let ta = and-left (m && d) a tb in
+    let m = eqb (bitAnd w s) 0 in
+    let tg : guestsOf w ≡ true = sym eg ∙ and-right m g t in
+    let ta = and-left (d && a) b tg in
     let i =
-    guest-within w fits h (rw es at (eqb-true (bitAnd w s) 0 (and-left m d ta))) (ltb-true _ _ (and-right m d ta)) (ltb-true _ _ (and-right (m && d) a tb))
-    (ltb-true _ _ (and-right (m && d && a) b t)) in
+    guest-within w fits h (rw es at (eqb-true (bitAnd w s) 0 (and-left m g t))) (ltb-true _ _ (and-left d a ta)) (ltb-true _ _ (and-right d a ta))
+    (ltb-true _ _ (and-right (d && a) b tg)) in
     judged (ltb 0 (zeroOf w)) (fieldsOf w)
     (record { kind = h; clean = rw (i .zero); kept = record { d = i .d; a = i .a; b = i .b; c = i .c; v = i .v } })
 
@@ -53,3 +54,9 @@ module _ (n w x : ℕ) (e : x ≡ judgeWord w) where
     pub at-good : (eqb (kindOf w) 10 && ltb n (vOf w)) ≡ false → numberOf Taken ≡ judgeAt n w
     unfolding judgeAt
     at-good h = rw (← e, eq-eqb x 0 z, h)
+
+-- a clean word, and no landing past the words
+pub clean-at : (n w : ℕ) (r : Bool) → (r ≡ true → judgeWord w ≡ 0) → (r && not (eqb (kindOf w) 10 && ltb n (vOf w))) ≡ true → numberOf Taken ≡ judgeAt n w
+clean-at n w r f t =
+    let b = not (eqb (kindOf w) 10 && ltb n (vOf w)) in
+    at-good n w 0 (sym (f (and-left r b t))) refl (not-true (eqb (kindOf w) 10 && ltb n (vOf w)) (and-right r b t))

@@ -1,8 +1,8 @@
 // The first refusal of a guest word, alone and among others.
 use rules::Answer;
-use rules::Machine;
 use rules::Refusal;
 use words_fields::fields;
+use words_fields::guests;
 use words_refusals::TOP_KIND;
 use words_refusals::judge;
 ghost use mathlib.Core.Path.{_≡_};
@@ -15,9 +15,6 @@ ghost use Rattle.words_fields.specs.Strays.{strayOf};
 
 // The kind with a landing.
 const GOIF: u64 = 10;
-
-// The hidden register, which is also the count of the guest's.
-const HIDDEN: u64 = Machine::HIDDEN as u64;
 
 // The bits that no instruction of a kind has: those of the fields that it lacks, and those above the bounds of c and v.
 fn stray_bits(k: u64) -> u64
@@ -44,17 +41,21 @@ fn stray_bits(k: u64) -> u64
 
 // Whether one AND and its registers show that a word is an instruction, which is the common case. A register field
 // that the kind lacks is 0, and passes.
-fn clean(w: u64) -> bool
+pub fn clean(w: u64) -> bool
     ensures { λ r. ⌜ (r ≡ true → judgeWord w ≡ 0) ⌝ }
 {
     let k = w % 256;
     if k > TOP_KIND {
         return false;
     }
-    (w & stray_bits(k) == 0)
-        & ((w >> 8) % 16 < HIDDEN)
-        & ((w >> 12) % 16 < HIDDEN)
-        & ((w >> 16) % 16 < HIDDEN)
+    (w & stray_bits(k) == 0) & guests(w)
+}
+
+// The first refusal of a word by its fields. A call, for it is seldom needed.
+fn by_fields(w: u64) -> u8
+    ensures { λ r. ⌜ r ≡ judgeWord w ⌝ }
+{
+    judge((w >> 24) % 256 > 0, fields(w))
 }
 
 pub fn judge_word(w: u64) -> u8
@@ -63,15 +64,18 @@ pub fn judge_word(w: u64) -> u8
     if clean(w) {
         return Refusal::TAKEN;
     }
-    judge((w >> 24) % 256 > 0, fields(w))
+    by_fields(w)
 }
 
 // The first refusal of a word among n instructions, 3, 2, 4 or 8, or 0.
 pub fn judge_at(n: usize, w: u64) -> u8
     ensures { λ r. ⌜ r ≡ judgeAt n w ⌝ }
 {
-    let number = judge_word(w);
     let landing_bad = (w % 256 == GOIF) & ((n as u64) < w >> 32);
+    if clean(w) & !landing_bad {
+        return Refusal::TAKEN;
+    }
+    let number = by_fields(w);
     if number != 0 {
         return number;
     }

@@ -1,5 +1,6 @@
+use borrow.Author.Tests.{not-true, not-false}
 use borrow.Author.Needs.{needs}
-use Rattle.checker_shapes.proofs.Passing.{plain-passing, passing}
+use Rattle.checker_shapes.proofs.Passing.{last-is, pass-halt, pass-plain, pass-access, pass-gox, pass-goif, pass-event, pass-none}
 use Rattle.checker_shapes.proofs.passes_words.Statement.{statement}
 use Rattle.checker_shapes.proofs.passes_words.Tie as tie
 
@@ -8,7 +9,17 @@ passes-words-spec =
     tie.close
     (tie.spec
     (λ c κs. search needs)
-    (λ c. search (plain-passing, needs))
+    (λ c. search (last-is, not-true, needs))
+    (λ c κs. search needs)
+    (λ c. search (pass-plain, not-false, needs))
     (λ c κs. search needs)
     (λ c κs. search needs)
-    (λ c. search (passing, needs)))
+    (λ c κs. search needs)
+    (λ c κs. search needs)
+    (λ c κs. search needs)
+    (λ c. search (pass-halt, not-false, needs))
+    (λ c. search (pass-access, not-false, needs))
+    (λ c. search (pass-gox, not-false, needs))
+    (λ c. search (pass-goif, not-false, needs))
+    (λ c. search (pass-event, not-false, needs))
+    (λ c. search (pass-none, needs)))

@@ -1,5 +1,5 @@
 use borrow.Author.Needs.{needs}
-use Rattle.rules.proofs.Bytes.{one-fields, one-large, one-none, one-short}
+use Rattle.codec_decode.proofs.Reading.{sure-is}
 use Rattle.codec_decode.proofs.read_one.Statement.{statement}
 use Rattle.codec_decode.proofs.read_one.Tie as tie
 
@@ -7,12 +7,11 @@ pub read-one-spec : {M : Type 1} → statement M
 read-one-spec =
     tie.close
     (tie.spec
-    (λ c. search (one-none, needs))
+    (λ c κs. search needs)
     (λ c. search needs)
     (λ c κs. search needs)
-    (λ c. search (one-large, needs))
+    (λ c. search needs)
+    (λ c. search needs)
     (λ c κs. search needs)
-    (λ c. search (one-short, needs))
-    (λ c κs. search needs)
-    (λ c κs. search needs)
-    (λ c. search (one-fields, needs)))
+    (λ c. search (sure-is, needs))
+    (λ c. search needs))

@@ -10,4 +10,5 @@ clean-spec =
     (tie.spec
     (λ c e. absurd (false≢true e))
     (λ c κs. search needs)
-    (λ c. clean-good _ (c .before .before .fits .w .fits) (c .before .if1 .left) _ (c .stray-bits .ensures)))
+    (λ c κs. search needs)
+    (λ c. search (clean-good, needs)))

@@ -1,5 +1,5 @@
 use borrow.Author.Needs.{needs}
-use Rattle.words_guest.proofs.Judging.{word-judged, clean-judged}
+use Rattle.words_guest.proofs.Judging.{clean-judged}
 use Rattle.words_guest.proofs.judge_word.Statement.{statement}
 use Rattle.words_guest.proofs.judge_word.Tie as tie
 
@@ -10,5 +10,4 @@ judge-word-spec =
     (λ c κs. search needs)
     (λ c. search (clean-judged, needs))
     (λ c κs. search needs)
-    (λ c κs. search needs)
-    (λ c. search (word-judged, needs)))
+    (λ c. search needs))

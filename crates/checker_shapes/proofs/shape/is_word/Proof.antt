@@ -1,4 +1,5 @@
 use borrow.Author.Needs.{needs}
+use Rattle.checker_shapes.proofs.Shapes.{uncut}
 use Rattle.checker_shapes.proofs.shape.is_word.Statement.{statement}
 use Rattle.checker_shapes.proofs.shape.is_word.Tie as tie
 
@@ -7,4 +8,4 @@ is-word-spec =
     tie.close
     (tie.spec
     (λ c κs. search needs)
-    (λ c. rw (c .pack .ensures)))
+    (λ c. search (uncut, needs)))
