@@ -75,7 +75,13 @@ fn probed(mut at: Point) -> Point
 // ---- an effect
 
 // A reading into register 0 and the log.
-fn probe(v: u32, regs: &mut [u32; Machine::REGISTERS], at: Point, readings: &[u32], log: &mut [u32])
+pub fn probe(
+    v: u32,
+    regs: &mut [u32; Machine::REGISTERS],
+    at: Point,
+    readings: &[u32],
+    log: &mut [u32],
+)
     requires { ⌜ (at .pairs < 2 ^ 62) × (length (now regs) ≡ registers) ⌝ }
     ensures { λ _. ⌜ (now (regs .exit) ≡ set (now (regs .entry)) 0 (getD (now (readings .entry)) (at .used) 0)) × (now (log .exit) ≡ withPair (now (log .entry)) (at .pairs) v (getD (now (readings .entry)) (at .used) 0)) ⌝ }
 {

@@ -36,7 +36,7 @@ const LENGTH: u32 = Bundle::LENGTH as u32;
 const MOST: u32 = Bundle::MOST as u32;
 
 // Whether an address is B + 4j and bit j of the landing cells stands.
-fn lands(to: u32, base: u32, landings: u32, memory: &[u32]) -> bool
+pub fn lands(to: u32, base: u32, landings: u32, memory: &[u32]) -> bool
     ensures { λ r. ⌜ r ≡ landsAt (now (memory .entry)) base landings to ⌝ }
 {
     if to < base {

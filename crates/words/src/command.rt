@@ -1,3 +1,4 @@
 // Command words: whether a word is a command, and which.
 pub use words_command::command;
 pub use words_command::is_command;
+pub use words_command::is_of_kind;

@@ -3,6 +3,7 @@ use rules::Command;
 ghost use mathlib.Core.Path.{_≡_};
 ghost use Prim.Native.Nat.{_<_};
 ghost use Rattle.rules.specs.Names.{commandKinds};
+ghost use Rattle.rules.specs.Words.{kindOf};
 ghost use Rattle.rules.specs.Commands.{limitsOf, isCommand, commandOf};
 ghost use Rattle.words_fields.specs.Strays.{strayOf};
 
@@ -36,13 +37,22 @@ fn stray(k: u64) -> u64
     }
 }
 
+// Whether a word of a known kind is a command: none of the kind's stray bits. Where the kind is written at the call, its
+// mask is a constant there.
+pub fn is_of_kind(k: u64, w: u64) -> bool
+    requires { ⌜ (k < commandKinds) × (kindOf w ≡ k) ⌝ }
+    ensures { λ r. ⌜ r ≡ isCommand w ⌝ }
+{
+    w & stray(k) == 0
+}
+
 // Whether a word is a command: a known kind, and none of its stray bits. Each register field names a register.
 pub fn is_command(w: u64) -> bool
     ensures { λ r. ⌜ r ≡ isCommand w ⌝ }
 {
     let k = w % 256;
     if k < 20 {
-        return w & stray(k) == 0;
+        return is_of_kind(k, w);
     }
     false
 }
