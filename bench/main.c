@@ -11,11 +11,12 @@
 
 typedef void Run(const struct hemdroas_layout *, const uint64_t *, size_t, struct hemdroas_machine *, uint32_t *, size_t, uint32_t,
                  const uint32_t *, size_t, uint32_t *, size_t, struct hemdroas_run_answer *);
-Run run_O2, run_O3;
-enum { KINDS = 3, MOST_ROUNDS = 1001 };
-static Run *const RUNS[KINDS] = {hemdroas_run, run_O2, run_O3};
+Run run_O2, run_O3, run_bundles;
+enum { KINDS = 4, MOST_ROUNDS = 1001 };
+static Run *const RUNS[KINDS] = {hemdroas_run, run_O2, run_O3, run_bundles};
+static const char *const NAMES[KINDS] = {"the proved machine", "C, gcc -O2", "C, gcc -O3", "C by bundles"};
 
-enum { U = 1024, SL = 256, SH = 511, M = 0, P = 16, S = 2, B = 4096, Q = 64, LOG = 800000, READINGS = 400000, BUNDLES = 8 };
+enum { U = 1024, SL = 256, SH = 511, M = 0, P = 16, S = 2, B = 4096, Q = 64, LOG = 800000, READINGS = 400000, BUNDLES = 8, TURNS = 100000 };
 enum { HIDDEN = 15 };
 /* Orders are limited to 50,000, half of what the counter reaches. */
 static const struct hemdroas_layout layout = {U, SL, SH, M, P, S, B, Q, {50000, 50000, 50000, 50000, 50000, 50000, 50000, 50000}};
@@ -49,7 +50,7 @@ static void same(const char *name, size_t cells) {
     for (int i = 1; i < KINDS; i++)
         if (memcmp(&machine[0], &machine[i], sizeof machine[0]) || memcmp(&answer[0], &answer[i], sizeof answer[0])
             || memcmp(memory[0], memory[i], sizeof memory[0]) || memcmp(records[0], records[i], cells * sizeof records[0][0])) {
-            printf("%s: the proved machine and C differ\n", name);
+            printf("%s: %s and %s differ\n", name, NAMES[0], NAMES[i]);
             exit(1);
         }
 }
@@ -73,15 +74,15 @@ static void measure(const char *name, size_t cells, size_t count, int rounds) {
         same(name, cells);
         for (int i = 1; i < KINDS; i++) ratios[i][q] = times[0][q] / times[i][q];
     }
-    printf("%-8s %8u steps, ending %u | ns/step: proved %.2f, gcc -O2 %.2f, gcc -O3 %.2f | ratio to -O2 %.2f, to -O3 %.2f\n", name,
-           answer[0].steps, answer[0].ending, median(times[0], rounds), median(times[1], rounds), median(times[2], rounds),
-           median(ratios[1], rounds), median(ratios[2], rounds));
+    printf("%-8s %8u steps, ending %u | ns/step: proved %.2f, gcc -O2 %.2f, gcc -O3 %.2f, C by bundles %.2f | ratio to -O2 %.2f, to -O3 %.2f, to C by bundles %.2f\n",
+           name, answer[0].steps, answer[0].ending, median(times[0], rounds), median(times[1], rounds), median(times[2], rounds),
+           median(times[3], rounds), median(ratios[1], rounds), median(ratios[2], rounds), median(ratios[3], rounds));
 }
 
-/* r1 counts from 0 to 100,000 by r2 = 1; the turn's bundles start at 1, the jump back is the bundle `last`, HALT follows. */
+/* r1 counts from 0 to TURNS by r2 = 1; the turn's bundles start at 1, the jump back is the bundle `last`, HALT follows. */
 static void counted(int last) {
     memset(code, 0, sizeof code);
-    code[0] = word(2, 1, 0, 0, 0, 0), code[1] = word(2, 2, 0, 0, 0, 1), code[2] = word(2, 3, 0, 0, 0, 100000);
+    code[0] = word(2, 1, 0, 0, 0, 0), code[1] = word(2, 2, 0, 0, 0, 1), code[2] = word(2, 3, 0, 0, 0, TURNS);
     code[4 * last - 4] = word(4, 1, 1, 2, 0, 0);
     code[4 * last] = word(14, 0, 1, 3, 2, B + 4);
     code[4 * last + 4] = 1;
@@ -96,21 +97,44 @@ static void event(int g, int n) {
     code[4 * g + 2] = word(19, 0, 0, 0, 0, n), code[4 * g + 3] = word(18, HIDDEN, 0, 0, 0, 0);
 }
 
+/* GOX through r6, if r1 is below r3. */
+static void gox(int g) {
+    code[4 * g] = word(11, HIDDEN, 6, 0, 0, 2), code[4 * g + 1] = word(9, HIDDEN, HIDDEN, 0, 0, 4 * BUNDLES - 4);
+    code[4 * g + 2] = word(10, HIDDEN, HIDDEN, 0, 0, B), code[4 * g + 3] = word(15, HIDDEN, 1, 3, 2, 0);
+}
+
+/* One run of the proved machine, ns a turn by the clock that Lua reads: bench/turn.lua asks for it between its own. */
+static void turn(void) {
+    fresh(0);
+    clock_t t = clock();
+    hemdroas_run(&layout, code, 4 * BUNDLES, &machine[0], memory[0], U, 4000000000u, readings, 0, records[0], 0, &answer[0]);
+    printf("%.2f\n", (double)(clock() - t) * 1e9 / CLOCKS_PER_SEC / TURNS);
+}
+
 int main(int argc, char **argv) {
     int rounds = argc > 1 ? atoi(argv[1]) : 101;
     if (rounds < 1 || rounds > MOST_ROUNDS) rounds = 101;
     for (uint32_t i = 0; i < READINGS; i++) readings[i] = i * 2654435761u;
 
-    /* a store, a load and two adds in each turn */
+    /* a store, a load and two adds in each turn, and the jump: 17 steps */
     counted(5);
     mask(1), code[6] = word(13, 0, HIDDEN, 1, 0, 0);
     mask(2), code[10] = word(12, 4, HIDDEN, 0, 0, 0);
     code[12] = word(4, 5, 5, 4, 0, 0);
+    if (argc > 1 && !strcmp(argv[1], "turn")) {
+        turn();
+        return 0;
+    }
     measure("arith", 64, 0, rounds);
 
     /* an order and a reading in each turn */
     counted(4);
     event(1, 1), event(2, 9);
     measure("events", LOG, READINGS, rounds);
+
+    /* each turn goes back by a GOX to a landing, instruction 1 of 8: r6 has a bit above it, too */
+    counted(2);
+    code[3] = word(2, 6, 0, 0, 0, 1 + BUNDLES), gox(2);
+    measure("gox", 64, 0, rounds);
     return 0;
 }
