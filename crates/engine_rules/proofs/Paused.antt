@@ -115,7 +115,7 @@ engine-pauses lay pol code mem room gs es v w count g h sg sh lent logs readings
     let state : q ≡ G .state = lent sh (lay .cell) (lent-cell lay) ∙ f .state ∙ sym (ap (λ (x : Guest). x .state) same) in
     let i : lay .table + events * q + e ≡ lay .table + (events * q + e) = omega arith in
     let entry : entryAt lay (h .memory) e ≡ arrow pol (G .state) e =
-    ap (λ (x : ℕ). getD (h .memory) x 0) i ∙ m .table (events * q + e) (omega (arith, m .below)) ∙ sym (arrow-entry pol q e valid) ∙ ap (λ (x : ℕ). arrow pol x e) state in
+    ap (λ (x : ℕ). getD (h .memory) x 0) i ∙ m .guarded .table (events * q + e) (omega (arith, m .below)) ∙ sym (arrow-entry pol q e valid) ∙ ap (λ (x : ℕ). arrow pol x e) state in
     let inside : lay .table + events * q + e < lay .size = omega (arith, ok .table, m .below) in
     let size : length (h .memory) ≡ length mem = sh ∙ sym (taken-size lay code mem (v .engine .taken)) in
     let z : refusalOf lay code (h .memory) .number ≡ 0 = ap (λ (x : ℕ). refusalBy lay code x .number) size ∙ v .engine .taken in

@@ -23,7 +23,7 @@ use Rattle.rules.specs.Commands.{commandOf, wordOf, fetchOf}
 use Rattle.rules.specs.Bundles.{shapeOf, bundlesFrom, commandsOf, commandCount, baseRight, placeAnswer, rewriteAnswer, valid, readOff, bundleAt, isBundle, shapedAt, passesAt, checkFrom, countRight, checkAnswer}
 use Rattle.rules.specs.Claims.{SizeLaws, Installs}
 use Rattle.rules.specs.Machines.{machineAt, fits, installAnswer, installMemory, installMachine}
-use Rattle.rules.proofs.Facts.{Right, Valid, Bundled, Laid}
+use Rattle.rules.proofs.Facts.{Ready, Right, Valid, Bundled, Laid}
 use Rattle.rules.proofs.Bools.{no, cases, both, join, either, cond-ind, unless-ind, neither}
 use Rattle.rules.proofs.Refusals.{TakesEach, takes-each, taken-then}
 use Rattle.rules.proofs.Layouts.{LayoutFacts, layout-facts, outside}
@@ -279,16 +279,19 @@ laid-of lay pol mem e =
     let same : length mid ≡ lay .size = length-sets start (lay .table) (pol .table) ∙ long ∙ size in
     rw (eq-eqb _ _ e)
     (record {
-      size = length-sets mid (lay .landings) marks ∙ same;
+      guarded =
+          record {
+            size = length-sets mid (lay .landings) marks ∙ same;
+            table =
+                λ i h.
+                sets-beside marks mid (lay .landings) (lay .table + i) (⊎-elim (λ x. inl (omega arith)) (λ x. inr (omega (arith, wide))) (f .table-landings))
+                ∙ sets-at (pol .table) start (lay .table) i noArrow (omega (arith, p .size, p .states, f .table)) (omega (arith, p .size, p .states));
+            marks = marks-of (sets mid (lay .landings) marks) (pol .landings) (lay .landings) (λ k h. sets-at marks mid (lay .landings) k 0 (omega (arith, wide, same, f .landings)) (omega (arith, wide)));
+          };
       cell =
           sets-beside marks mid (lay .landings) (lay .cell) (⊎-elim (λ h. inl h) (λ h. inr (omega (arith, wide))) (f .cell-landings))
           ∙ sets-beside (pol .table) start (lay .table) (lay .cell) (⊎-elim (λ h. inl h) (λ h. inr (omega (arith, p .size, p .states))) (f .cell-table))
           ∙ getD-set-same mem (lay .cell) (pol .start) 0 (omega (arith, f .cell));
-      table =
-          λ i h.
-          sets-beside marks mid (lay .landings) (lay .table + i) (⊎-elim (λ x. inl (omega arith)) (λ x. inr (omega (arith, wide))) (f .table-landings))
-          ∙ sets-at (pol .table) start (lay .table) i noArrow (omega (arith, p .size, p .states, f .table)) (omega (arith, p .size, p .states));
-      marks = marks-of (sets mid (lay .landings) marks) (pol .landings) (lay .landings) (λ k h. sets-at marks mid (lay .landings) k 0 (omega (arith, wide, same, f .landings)) (omega (arith, wide)));
     })
 
 -- an unprotected cell is none that installing writes
@@ -319,17 +322,17 @@ pub installs : Installs
 installs lay pol mem e =
     let l = laid-of lay pol mem e in
     record {
-      size = l .size ∙ sym (eqb-true _ _ (both (rightLayout lay) _ (fits-of lay pol mem e .0) .1));
+      size = l .guarded .size ∙ sym (eqb-true _ _ (both (rightLayout lay) _ (fits-of lay pol mem e .0) .1));
       cell = l .cell;
-      table = l .table;
-      landings = l .marks;
+      table = l .guarded .table;
+      landings = l .guarded .marks;
       rest = install-rest lay pol mem e;
     }
 
 -- ---- a right layout with a right policy
 
-right-facts : (lay : Layout) (pol : Policy) (n : ℕ) → rightLayout lay ≡ true → rightPolicy lay pol ≡ true → ones n ≡ 1 → n ≤ mostBundles → baseRight lay n ≡ true → Right lay pol n
-right-facts lay pol n r q single most base =
+pub ready-facts : (lay : Layout) (pol : Policy) (n : ℕ) → rightLayout lay ≡ true → rightPolicy lay pol ≡ true → 0 < n → n ≤ mostBundles → Ready lay pol n
+ready-facts lay pol n r q some most =
     let f = layout-facts lay r in
     let p = policy-facts lay pol q in
     record {
@@ -339,16 +342,23 @@ right-facts lay pol n r q single most base =
       table = f .table;
       cell-out = outside lay (lay .cell) (f .cell-box);
       table-out = λ i h. outside lay (lay .table + i) (⊎-elim (λ x. inr (omega arith)) (λ x. inl (omega arith)) (f .table-box));
+      table-cell = λ i h e. ⊎-elim (λ (x : lay .cell < lay .table). omega arith) (λ (x : tableEnd lay ≤ lay .cell). omega arith) (f .cell-table);
       landings-out = λ k h. outside lay (lay .landings + k) (⊎-elim (λ x. inr (omega arith)) (λ x. inl (omega arith)) (f .landings-box));
       landings-cell = λ k h e. ⊎-elim (λ (x : lay .cell < lay .landings). omega arith) (λ (x : landingsEnd lay ≤ lay .cell). omega arith) (f .cell-landings);
-      most = most;
-      table-cell = λ i h e. ⊎-elim (λ (x : lay .cell < lay .table). omega arith) (λ (x : tableEnd lay ≤ lay .cell). omega arith) (f .cell-table);
       entries =
           λ q e hq he.
           rw (lt-ltb e events he) (λ g. rw (← p .states) (entry (pol .states) (pol .table) (p .entries) (events * q + e) g));
       start = rw (← p .states) (p .start);
-      room = base-room (lay .base) n single most (eqb-true _ _ base) (f .base);
       mask = masks lay r .inside;
+      some = some;
+      most = most;
+    }
+
+right-facts : (lay : Layout) (pol : Policy) (n : ℕ) → rightLayout lay ≡ true → rightPolicy lay pol ≡ true → ones n ≡ 1 → n ≤ mostBundles → baseRight lay n ≡ true → Right lay pol n
+right-facts lay pol n r q single most base =
+    record {
+      ready = ready-facts lay pol n r q (some-ones n single) most;
+      room = base-room (lay .base) n single most (eqb-true _ _ base) (layout-facts lay r .base);
       lands = λ x. masks lay r .lands n x single most base;
     }
 

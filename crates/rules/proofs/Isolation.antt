@@ -20,7 +20,7 @@ use Rattle.rules.specs.Guests.{Pair, guestStart}
 use Rattle.rules.specs.Runs.{Given, eventsOf, carriedOf, atFirst, afterRun, after, Served}
 use Rattle.rules.specs.Claims.{givenFor, GuestRule, NoWrap, Recorded, Isolation}
 use Rattle.rules.proofs.Bools.{both, either}
-use Rattle.rules.proofs.Facts.{Right, Bundled}
+use Rattle.rules.proofs.Facts.{Ready, Right, Bundled}
 use Rattle.rules.proofs.Conditions.{passed-of, bundled-of, right-of, laid-of, machine-of, bundled-routine, right-routine}
 use Rattle.rules.proofs.Sim.{Stays}
 use Rattle.rules.proofs.Track.{recorded as recorded-runs, stays-run, stays-runs, install, agrees-after, pc-in, allowed-runs, sound-runs, kept-runs, lasts}
@@ -70,7 +70,7 @@ no-wrap lay pol ws mem gs v =
     }
 
 -- a protected cell other than the state cell lies outside the sandbox
-protected-out : (lay : Layout) (pol : Policy) (n i : ℕ) → Right lay pol n → protected lay i ≡ true → (i ≡ lay .cell → ⊥) → inBox lay i ≡ false
+pub protected-out : (lay : Layout) (pol : Policy) (n i : ℕ) → Ready lay pol n → protected lay i ≡ true → (i ≡ lay .cell → ⊥) → inBox lay i ≡ false
 unfolding protected inTable inLandings
 protected-out lay pol n i ok p ne =
     ⊎-elim (λ e. absurd (ne (eqb-true i (lay .cell) e)))
@@ -104,7 +104,7 @@ isolation lay pol ws mem gs v =
     record {
       sound = sound-runs lay pol ws n is ok bs g0 (atFirst lay pol mem) gs (v .lends) w;
       kept = kept-runs lay pol ws n is ok bs g0 (atFirst lay pol mem) gs (v .lends) w;
-      lasting = λ i p ne. lasts lay pol ws n is ok bs g0 (atFirst lay pol mem) gs (v .lends) w i (protected-out lay pol n i ok p ne) ne p;
+      lasting = λ i p ne. lasts lay pol ws n is ok bs g0 (atFirst lay pol mem) gs (v .lends) w i (protected-out lay pol n i (ok .ready) p ne) ne p;
       allowed =
           ap (λ (ps : List Pair). allowed pol (eventsOf ps)) (sym (recorded lay pol ws mem gs))
           ∙ allowed-runs lay pol ws n is ok bs g0 (after lay pol ws mem gs) (stays lay pol ws mem gs n is ok bs v);

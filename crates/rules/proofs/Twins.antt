@@ -287,7 +287,7 @@ unfolding shapeOf
 mid-safe lay pol n regs mem g h k b i p ok v l (start at bk q) = start-safe lay n regs mem i v (rw q l)
 mid-safe lay pol n regs mem g h k b i p ok v l (rest low nop lt at bk q) = rw (nop p (omega arith)) tt
 mid-safe lay pol n regs mem g h k b i p ok v l (load1 at bk q e) = tt
-mid-safe lay pol n regs mem g h k b i p ok v l (load2 {a = x} at bk q e) = ap (inBox lay) e ∙ ok .mask (rOf g x)
+mid-safe lay pol n regs mem g h k b i p ok v l (load2 {a = x} at bk q e) = ap (inBox lay) e ∙ ok .ready .mask (rOf g x)
 mid-safe lay pol n regs mem g h k b i p ok v l (store1 at bk q e) = tt
 mid-safe lay pol n regs mem g h k b i p ok v l (store2 at bk q e) = tt
 mid-safe lay pol n regs mem g h k b i p ok v l (gox1 at bk q e) = tt
@@ -316,7 +316,7 @@ watched lay pol ws n is g0 ok bs =
       safe =
           λ rd s w run.
           let t = tracks lay pol ws n is ok bs (w .past) (w .before) rd g0 (w .begun) s (w .known) in
-          sim-safe lay pol ws n is s _ (t .0) (w .begun) ok bs (t .1 .agree .below) run (t .1 .sim);
+          sim-safe lay pol ws n is s _ (t .0) (w .begun) ok bs (t .1 .agree .events .below) run (t .1 .sim);
       step =
           λ rd s w run go.
           record { past = w .past; before = w .before; begun = w .begun + begins lay (s .pc); known = step-known lay pol ws n is ok bs (w .past) (w .before) rd g0 (w .begun) s (w .known) run go };

@@ -71,7 +71,7 @@ module _ (lay : Layout) (pol : Policy) (mem raw : List ℕ) (z : installAnswer l
       record {
         regs = refl;
         at = refl;
-        cells = simp (length-take, length-drop) (omega (arith, installed .size, facts .box, facts .ordered));
+        cells = simp (length-take, length-drop) (omega (arith, installed .guarded .size, facts .box, facts .ordered));
         room = s .room;
         box = λ i h. sym (s .cells i h) ∙ sym (kept i h) ∙ sym (box-cell lay (installMemory lay pol mem) i (facts .ordered) h);
         records = refl;
