@@ -22,7 +22,7 @@ use Rattle.rules.specs.Words.{judgeAt, routine, bundlesFor}
 use Rattle.rules.specs.Bundles.{placeAnswer, rewriteAnswer}
 use Rattle.rules.specs.Machines.{State, applyOf, seen, endingOf, eventEffect}
 use Rattle.rules.proofs.Bools.{no, cases}
-use Rattle.rules.proofs.Endings.{over-ind}
+use Rattle.rules.proofs.Loops.{over-ind}
 use Rattle.rules.proofs.Refusals.{refused-map, else-kept, else-none}
 use Rattle.engine_rules.specs.declared.Engine.{Engine}
 use Rattle.engine_rules.specs.Engines.{sendOf, actOf, nextFor, nextOf, entryAt, movedOf, effectOn, endedIn, runFrom, startOf, refusalBy, refusalOf, runOf}

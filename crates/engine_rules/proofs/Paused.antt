@@ -27,14 +27,14 @@ use Rattle.rules.specs.Guests.{Guest, guestAfter, guestStart}
 use Rattle.rules.specs.Runs.{runOn as machineOn, after as machineAfter}
 use Rattle.rules.proofs.Bools.{cond-ind}
 use Rattle.rules.proofs.Facts.{Valid}
-use Rattle.rules.proofs.Endings.{Goes, run-ind as machine-ind}
+use Rattle.rules.proofs.Loops.{Goes, loop-ind, machineLoop}
 use Rattle.rules.proofs.Conditions.{bundled-routine}
 use Rattle.rules.proofs.Sim.{arrow-entry}
 use Rattle.rules.proofs.Track.{lent-cell}
 use Rattle.rules.proofs.Pauses.{pause-rule}
 use Rattle.engine_rules.specs.Engines.{nextOf, withMemory, effectOn, movedOf, stepOf, entryAt, Ran, startOf, runFrom, runOf, refusalOf, refusalBy}
 use Rattle.engine_rules.specs.Claims.{after, runOn, Follows, EnginePauses}
-use Rattle.engine_rules.proofs.Runs.{run-ind, taken-size, enter}
+use Rattle.engine_rules.proofs.Runs.{engineLoop, taken-size, enter}
 use Rattle.engine_rules.proofs.Rule.{taken-of, ready-of, routine-of, stays, engine-rule, meet}
 use Rattle.engine_rules.proofs.Ordered.{paused}
 
@@ -60,7 +60,7 @@ sent caps rd s v f u =
 machine-one : (lay : Layout) (ws rd : List ℕ) (s : State) (v f u : ℕ) → s .status ≡ Running → machineNext lay ws rd s ≡ eventEffect v f u → endingNumber (machineFrom lay ws rd 1 0 s .outcome .answer .ending) ≡ numberBy (eventEffect v f u)
 unfolding machineFrom
 machine-one lay ws rd s v f u run z =
-    machine-ind lay ws rd 0 0 s (λ (r : MachineRan). endingNumber (r .outcome .answer .ending) ≡ numberBy (eventEffect v f u)) (λ o. absurd (o run))
+    loop-ind (machineLoop lay ws rd) 0 0 s (λ (r : MachineRan). endingNumber (r .outcome .answer .ending) ≡ numberBy (eventEffect v f u)) (λ o. absurd (o run))
     (λ _ w y. ap numberBy (sym y ∙ z))
     (λ _ go.
     let q = sent (lay .ceilings) rd s v f u (subst Goes z go) in
@@ -70,7 +70,7 @@ machine-one lay ws rd s v f u run z =
 engine-one : (lay : Layout) (ws rd : List ℕ) (s : State) (v f u : ℕ) → s .status ≡ Running → nextOf lay ws rd s ≡ eventEffect v f u → runFrom lay ws rd 1 0 s .outcome .answer .number ≡ numberBy (eventEffect v f u)
 unfolding runFrom effectOn
 engine-one lay ws rd s v f u run z =
-    run-ind lay ws rd 0 0 s (λ (r : Ran). r .outcome .answer .number ≡ numberBy (eventEffect v f u)) (λ o. absurd (o run))
+    loop-ind (engineLoop lay ws rd) 0 0 s (λ (r : Ran). r .outcome .answer .number ≡ numberBy (eventEffect v f u)) (λ o. absurd (o run))
     (λ _ w y. ap numberBy (sym y ∙ z))
     (λ _ go.
     let e = eventEffect v f u in

@@ -27,7 +27,8 @@ use Rattle.rules.specs.Machines.{View, State, Ran, regAt, entryOf, onward, effe
 use Rattle.rules.specs.Runs.{Given, Carried, atFirst, runOn, afterTaken, afterRun, afterRuns, runsOf, Served}
 use Rattle.rules.proofs.Bools.{no, cases, cond-ind}
 use Rattle.rules.proofs.Facts.{Valid, Bundled}
-use Rattle.rules.proofs.Endings.{Goes, run-ind}
+use Rattle.rules.proofs.Loops.{Goes}
+use Rattle.rules.proofs.Endings.{run-ind}
 use Rattle.rules.proofs.Conditions.{bundled-of, right-of, machine-of}
 use Rattle.forward.specs.Forward.{forwardAt, checkForwardAnswer}
 use Rattle.forward.specs.Claims.{mostSteps, stepsIn, Bounded}

@@ -22,7 +22,8 @@ use Rattle.rules.specs.Machines.{View, State, Ran, effectOf, applyOf, seen, nex
 use Rattle.rules.specs.Runs.{Given, Carried, atFirst, runOn, afterTaken, afterRun, afterRuns, runsOf, after, Lends, Served}
 use Rattle.rules.proofs.Bools.{cases}
 use Rattle.rules.proofs.Facts.{Bundled}
-use Rattle.rules.proofs.Endings.{Goes, goes, run-ind}
+use Rattle.rules.proofs.Loops.{Goes}
+use Rattle.rules.proofs.Endings.{goes, run-ind}
 use Rattle.rules.proofs.Conditions.{bundled-of, right-of, layout-of}
 use Rattle.rules.proofs.Progress.{Still, still, quiet}
 use Rattle.forward.specs.Claims.{stepsIn, FinishesAtOnce}

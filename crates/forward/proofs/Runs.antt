@@ -14,7 +14,8 @@ use Rattle.rules.specs.declared.Effect.the-variants.{Wait}
 use Rattle.rules.specs.Commands.{fetchOf}
 use Rattle.rules.specs.Machines.{State, Ran, seen, nextOf, stepOf, endingOf, runFrom}
 use Rattle.rules.proofs.Bools.{no}
-use Rattle.rules.proofs.Endings.{Pauses, pauses as pauses-only, Goes, run-ind}
+use Rattle.rules.proofs.Loops.{Goes}
+use Rattle.rules.proofs.Endings.{Pauses, pauses as pauses-only, run-ind}
 
 -- 23 and 24
 abbrev pub pauses : Ending → Bool

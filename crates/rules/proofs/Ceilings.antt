@@ -1,20 +1,21 @@
 -- Every recorded order is at most its ceiling.
 use mathlib.Core.Path.{sym, subst}
 use mathlib.Core.List.{List, [], _∷_, _++_}
-use Prim.Native.Nat.{ℕ, zero, suc, _+_, _-_, _*_}
+use Prim.Native.Nat.{ℕ, _+_, _-_, _*_}
 use native.Mathlib.Omega.{arith}
 use lib.ListN.{length, getD}
 use Rattle.rules.specs.declared.Layout.{Layout}
+use Rattle.rules.specs.declared.Ending.{Ending}
 use Rattle.rules.specs.declared.Effect.{Effect}
 use Rattle.rules.specs.declared.Effect.the-variants.{Go, Put, Cell, Order, Probe, End, Wait}
 use Rattle.rules.specs.Layouts.{limited}
 use Rattle.rules.specs.Commands.{fetchOf}
-use Rattle.rules.specs.Machines.{State, applyOf, seen, nextOf, stepOf, Ran, startOf, fits, runFrom, runOf}
+use Rattle.rules.specs.Machines.{State, applyOf, seen, nextOf, endingOf, Ran, startOf, fits, runOf}
 use Rattle.rules.specs.Guests.{pairOf}
 use Rattle.rules.specs.Runs.{Given, Carried, runOn, afterRun, runsOf, recordedIn, pairsOf}
 use Rattle.rules.specs.Claims.{Every, Limited, Ceilings}
 use Rattle.rules.proofs.Bools.{cond-ind}
-use Rattle.rules.proofs.Endings.{run-ind}
+use Rattle.rules.proofs.Loops.{Loop, stepIn, keeps, machineLoop}
 use Rattle.rules.proofs.Counts.{Room, room}
 use Rattle.rules.proofs.Sim.{pairs-more}
 
@@ -40,18 +41,23 @@ apply-limited lay rd (Probe v) s r h =
 apply-limited lay rd (End t) s r h = h
 apply-limited lay rd (Wait e) s r h = h
 
-from-limited : (lay : Layout) (ws rd : List ℕ) (n k : ℕ) (s : State) → LimitedIn lay (s .log) (s .pairs) → let r = runFrom lay ws rd n k s in LimitedIn lay (r .log) (r .outcome .answer .pairs)
-unfolding runFrom
-from-limited lay ws rd zero k s h = h
-from-limited lay ws rd (suc n) k s h =
-    run-ind lay ws rd n k s (λ (r : Ran). LimitedIn lay (r .log) (r .outcome .answer .pairs)) (λ _. h) (λ _ w _. h)
-    (λ _ _. from-limited lay ws rd n (k + 1) (stepOf lay ws rd s) (apply-limited lay rd (nextOf lay ws rd s) s (room (fetchOf ws (lay .base) (s .pc)) (seen lay rd s)) h))
+-- any loop whose steps do so
+pub loop-limited : {K R : Type 0} (a : Loop K R) (lay : Layout) (P : R → Type 0)
+    → ((s : State) → LimitedIn lay (s .log) (s .pairs) → LimitedIn lay (stepIn a s .log) (stepIn a s .pairs))
+    → ((e : Ending) (k : K) (s : State) → LimitedIn lay (s .log) (s .pairs) → P (a .ends e k s))
+    → (n : ℕ) (k : K) (s : State) → LimitedIn lay (s .log) (s .pairs) → P (a .from n k s)
+loop-limited a lay P step ends =
+    keeps a (λ n k s. LimitedIn lay (s .log) (s .pairs)) P (λ n k s i o. ends (endingOf (s .status)) k s i) (λ n k s i r w z. ends w k s i) (λ n k s i r g. step s i)
 
 run-limited : (lay : Layout) (ws : List ℕ) (c : Carried) (g : Given) → let r = runOn lay ws c g in LimitedIn lay (r .log) (r .outcome .answer .pairs)
 unfolding runOn runOf
 run-limited lay ws c g =
-    cond-ind (λ (r : Ran). LimitedIn lay (r .log) (r .outcome .answer .pairs)) (fits lay (g .memory))
-    (λ _. from-limited lay ws (g .readings) (g .budget) 0 (startOf (c .machine) (g .memory) (g .log)) tt) (λ _. tt)
+    let rd = g .readings in
+    let P : Ran → Type 0 = λ r. LimitedIn lay (r .log) (r .outcome .answer .pairs) in
+    cond-ind P (fits lay (g .memory))
+    (λ _. loop-limited (machineLoop lay ws rd) lay P (λ s. apply-limited lay rd (nextOf lay ws rd s) s (room (fetchOf ws (lay .base) (s .pc)) (seen lay rd s))) (λ e k s h. h)
+    (g .budget) 0 (startOf (c .machine) (g .memory) (g .log)) tt)
+    (λ _. tt)
 
 pub ceilings : Ceilings
 unfolding runsOf

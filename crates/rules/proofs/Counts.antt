@@ -27,12 +27,12 @@ use Rattle.rules.specs.Policies.{Policy, rightPolicy}
 use Rattle.rules.specs.Landings.{rightLandings}
 use Rattle.rules.specs.Commands.{fetchOf, holdsOf}
 use Rattle.rules.specs.Bundles.{baseRight, commandsOf, commandCount, placeAnswer, rewriteAnswer, countRight, passesAt, checkFrom, checkAnswer}
-use Rattle.rules.specs.Machines.{ifRoom, View, State, Ran, fits, installAnswer, regAt, entryOf, landsAt, effectOf, withPair, applyOf, seen, nextOf, stepOf, endingOf, endedIn, runFrom, startOf, runOf}
+use Rattle.rules.specs.Machines.{ifRoom, View, State, Ran, fits, installAnswer, regAt, entryOf, landsAt, effectOf, withPair, applyOf, seen, nextOf, endingOf, startOf, runOf}
 use Rattle.rules.specs.Loading.{loadAnswer}
 use Rattle.rules.proofs.Bools.{cond-ind, unless-ind, both}
 use Rattle.rules.proofs.Refusals.{taken-then}
 use Rattle.rules.proofs.Bytes.{bit-le, length-fields, length-routine}
-use Rattle.rules.proofs.Endings.{run-ind}
+use Rattle.rules.proofs.Loops.{Loop, stepIn, keeps, machineLoop}
 use Rattle.rules.proofs.Masks.{sizes}
 use Rattle.rules.proofs.Conditions.{length-bundles}
 
@@ -275,30 +275,44 @@ step-counts caps l p u rd (End t) s b r = record { log = b .log; pairs = omega a
 step-counts caps l p u rd (Wait e) s b r = record { log = b .log; pairs = omega arith; used = omega arith; drawn = b .drawn; room = b .room; rest = b .rest }
 
 -- a run's counts: at most n steps, pairs and readings; the pairs within a log as long as l, and as l beyond them; the readings within rd
-pub record RunCounts (l rd : List ℕ) (n : ℕ) (r : Ran) : Type 0 where
-  pub steps : r .outcome .answer .steps ≤ n
-  pub pairs : r .outcome .answer .pairs ≤ n
-  pub used : r .outcome .answer .used ≤ n
-  pub drawn : r .outcome .answer .used ≤ length rd
-  pub room : 2 * r .outcome .answer .pairs ≤ length l
-  pub log : length (r .log) ≡ length l
-  pub rest : (i : ℕ) → 2 * r .outcome .answer .pairs ≤ i → getD (r .log) i 0 ≡ getD l i 0
+pub record Tally (l rd : List ℕ) (n k p u : ℕ) (log′ : List ℕ) : Type 0 where
+  pub steps : k ≤ n
+  pub pairs : p ≤ n
+  pub used : u ≤ n
+  pub drawn : u ≤ length rd
+  pub room : 2 * p ≤ length l
+  pub log : length log′ ≡ length l
+  pub rest : (i : ℕ) → 2 * p ≤ i → getD log′ i 0 ≡ getD l i 0
 
-ended-counts : (l rd : List ℕ) (n k : ℕ) (s : State) (e : Ending) → k ≤ n → Counted l rd k k s → RunCounts l rd n (endedIn e k s)
-ended-counts l rd n k s e h b = record { steps = h; pairs = omega arith; used = omega arith; drawn = b .drawn; room = b .room; log = b .log; rest = b .rest }
+abbrev pub RunCounts : List ℕ → List ℕ → ℕ → Ran → Type 0
+RunCounts l rd n r = Tally l rd n (r .outcome .answer .steps) (r .outcome .answer .pairs) (r .outcome .answer .used) (r .log)
 
-from-counts : (lay : Layout) (ws rd l : List ℕ) (n m k : ℕ) (s : State) → k + m ≤ n → Counted l rd k k s → RunCounts l rd n (runFrom lay ws rd m k s)
-unfolding runFrom
-from-counts lay ws rd l n zero k s h b = ended-counts l rd n k s (endingOf (s .status)) (omega arith) b
-from-counts lay ws rd l n (suc m) k s h b =
-    run-ind lay ws rd m k s (RunCounts l rd n) (λ _. ended-counts l rd n k s _ (omega arith) b) (λ _ w _. ended-counts l rd n k s w (omega arith) b)
-    (λ _ _. from-counts lay ws rd l n m (k + 1) (stepOf lay ws rd s) (omega arith)
-    (step-counts (lay .ceilings) l k k rd (nextOf lay ws rd s) s b (room (fetchOf ws (lay .base) (s .pc)) (seen lay rd s))))
+-- within a run of at most n steps, m of them left
+abbrev pub Counting : List ℕ → List ℕ → ℕ → ℕ → ℕ → State → Type 0
+Counting l rd n m k s = (k + m ≤ n) × Counted l rd k k s
+
+pub ended-counts : (l rd : List ℕ) (n m k : ℕ) (s : State) → Counting l rd n m k s → Tally l rd n k (s .pairs) (s .used) (s .log)
+ended-counts l rd n m k s (h, b) = record { steps = omega arith; pairs = omega arith; used = omega arith; drawn = b .drawn; room = b .room; log = b .log; rest = b .rest }
+
+pub at-first : (rd log : List ℕ) (n : ℕ) (s : State) → s .log ≡ log → s .pairs ≡ 0 → s .used ≡ 0 → Counting log rd n n 0 s
+at-first rd log n s e p u =
+    (omega arith, record { log = ap length e; pairs = omega arith; used = omega arith; drawn = omega arith; room = omega arith; rest = λ i h. ap (λ (x : List ℕ). getD x i 0) e })
+
+-- any loop whose steps count so
+pub loop-counts : {R : Type 0} (a : Loop ℕ R) (l rd : List ℕ) (n : ℕ) (P : R → Type 0)
+    → ((s : State) (k : ℕ) → a .tick s k ≡ k + 1)
+    → ((k : ℕ) (s : State) → Counted l rd k k s → Counted l rd (k + 1) (k + 1) (stepIn a s))
+    → ((e : Ending) (m k : ℕ) (s : State) → Counting l rd n m k s → P (a .ends e k s))
+    → (m k : ℕ) (s : State) → Counting l rd n m k s → P (a .from m k s)
+loop-counts a l rd n P one step ends =
+    keeps a (Counting l rd n) P (λ m k s i o. ends (endingOf (s .status)) m k s i) (λ m k s i r w z. ends w (suc m) k s i)
+    (λ m k s i r g. subst (λ (x : ℕ). Counting l rd n m x (stepIn a s)) (sym (one s k)) (omega (arith, i .0), step k s (i .1)))
 
 pub run-counts : (lay : Layout) (ws : List ℕ) (m : Machine) (mem : List ℕ) (budget : ℕ) (rd log : List ℕ) → RunCounts log rd budget (runOf lay ws m mem budget rd log)
 unfolding runOf
 run-counts lay ws m mem budget rd log =
     cond-ind (RunCounts log rd budget) (fits lay mem)
-    (λ _. from-counts lay ws rd log budget budget 0 (startOf m mem log) (omega arith)
-    (record { log = refl; pairs = omega arith; used = omega arith; drawn = omega arith; room = omega arith; rest = λ i h. refl }))
+    (λ _. loop-counts (machineLoop lay ws rd) log rd budget (RunCounts log rd budget) (λ s k. refl)
+    (λ k s b. step-counts (lay .ceilings) log k k rd (nextOf lay ws rd s) s b (room (fetchOf ws (lay .base) (s .pc)) (seen lay rd s)))
+    (λ e m k s. ended-counts log rd budget m k s) budget 0 (startOf m mem log) (at-first rd log budget (startOf m mem log) refl refl refl))
     (λ _. record { steps = omega arith; pairs = omega arith; used = omega arith; drawn = omega arith; room = omega arith; log = refl; rest = λ i h. refl })

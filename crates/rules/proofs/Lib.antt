@@ -1,5 +1,6 @@
 pub mod Bools
 pub mod Refusals
+pub mod Loops
 pub mod Facts
 pub mod Layouts
 pub mod Landings

@@ -32,7 +32,8 @@ use Rattle.rules.proofs.Bools.{no, cases, cond-ind}
 use Rattle.rules.proofs.Conditions.{bundled-of, right-of, layout-of}
 use Rattle.rules.proofs.Sim.{Mid, start, rest, load1, load2, store1, store2, gox1, gox2, gox3, event1, event2, event3, Sim, over, live, Known}
 use Rattle.rules.proofs.Track.{first-yes, first-no, fetched, tracks, step-known, enter}
-use Rattle.rules.proofs.Endings.{Goes, goes, over-ind, wait-ind, run-ind}
+use Rattle.rules.proofs.Loops.{Goes, go-from, machineLoop, begunLoop}
+use Rattle.rules.proofs.Endings.{goes}
 use Rattle.rules.proofs.Isolation.{stays}
 
 -- ---- commands other than EVENT, and effects that neither pause nor record
@@ -192,14 +193,10 @@ module _ (lay : Layout) (rd : List ℕ) (s : State) where
 -- ---- one step of a run
 module _ (lay : Layout) (ws rd : List ℕ) (s : State) (run : s .status ≡ Running) (go : Goes (nextOf lay ws rd s)) where
   run-step : (j k : ℕ) → runFrom lay ws rd (suc j) k s ≡ runFrom lay ws rd j (k + 1) (stepOf lay ws rd s)
-  run-step j k =
-      run-ind lay ws rd j k s (λ (r : Ran). r ≡ runFrom lay ws rd j (k + 1) (stepOf lay ws rd s)) (λ f. absurd (f run)) (λ _ w z. absurd (go w z)) (λ _ _. refl)
+  run-step j k = go-from (machineLoop lay ws rd) j k s run go
 
   begun-step : (j b : ℕ) → begunFrom lay ws rd (suc j) b s ≡ begunFrom lay ws rd j (b + begins lay (s .pc)) (stepOf lay ws rd s)
-  unfolding begunFrom
-  begun-step j b =
-      let to = begunFrom lay ws rd j (b + begins lay (s .pc)) (stepOf lay ws rd s) in
-      over-ind (λ (x : ℕ). x ≡ to) (s .status) (λ f. absurd (f run)) (λ _. wait-ind (λ (x : ℕ). x ≡ to) (nextOf lay ws rd s) (λ w z. absurd (go w z)) (λ _. refl))
+  begun-step j b = ap (λ r. r .1) (go-from (begunLoop lay ws rd) j (0, b) s run go)
 
 -- a run of at most so many steps that ends at a place of comparison
 record Came (lay : Layout) (ws rd : List ℕ) (most k b b₂ : ℕ) (s : State) : Type 0 where

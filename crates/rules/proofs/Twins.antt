@@ -11,8 +11,7 @@ use lib.ListN.{length, getD, set, length-set, List·getD-eq-default}
 use lib.Seq.{getD-set-same, getD-set-other, set-out}
 use Rattle.rules.specs.declared.Command.{Command}
 use Rattle.rules.specs.declared.Command.the-variants.{Nop, Halt, Plain, Load, Store, GoIf, GoReg, Look, StopIf, Keep, Event, Stray}
-use Rattle.rules.specs.declared.Status.{Status}
-use Rattle.rules.specs.declared.Status.the-variants.{Running, Ended, Stopped, Faulted, Strayed}
+use Rattle.rules.specs.declared.Status.the-variants.{Running}
 use Rattle.rules.specs.declared.Ending.{Ending}
 use Rattle.rules.specs.declared.Effect.{Effect}
 use Rattle.rules.specs.declared.Effect.the-variants.{Go, Put, Cell, Order, Probe, End, Wait}
@@ -26,28 +25,29 @@ use Rattle.rules.specs.Layouts.{inBox, rightLayout}
 use Rattle.rules.specs.Policies.{Policy}
 use Rattle.rules.specs.Landings.{marked}
 use Rattle.rules.specs.Commands.{fetchOf}
-use Rattle.rules.specs.Machines.{viewOf, landsAt, effectOf, State, stateOf, withPair, applyOf, seen, nextOf, stepOf, endingOf, Ran, endedIn, unlessOver, unlessWait, fits, startOf, runFrom, runOf, installMemory}
+use Rattle.rules.specs.Machines.{viewOf, landsAt, effectOf, State, stateOf, withPair, applyOf, seen, nextOf, stepOf, Ran, fits, startOf, runFrom, runOf, installMemory}
 use Rattle.rules.specs.Bundles.{shapeOf}
 use Rattle.rules.specs.Guests.{Pair, Guest, rOf, guestStart}
 use Rattle.rules.specs.Runs.{Given, pairsOf, Carried, carriedOf, atFirst, runOn, afterTaken, begins, afterRun, runsOf, Matches, Lent, Lends, Served}
 use Rattle.rules.specs.Claims.{Each, Alike, Same}
-use Rattle.rules.proofs.Bools.{no, cases, both}
+use Rattle.rules.proofs.Bools.{cases, both}
 use Rattle.rules.proofs.Landings.{marked-same}
 use Rattle.rules.proofs.Facts.{Right, Valid, Bundled, Laid}
+use Rattle.rules.proofs.Loops.{Goes, Loop, stepIn, alikes, machineLoop}
 use Rattle.rules.proofs.Conditions.{machine-of}
 use Rattle.rules.proofs.Sim.{Mid, start, rest, load1, load2, store1, store2, gox1, gox2, gox3, event1, event2, event3, Sim, over, live, Known, Stays}
 use Rattle.rules.proofs.Track.{lent-box, lent-cell, lent-table, lent-landing, tracks, step-known, enter, stays-run, install}
 
 -- ---- two states with the same machine and counts, alike in what is seen of memory and in the pairs logged
-abbrev besides : State → List ℕ → List ℕ → State
+abbrev pub besides : State → List ℕ → List ℕ → State
 besides s mem log = stateOf (s .regs) (s .pc) (s .status) mem log (s .pairs) (s .used)
 
-record Twin (lay : Layout) (s t : State) : Type 0 where
-  same : t ≡ besides s (t .mem) (t .log)
-  seen : Matches lay (s .mem) (t .mem)
-  size : length (s .mem) ≡ length (t .mem)
-  long : length (s .log) ≡ length (t .log)
-  logged : (i : ℕ) → i < 2 * s .pairs → getD (s .log) i 0 ≡ getD (t .log) i 0
+pub record Twin (lay : Layout) (s t : State) : Type 0 where
+  pub same : t ≡ besides s (t .mem) (t .log)
+  pub seen : Matches lay (s .mem) (t .mem)
+  pub size : length (s .mem) ≡ length (t .mem)
+  pub long : length (s .log) ≡ length (t .log)
+  pub logged : (i : ℕ) → i < 2 * s .pairs → getD (s .log) i 0 ≡ getD (t .log) i 0
 
 -- the same store into two lists of one length
 pub set-alike : (l l′ : List ℕ) (a i v : ℕ) → length l ≡ length l′ → ((i ≡ a → ⊥) → getD l i 0 ≡ getD l′ i 0) → getD (set l a v) i 0 ≡ getD (set l′ a v) i 0
@@ -74,7 +74,7 @@ pair-alike log log′ n e x i l h m =
     (λ p. set-alike log log′ (2 * n) i e l (λ q. h i (omega arith)))
 
 -- the same effect keeps two states twins
-apply-alike : (lay : Layout) (rd : List ℕ) (e : Effect) (s : State) (mem log : List ℕ) → Twin lay s (besides s mem log) → Twin lay (applyOf (lay .ceilings) rd e s) (applyOf (lay .ceilings) rd e (besides s mem log))
+pub apply-alike : (lay : Layout) (rd : List ℕ) (e : Effect) (s : State) (mem log : List ℕ) → Twin lay s (besides s mem log) → Twin lay (applyOf (lay .ceilings) rd e s) (applyOf (lay .ceilings) rd e (besides s mem log))
 unfolding applyOf
 apply-alike lay rd (Go to) s mem log t = record { same = refl; seen = t .seen; size = t .size; long = t .long; logged = t .logged }
 apply-alike lay rd (Put d x) s mem log t = record { same = refl; seen = t .seen; size = t .size; long = t .long; logged = t .logged }
@@ -167,29 +167,33 @@ pairs-alike log log′ (suc k) h =
     let r = pairs-alike log log′ k (λ i m. h i (omega arith)) in
     cc
 
+-- any loop, where what is next is the same for twins, and so is what it leaves; `In` is known of the first
+module _ {R : Type 0} (a : Loop ℕ R) (lay : Layout) (In : State → Type 0)
+    (one : (s : State) (k : ℕ) → a .tick s k ≡ k + 1)
+    (next : (s : State) (mem log : List ℕ) → In s → s .status ≡ Running → Twin lay s (besides s mem log) → a .next (besides s mem log) ≡ a .next s)
+    (acts : (s : State) (mem log : List ℕ) → In s → s .status ≡ Running → Twin lay s (besides s mem log) → Twin lay (stepIn a s) (a .act (a .next s) (besides s mem log)))
+    (step : (s : State) → In s → s .status ≡ Running → Goes (a .next s) → In (stepIn a s)) where
+  pub loop-alike : (Q : R → R → Type 0) → ((e : Ending) (k : ℕ) (s : State) (mem log : List ℕ) → Twin lay s (besides s mem log) → Q (a .ends e k s) (a .ends e k (besides s mem log)))
+      → (n k : ℕ) (s : State) (mem log : List ℕ) → In s → Twin lay s (besides s mem log) → Q (a .from n k s) (a .from n k (besides s mem log))
+  loop-alike Q ends n k s mem log i w =
+      alikes a (λ s t. In s × Twin lay s t) Q (λ s t x. ap (λ (y : State). y .status) (x .1 .same)) same-next
+      (λ s t x r g. (step s (x .0) r g, subst (Twin lay (stepIn a s)) (ap (λ (e : Effect). a .act e (beside s t)) (sym (same-next s t x r)) ∙ ap (a .act (a .next t)) (sym (x .1 .same))) (acts s (t .mem) (t .log) (x .0) r (beside-twin s t (x .1)))))
+      (λ k s t x. one t k ∙ sym (one s k))
+      (λ e k s t x. subst (λ (y : State). Q (a .ends e k s) (a .ends e k y)) (sym (x .1 .same)) (ends e k s (t .mem) (t .log) (beside-twin s t (x .1)))) n k s (besides s mem log) (i, w)
+    where
+      beside : State → State → State
+      beside s t = besides s (t .mem) (t .log)
+
+      beside-twin : (s t : State) → Twin lay s t → Twin lay s (besides s (t .mem) (t .log))
+      beside-twin s t w = subst (Twin lay s) (w .same) w
+
+      same-next : (s t : State) → In s × Twin lay s t → s .status ≡ Running → a .next t ≡ a .next s
+      same-next s t x r = ap (a .next) (x .1 .same) ∙ next s (t .mem) (t .log) (x .0) r (beside-twin s t (x .1))
+
 record RanAlike (lay : Layout) (r r′ : Ran) : Type 0 where
   outcome : r .outcome ≡ r′ .outcome
   logged : pairsOf (r .log) (r .outcome .answer .pairs) ≡ pairsOf (r′ .log) (r′ .outcome .answer .pairs)
   seen : Matches lay (r .mem) (r′ .mem)
-
-ended-alike : (lay : Layout) (k : ℕ) (s : State) (mem log : List ℕ) (e : Ending) → Twin lay s (besides s mem log) → RanAlike lay (endedIn e k s) (endedIn e k (besides s mem log))
-ended-alike lay k s mem log e t = record { outcome = refl; logged = pairs-alike (s .log) log (s .pairs) (t .logged); seen = t .seen }
-
-over-alike : (lay : Layout) (t : Status) (x x′ y y′ : Ran) → RanAlike lay x x′ → (t ≡ Running → RanAlike lay y y′) → RanAlike lay (unlessOver t x y) (unlessOver t x′ y′)
-over-alike lay Running x x′ y y′ p q = q refl
-over-alike lay Ended x x′ y y′ p q = p
-over-alike lay Stopped x x′ y y′ p q = p
-over-alike lay Faulted x x′ y y′ p q = p
-over-alike lay Strayed x x′ y y′ p q = p
-
-wait-alike : (lay : Layout) (e : Effect) (x x′ : Ending → Ran) (y y′ : Ran) → ((d : Ending) → RanAlike lay (x d) (x′ d)) → (((d : Ending) → e ≡ Wait d → ⊥) → RanAlike lay y y′) → RanAlike lay (unlessWait e x y) (unlessWait e x′ y′)
-wait-alike lay (Wait d) x x′ y y′ p q = p d
-wait-alike lay (Go to) x x′ y y′ p q = q (λ w z. no (cc))
-wait-alike lay (Put d v) x x′ y y′ p q = q (λ w z. no (cc))
-wait-alike lay (Cell i v) x x′ y y′ p q = q (λ w z. no (cc))
-wait-alike lay (Order v) x x′ y y′ p q = q (λ w z. no (cc))
-wait-alike lay (Probe v) x x′ y y′ p q = q (λ w z. no (cc))
-wait-alike lay (End t) x x′ y y′ p q = q (λ w z. no (cc))
 
 -- what the simulation knows of a list of runs: `In` within a run with readings rd, `Out` between two
 record Watched (lay : Layout) (ws : List ℕ) (In : List ℕ → State → Type 0) (Out : Carried → Type 0) : Type 0 where
@@ -211,21 +215,10 @@ record Onward (lay : Layout) (ws : List ℕ) (c c′ : Carried) (g g′ : Given)
 
 module _ (lay : Layout) (ws : List ℕ) (In : List ℕ → State → Type 0) (Out : Carried → Type 0) (known : Watched lay ws In Out) where
   run-alike : (rd : List ℕ) (n k : ℕ) (s : State) (mem log : List ℕ) → In rd s → Twin lay s (besides s mem log) → RanAlike lay (runFrom lay ws rd n k s) (runFrom lay ws rd n k (besides s mem log))
-  unfolding runFrom
-  run-alike rd zero k s mem log w t = ended-alike lay k s mem log (endingOf (s .status)) t
-  run-alike rd (suc n) k s mem log w t =
-      over-alike lay (s .status) _ _ _ _ (ended-alike lay k s mem log (endingOf (s .status)) t)
-      (λ h.
-      let e = nextOf lay ws rd s in
-      let u = apply-alike lay rd e s mem log t in
-      let s₂ = applyOf (lay .ceilings) rd e s in
-      let t₂ = applyOf (lay .ceilings) rd e (besides s mem log) in
-      subst (λ (x : Effect). RanAlike lay (unlessWait e (λ d. endedIn d k s) (runFrom lay ws rd n (k + 1) s₂)) (unlessWait x (λ d. endedIn d k (besides s mem log)) (runFrom lay ws rd n (k + 1) (applyOf (lay .ceilings) rd x (besides s mem log)))))
-      (sym (next-alike lay ws rd s mem log t (known .safe rd s w h)))
-      (wait-alike lay e _ _ _ _ (λ d. ended-alike lay k s mem log d t)
-      (λ q.
-      subst (λ (x : State). RanAlike lay (runFrom lay ws rd n (k + 1) s₂) (runFrom lay ws rd n (k + 1) x)) (sym (u .same))
-      (run-alike rd n (k + 1) s₂ (t₂ .mem) (t₂ .log) (known .step rd s w h q) (subst (Twin lay s₂) (u .same) u)))))
+  run-alike rd n k s mem log w t =
+      loop-alike (machineLoop lay ws rd) lay (In rd) (λ s k. refl) (λ s mem log i r w. next-alike lay ws rd s mem log w (known .safe rd s i r))
+      (λ s mem log i r w. apply-alike lay rd (nextOf lay ws rd s) s mem log w) (known .step rd) (RanAlike lay)
+      (λ e k s mem log w. record { outcome = refl; logged = pairs-alike (s .log) log (s .pairs) (w .logged); seen = w .seen }) n k s mem log w t
 
   -- ---- lists of runs
   onward : (c c′ : Carried) (g g′ : Given) (b : Bool) → fits lay (g .memory) ≡ b → Alike g g′ → Lent lay c g → Lent lay c′ g′ → Out c → Like lay c c′ → Onward lay ws c c′ g g′
