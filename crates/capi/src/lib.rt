@@ -1,28 +1,28 @@
 // The C interface: the sandbox's parts over numbers, arrays and slices. Each part is proved in a crate of its own and has
 // its name for C here.
+use capi_numbers::ANSWER;
+use capi_numbers::LAYOUT;
 use capi_numbers::RECORD;
+use capi_numbers::RUN_ANSWER;
 ghost use mathlib.Core.Path.{_≡_};
 ghost use lib.ListN.{length};
 ghost use Rattle.rules.specs.Policies.{policyOf, wordRight};
 ghost use Rattle.rules.specs.Bytes.{readAnswer, readOutput, writeAnswer, writeOutput};
-ghost use Rattle.rules.specs.Bundles.{rewriteAnswer, rewriteOutput, checkAnswer};
-ghost use Rattle.rules.specs.Machines.{installAnswer, installMachine, installMemory};
-ghost use Rattle.rules.specs.Loading.{loadAnswer, loadMachine, loadCommands, loadMemory};
-ghost use Rattle.capi_numbers.specs.Numbers.{layoutFrom, machineTo, answerTo, runAnswerTo, recordAfter};
+ghost use Rattle.rules.specs.Bundles.{rewriteAnswer, rewriteOutput};
+ghost use Rattle.capi_numbers.specs.Numbers.{layoutFrom, answerTo};
+ghost use Rattle.capi_numbers.specs.Hosts.{checkFor, hostInstalled, installFor, hostLoaded, loadFor, hostRan, runFor, hostPreviewed, previewFor};
 ghost use Rattle.policy_precedence.specs.Precedence.{makeOf, makeTable};
 ghost use Rattle.forward.specs.Forward.{forwardAnswer, checkForwardAnswer};
 ghost use Rattle.policy_determinise.specs.Drawings.{drawingOf, determiniseOf, determiniseTable};
-ghost use Rattle.policy_merge.specs.Pairs.{mergeTable};
 ghost use Rattle.capi_loading.specs.Hosts.{yesOrNo};
-ghost use Rattle.capi_running.specs.Hosts.{runFor};
 ghost use Rattle.capi_precedence.specs.Hosts.{madeTo};
-ghost use Rattle.capi_engine.specs.Records.{runFor as engineFor, recordAfter as engineAfter, answerTo as engineAnswerTo};
+ghost use Rattle.capi_engine.specs.Records.{engineFor};
 ghost use Rattle.capi_determinise.specs.Numbers.{madeTo as policyTo};
-ghost use Rattle.capi_merge.specs.Numbers.{policyFrom, mergeFor, mergedTo};
+ghost use Rattle.capi_merge.specs.Numbers.{hostMerged, mergeFor};
 
 // Reads a routine's bytes into words.
 #[no_mangle]
-pub extern "C" fn hemdroas_read(bytes: &[u8], words: &mut [u64], answer: &mut [u32; 2])
+pub extern "C" fn hemdroas_read(bytes: &[u8], words: &mut [u64], answer: &mut [u32; ANSWER])
     ensures answer { λ _. ⌜ now (answer .exit) ≡ answerTo (readAnswer (now (bytes .entry)) (length (now (words .entry)))) ⌝ }
     ensures content { λ _. ⌜ now (words .exit) ≡ readOutput (now (bytes .entry)) (now (words .entry)) ⌝ }
 {
@@ -31,7 +31,7 @@ pub extern "C" fn hemdroas_read(bytes: &[u8], words: &mut [u64], answer: &mut [u
 
 // Writes a routine's words as bytes.
 #[no_mangle]
-pub extern "C" fn hemdroas_write(words: &[u64], bytes: &mut [u8], answer: &mut [u32; 2])
+pub extern "C" fn hemdroas_write(words: &[u64], bytes: &mut [u8], answer: &mut [u32; ANSWER])
     ensures answer { λ _. ⌜ now (answer .exit) ≡ answerTo (writeAnswer (now (words .entry)) (length (now (bytes .entry)))) ⌝ }
     ensures content { λ _. ⌜ now (bytes .exit) ≡ writeOutput (now (words .entry)) (now (bytes .entry)) ⌝ }
 {
@@ -41,10 +41,10 @@ pub extern "C" fn hemdroas_write(words: &[u64], bytes: &mut [u8], answer: &mut [
 // Rewrites a routine's words into commands.
 #[no_mangle]
 pub extern "C" fn hemdroas_rewrite(
-    layout: &[u32; 16],
+    layout: &[u32; LAYOUT],
     words: &[u64],
     commands: &mut [u64],
-    answer: &mut [u32; 2],
+    answer: &mut [u32; ANSWER],
 )
     ensures answer { λ _. ⌜ now (answer .exit) ≡ answerTo (rewriteAnswer (layoutFrom (now (layout .entry))) (now (words .entry)) (length (now (commands .entry)))) ⌝ }
     ensures content { λ _. ⌜ now (commands .exit) ≡ rewriteOutput (layoutFrom (now (layout .entry))) (now (words .entry)) (now (commands .entry)) ⌝ }
@@ -54,15 +54,19 @@ pub extern "C" fn hemdroas_rewrite(
 
 // Checks a list of commands.
 #[no_mangle]
-pub extern "C" fn hemdroas_check(layout: &[u32; 16], commands: &[u64], answer: &mut [u32; 2])
-    ensures { λ _. ⌜ now (answer .exit) ≡ answerTo (checkAnswer (layoutFrom (now (layout .entry))) (now (commands .entry))) ⌝ }
+pub extern "C" fn hemdroas_check(
+    layout: &[u32; LAYOUT],
+    commands: &[u64],
+    answer: &mut [u32; ANSWER],
+)
+    ensures { λ _. ⌜ now (answer .exit) ≡ checkFor (now (layout .entry)) (now (commands .entry)) ⌝ }
 {
     capi_commands::check(layout, commands, answer);
 }
 
 // Checks that a routine's words are of the class that always finishes.
 #[no_mangle]
-pub extern "C" fn hemdroas_forward(words: &[u64], answer: &mut [u32; 2])
+pub extern "C" fn hemdroas_forward(words: &[u64], answer: &mut [u32; ANSWER])
     ensures { λ _. ⌜ now (answer .exit) ≡ answerTo (forwardAnswer (now (words .entry))) ⌝ }
 {
     capi_forward::forward(words, answer);
@@ -71,9 +75,9 @@ pub extern "C" fn hemdroas_forward(words: &[u64], answer: &mut [u32; 2])
 // Checks a list of commands, and that it is of that class.
 #[no_mangle]
 pub extern "C" fn hemdroas_check_forward(
-    layout: &[u32; 16],
+    layout: &[u32; LAYOUT],
     commands: &[u64],
-    answer: &mut [u32; 2],
+    answer: &mut [u32; ANSWER],
 )
     ensures { λ _. ⌜ now (answer .exit) ≡ answerTo (checkForwardAnswer (layoutFrom (now (layout .entry))) (now (commands .entry))) ⌝ }
 {
@@ -91,18 +95,16 @@ pub extern "C" fn hemdroas_word_right(states: u32, word: u32) -> u32
 // Installs a policy.
 #[no_mangle]
 pub extern "C" fn hemdroas_install(
-    layout: &[u32; 16],
+    layout: &[u32; LAYOUT],
     states: u32,
     start: u32,
     table: &[u8],
     landings: &[u32],
     memory: &mut [u32],
     machine: &mut [u32; RECORD],
-    answer: &mut [u32; 2],
+    answer: &mut [u32; ANSWER],
 )
-    ensures answer { λ _. ⌜ now (answer .exit) ≡ answerTo (installAnswer (layoutFrom (now (layout .entry))) (policyOf states start (now (table .entry)) (now (landings .entry))) (now (memory .entry))) ⌝ }
-    ensures machine { λ _. ⌜ now (machine .exit) ≡ machineTo (installMachine (layoutFrom (now (layout .entry))) (policyOf states start (now (table .entry)) (now (landings .entry))) (now (memory .entry))) ⌝ }
-    ensures memory { λ _. ⌜ now (memory .exit) ≡ installMemory (layoutFrom (now (layout .entry))) (policyOf states start (now (table .entry)) (now (landings .entry))) (now (memory .entry)) ⌝ }
+    ensures { λ _. ⌜ hostInstalled (now (answer .exit)) (now (machine .exit)) (now (memory .exit)) ≡ installFor (now (layout .entry)) (policyOf states start (now (table .entry)) (now (landings .entry))) (now (memory .entry)) ⌝ }
 {
     capi_loading::install(
         layout,
@@ -119,7 +121,7 @@ pub extern "C" fn hemdroas_install(
 // Loads a routine: all that comes before a run, in one call.
 #[no_mangle]
 pub extern "C" fn hemdroas_load(
-    layout: &[u32; 16],
+    layout: &[u32; LAYOUT],
     states: u32,
     start: u32,
     table: &[u8],
@@ -128,12 +130,9 @@ pub extern "C" fn hemdroas_load(
     commands: &mut [u64],
     memory: &mut [u32],
     machine: &mut [u32; RECORD],
-    answer: &mut [u32; 2],
+    answer: &mut [u32; ANSWER],
 )
-    ensures answer { λ _. ⌜ now (answer .exit) ≡ answerTo (loadAnswer (layoutFrom (now (layout .entry))) (policyOf states start (now (table .entry)) (now (landings .entry))) (now (bytes .entry)) (length (now (commands .entry))) (now (memory .entry))) ⌝ }
-    ensures machine { λ _. ⌜ now (machine .exit) ≡ machineTo (loadMachine (layoutFrom (now (layout .entry))) (policyOf states start (now (table .entry)) (now (landings .entry))) (now (bytes .entry)) (length (now (commands .entry))) (now (memory .entry))) ⌝ }
-    ensures commands { λ _. ⌜ now (commands .exit) ≡ loadCommands (layoutFrom (now (layout .entry))) (policyOf states start (now (table .entry)) (now (landings .entry))) (now (bytes .entry)) (now (commands .entry)) (now (memory .entry)) ⌝ }
-    ensures memory { λ _. ⌜ now (memory .exit) ≡ loadMemory (layoutFrom (now (layout .entry))) (policyOf states start (now (table .entry)) (now (landings .entry))) (now (bytes .entry)) (length (now (commands .entry))) (now (memory .entry)) ⌝ }
+    ensures { λ _. ⌜ hostLoaded (now (answer .exit)) (now (machine .exit)) (now (commands .exit)) (now (memory .exit)) ≡ loadFor (now (layout .entry)) (policyOf states start (now (table .entry)) (now (landings .entry))) (now (bytes .entry)) (now (commands .entry)) (now (memory .entry)) ⌝ }
 {
     capi_loading::load(
         layout,
@@ -152,19 +151,16 @@ pub extern "C" fn hemdroas_load(
 // Runs a record; one that is refused comes back as it was.
 #[no_mangle]
 pub extern "C" fn hemdroas_run(
-    layout: &[u32; 16],
+    layout: &[u32; LAYOUT],
     commands: &[u64],
     machine: &mut [u32; RECORD],
     memory: &mut [u32],
     budget: u32,
     readings: &[u32],
     log: &mut [u32],
-    answer: &mut [u32; 4],
+    answer: &mut [u32; RUN_ANSWER],
 )
-    ensures answer { λ _. ⌜ now (answer .exit) ≡ runAnswerTo (runFor (now (layout .entry)) (now (commands .entry)) (now (machine .entry)) (now (memory .entry)) budget (now (readings .entry)) (now (log .entry)) .outcome .answer) ⌝ }
-    ensures machine { λ _. ⌜ now (machine .exit) ≡ recordAfter (now (machine .entry)) (runFor (now (layout .entry)) (now (commands .entry)) (now (machine .entry)) (now (memory .entry)) budget (now (readings .entry)) (now (log .entry))) ⌝ }
-    ensures memory { λ _. ⌜ now (memory .exit) ≡ runFor (now (layout .entry)) (now (commands .entry)) (now (machine .entry)) (now (memory .entry)) budget (now (readings .entry)) (now (log .entry)) .mem ⌝ }
-    ensures log { λ _. ⌜ now (log .exit) ≡ runFor (now (layout .entry)) (now (commands .entry)) (now (machine .entry)) (now (memory .entry)) budget (now (readings .entry)) (now (log .entry)) .log ⌝ }
+    ensures { λ _. ⌜ hostRan (now (answer .exit)) (now (machine .exit)) (now (memory .exit)) (now (log .exit)) ≡ runFor (now (layout .entry)) (now (commands .entry)) (now (machine .entry)) (now (memory .entry)) budget (now (readings .entry)) (now (log .entry)) ⌝ }
 {
     capi_running::run(
         layout,
@@ -181,7 +177,7 @@ pub extern "C" fn hemdroas_run(
 // Previews a run: the answer, the log and, in `after`, the record that `hemdroas_run` would leave.
 #[no_mangle]
 pub extern "C" fn hemdroas_preview(
-    layout: &[u32; 16],
+    layout: &[u32; LAYOUT],
     commands: &[u64],
     machine: &[u32; RECORD],
     memory: &[u32],
@@ -189,13 +185,9 @@ pub extern "C" fn hemdroas_preview(
     readings: &[u32],
     log: &mut [u32],
     after: &mut [u32; RECORD],
-    answer: &mut [u32; 4],
+    answer: &mut [u32; RUN_ANSWER],
 )
-    ensures answer { λ _. ⌜ now (answer .exit) ≡ runAnswerTo (runFor (now (layout .entry)) (now (commands .entry)) (now (machine .entry)) (now (memory .entry)) budget (now (readings .entry)) (now (log .entry)) .outcome .answer) ⌝ }
-    ensures after { λ _. ⌜ now (after .exit) ≡ recordAfter (now (machine .entry)) (runFor (now (layout .entry)) (now (commands .entry)) (now (machine .entry)) (now (memory .entry)) budget (now (readings .entry)) (now (log .entry))) ⌝ }
-    ensures machine { λ _. ⌜ now (machine .exit) ≡ now (machine .entry) ⌝ }
-    ensures memory { λ _. ⌜ now (memory .exit) ≡ now (memory .entry) ⌝ }
-    ensures log { λ _. ⌜ now (log .exit) ≡ runFor (now (layout .entry)) (now (commands .entry)) (now (machine .entry)) (now (memory .entry)) budget (now (readings .entry)) (now (log .entry)) .log ⌝ }
+    ensures { λ _. ⌜ hostPreviewed (now (answer .exit)) (now (after .exit)) (now (log .exit)) (now (machine .exit)) (now (memory .exit)) ≡ previewFor (now (layout .entry)) (now (commands .entry)) (now (machine .entry)) (now (memory .entry)) budget (now (readings .entry)) (now (log .entry)) ⌝ }
 {
     capi_running::preview(
         layout,
@@ -213,19 +205,16 @@ pub extern "C" fn hemdroas_preview(
 // Runs guest words as they are written.
 #[no_mangle]
 pub extern "C" fn hemdroas_engine(
-    layout: &[u32; 16],
+    layout: &[u32; LAYOUT],
     words: &[u64],
     engine: &mut [u32; capi_engine::RECORD],
     memory: &mut [u32],
     budget: u32,
     readings: &[u32],
     log: &mut [u32],
-    answer: &mut [u32; 5],
+    answer: &mut [u32; capi_engine::ANSWER],
 )
-    ensures answer { λ _. ⌜ now (answer .exit) ≡ engineAnswerTo (engineFor (now (layout .entry)) (now (words .entry)) (now (engine .entry)) (now (memory .entry)) budget (now (readings .entry)) (now (log .entry)) .outcome) ⌝ }
-    ensures engine { λ _. ⌜ now (engine .exit) ≡ engineAfter (now (engine .entry)) (engineFor (now (layout .entry)) (now (words .entry)) (now (engine .entry)) (now (memory .entry)) budget (now (readings .entry)) (now (log .entry)) .outcome .engine) ⌝ }
-    ensures memory { λ _. ⌜ now (memory .exit) ≡ engineFor (now (layout .entry)) (now (words .entry)) (now (engine .entry)) (now (memory .entry)) budget (now (readings .entry)) (now (log .entry)) .mem ⌝ }
-    ensures log { λ _. ⌜ now (log .exit) ≡ engineFor (now (layout .entry)) (now (words .entry)) (now (engine .entry)) (now (memory .entry)) budget (now (readings .entry)) (now (log .entry)) .log ⌝ }
+    ensures { λ _. ⌜ hostRan (now (answer .exit)) (now (engine .exit)) (now (memory .exit)) (now (log .exit)) ≡ engineFor (now (layout .entry)) (now (words .entry)) (now (engine .entry)) (now (memory .entry)) budget (now (readings .entry)) (now (log .entry)) ⌝ }
 {
     capi_engine::run(layout, words, engine, memory, budget, readings, log, answer);
 }
@@ -257,17 +246,15 @@ pub extern "C" fn hemdroas_determinise(
 // Merges two policies into one that allows what both do.
 #[no_mangle]
 pub extern "C" fn hemdroas_merge(
-    one: &[u32; 10],
+    one: &[u32; capi_merge::POLICY],
     left: &[u8],
-    other: &[u32; 10],
+    other: &[u32; capi_merge::POLICY],
     right: &[u8],
     table: &mut [u8],
-    merged: &mut [u32; 10],
-    answer: &mut [u32; 2],
+    merged: &mut [u32; capi_merge::POLICY],
+    answer: &mut [u32; ANSWER],
 )
-    ensures answer { λ _. ⌜ now (answer .exit) ≡ answerTo (mergeFor (now (one .entry)) (now (left .entry)) (now (other .entry)) (now (right .entry)) (length (now (table .entry))) .answer) ⌝ }
-    ensures merged { λ _. ⌜ now (merged .exit) ≡ mergedTo (mergeFor (now (one .entry)) (now (left .entry)) (now (other .entry)) (now (right .entry)) (length (now (table .entry)))) ⌝ }
-    ensures table { λ _. ⌜ now (table .exit) ≡ mergeTable (policyFrom (now (one .entry)) (now (left .entry))) (policyFrom (now (other .entry)) (now (right .entry))) (now (table .entry)) ⌝ }
+    ensures { λ _. ⌜ hostMerged (now (answer .exit)) (now (merged .exit)) (now (table .exit)) ≡ mergeFor (now (one .entry)) (now (left .entry)) (now (other .entry)) (now (right .entry)) (now (table .entry)) ⌝ }
 {
     capi_merge::merge(one, left, other, right, table, merged, answer);
 }

@@ -1,18 +1,20 @@
 // Answers as the numbers of a C host.
+use capi_numbers::ANSWER;
+use capi_numbers::RUN_ANSWER;
 use rules::Answer;
 use rules::RunAnswer;
 ghost use mathlib.Core.Path.{_≡_};
 ghost use Prim.Native.Nat.{_<_, _^_};
 ghost use Rattle.capi_numbers.specs.Numbers.{answerTo, runAnswerTo};
 
-pub fn answer_of(a: Answer) -> [u32; 2]
+pub fn answer_of(a: Answer) -> [u32; ANSWER]
     requires { ⌜ a .place < 2 ^ 32 ⌝ }
     ensures { λ r. ⌜ r ≡ answerTo a ⌝ }
 {
     [a.number as u32, a.place as u32]
 }
 
-pub fn run_answer_of(a: RunAnswer) -> [u32; 4]
+pub fn run_answer_of(a: RunAnswer) -> [u32; RUN_ANSWER]
     requires { ⌜ (a .pairs < 2 ^ 32) × (a .used < 2 ^ 32) ⌝ }
     ensures { λ r. ⌜ r ≡ runAnswerTo a ⌝ }
 {

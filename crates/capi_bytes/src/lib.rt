@@ -1,12 +1,13 @@
 // A routine's bytes, for a C host.
 use capi_answers::answer_of;
+use capi_numbers::ANSWER;
 ghost use mathlib.Core.Path.{_≡_};
 ghost use lib.ListN.{length};
 ghost use Rattle.rules.specs.Bytes.{readAnswer, readOutput, writeAnswer, writeOutput};
 ghost use Rattle.capi_numbers.specs.Numbers.{answerTo};
 
 // Reads a routine's bytes into words.
-pub fn read(bytes: &[u8], words: &mut [u64], answer: &mut [u32; 2])
+pub fn read(bytes: &[u8], words: &mut [u64], answer: &mut [u32; ANSWER])
     ensures answer { λ _. ⌜ now (answer .exit) ≡ answerTo (readAnswer (now (bytes .entry)) (length (now (words .entry)))) ⌝ }
     ensures content { λ _. ⌜ now (words .exit) ≡ readOutput (now (bytes .entry)) (now (words .entry)) ⌝ }
 {
@@ -14,7 +15,7 @@ pub fn read(bytes: &[u8], words: &mut [u64], answer: &mut [u32; 2])
 }
 
 // Writes a routine's words as bytes.
-pub fn write(words: &[u64], bytes: &mut [u8], answer: &mut [u32; 2])
+pub fn write(words: &[u64], bytes: &mut [u8], answer: &mut [u32; ANSWER])
     ensures answer { λ _. ⌜ now (answer .exit) ≡ answerTo (writeAnswer (now (words .entry)) (length (now (bytes .entry)))) ⌝ }
     ensures content { λ _. ⌜ now (bytes .exit) ≡ writeOutput (now (words .entry)) (now (bytes .entry)) ⌝ }
 {

@@ -7,6 +7,7 @@ use Rattle.rules.specs.declared.Layout.{Layout}
 use Rattle.rules.specs.declared.Answer.{Answer}
 use Rattle.rules.specs.Bundles.{rewriteAnswer, rewriteOutput, checkAnswer}
 use Rattle.capi_numbers.specs.Numbers.{layoutFrom, answerTo}
+use Rattle.capi_numbers.specs.Hosts.{checkFor}
 
 -- what a part answers and leaves under the layout of a host's numbers
 module _ (xs : List ℕ) (l : Layout) (e : l ≡ layoutFrom xs) where
@@ -15,5 +16,6 @@ module _ (xs : List ℕ) (l : Layout) (e : l ≡ layoutFrom xs) where
   rewritten ws out left ns a p q r =
       (r ∙ ap answerTo (p ∙ ap (λ (k : Layout). rewriteAnswer k ws (length out)) e), q ∙ ap (λ (k : Layout). rewriteOutput k ws out) e)
 
-  pub checked : (ws ns : List ℕ) (a : Answer) → a ≡ checkAnswer l ws → ns ≡ answerTo a → ns ≡ answerTo (checkAnswer (layoutFrom xs) ws)
+  pub checked : (ws ns : List ℕ) (a : Answer) → a ≡ checkAnswer l ws → ns ≡ answerTo a → ns ≡ checkFor xs ws
+  unfolding checkFor
   checked ws ns a p r = r ∙ ap answerTo (p ∙ ap (λ (k : Layout). checkAnswer k ws) e)

@@ -1,13 +1,21 @@
 // A routine's commands, for a C host: rewriting words into them, and checking them.
 use capi_answers::answer_of;
+use capi_numbers::ANSWER;
+use capi_numbers::LAYOUT;
 use capi_numbers::layout_of;
 ghost use mathlib.Core.Path.{_≡_};
 ghost use lib.ListN.{length};
-ghost use Rattle.rules.specs.Bundles.{rewriteAnswer, rewriteOutput, checkAnswer};
+ghost use Rattle.rules.specs.Bundles.{rewriteAnswer, rewriteOutput};
 ghost use Rattle.capi_numbers.specs.Numbers.{layoutFrom, answerTo};
+ghost use Rattle.capi_numbers.specs.Hosts.{checkFor};
 
 // Rewrites a routine's words into commands.
-pub fn rewrite(layout: &[u32; 16], words: &[u64], commands: &mut [u64], answer: &mut [u32; 2])
+pub fn rewrite(
+    layout: &[u32; LAYOUT],
+    words: &[u64],
+    commands: &mut [u64],
+    answer: &mut [u32; ANSWER],
+)
     ensures answer { λ _. ⌜ now (answer .exit) ≡ answerTo (rewriteAnswer (layoutFrom (now (layout .entry))) (now (words .entry)) (length (now (commands .entry)))) ⌝ }
     ensures content { λ _. ⌜ now (commands .exit) ≡ rewriteOutput (layoutFrom (now (layout .entry))) (now (words .entry)) (now (commands .entry)) ⌝ }
 {
@@ -15,8 +23,8 @@ pub fn rewrite(layout: &[u32; 16], words: &[u64], commands: &mut [u64], answer: 
 }
 
 // Checks a list of commands.
-pub fn check(layout: &[u32; 16], commands: &[u64], answer: &mut [u32; 2])
-    ensures { λ _. ⌜ now (answer .exit) ≡ answerTo (checkAnswer (layoutFrom (now (layout .entry))) (now (commands .entry))) ⌝ }
+pub fn check(layout: &[u32; LAYOUT], commands: &[u64], answer: &mut [u32; ANSWER])
+    ensures { λ _. ⌜ now (answer .exit) ≡ checkFor (now (layout .entry)) (now (commands .entry)) ⌝ }
 {
     *answer = answer_of(checker::check(layout_of(layout), commands));
 }

@@ -1,4 +1,6 @@
 // The engine over a C host's numbers, for the C interface: record and answer as arrays of u32.
+use capi_numbers::LAYOUT;
+use capi_numbers::STATUSES;
 use capi_numbers::layout_of;
 use capi_numbers::status_number;
 use capi_numbers::status_of;
@@ -7,14 +9,19 @@ use rules::Answer;
 ghost use mathlib.Core.Path.{_≡_};
 ghost use mathlib.Core.List.{[], _∷_};
 ghost use Prim.Native.Nat.{_<_, _^_};
-ghost use Rattle.capi_engine.specs.Records.{engineFrom, engineTo, runFor, recordAfter as recordAfterOf, answerTo};
+ghost use Rattle.rules.specs.Names.{guestRegisters};
+ghost use Rattle.capi_numbers.specs.Numbers.{numbersAfter};
+ghost use Rattle.capi_numbers.specs.Hosts.{hostRan};
+ghost use Rattle.capi_engine.specs.Records.{engineFrom, engineTo, engineFor};
 
-// The numbers of a record: registers, index and status.
+// Where index and status stand in a record, after its registers, and how many numbers it and an answer have.
 const INDEX: usize = Engine::REGISTERS;
 
-const STATUS: usize = Engine::REGISTERS + 1;
+const STATUS: usize = INDEX + 1;
 
-pub const RECORD: usize = Engine::REGISTERS + 2;
+pub const RECORD: usize = STATUS + 1;
+
+pub const ANSWER: usize = 5;
 
 // A record's engine.
 fn engine_of(xs: [u32; RECORD]) -> Engine
@@ -73,18 +80,17 @@ fn record_of(m: Engine) -> [u32; RECORD]
     ]
 }
 
-// The record after a run. One that is not running keeps its numbers: so a status that stands for none comes back as it was.
+// The record after a run. One whose status number is no status was not run, and comes back as it was.
 fn record_after(m: Engine, xs: [u32; RECORD]) -> [u32; RECORD]
-    ensures { λ r. ⌜ r ≡ recordAfterOf xs m ⌝ }
+    ensures { λ r. ⌜ r ≡ numbersAfter guestRegisters xs (engineTo m) ⌝ }
 {
-    let status = xs[STATUS];
-    if status == 0 {
+    if xs[STATUS] < STATUSES {
         return record_of(m);
     }
     xs
 }
 
-fn answer_of(a: Answer, steps: u32, pairs: usize, used: usize) -> [u32; 5]
+fn answer_of(a: Answer, steps: u32, pairs: usize, used: usize) -> [u32; ANSWER]
     requires { ⌜ (a .place < 2 ^ 32) × (pairs < 2 ^ 32) × (used < 2 ^ 32) ⌝ }
     ensures { λ r. ⌜ r ≡ a .number ∷ a .place ∷ steps ∷ pairs ∷ used ∷ [] ⌝ }
 {
@@ -99,19 +105,16 @@ fn answer_of(a: Answer, steps: u32, pairs: usize, used: usize) -> [u32; 5]
 
 // Runs guest words as they are written.
 pub fn run(
-    layout: &[u32; 16],
+    layout: &[u32; LAYOUT],
     words: &[u64],
     engine: &mut [u32; RECORD],
     memory: &mut [u32],
     budget: u32,
     readings: &[u32],
     log: &mut [u32],
-    answer: &mut [u32; 5],
+    answer: &mut [u32; ANSWER],
 )
-    ensures answer { λ _. ⌜ now (answer .exit) ≡ answerTo (runFor (now (layout .entry)) (now (words .entry)) (now (engine .entry)) (now (memory .entry)) budget (now (readings .entry)) (now (log .entry)) .outcome) ⌝ }
-    ensures engine { λ _. ⌜ now (engine .exit) ≡ recordAfterOf (now (engine .entry)) (runFor (now (layout .entry)) (now (words .entry)) (now (engine .entry)) (now (memory .entry)) budget (now (readings .entry)) (now (log .entry)) .outcome .engine) ⌝ }
-    ensures memory { λ _. ⌜ now (memory .exit) ≡ runFor (now (layout .entry)) (now (words .entry)) (now (engine .entry)) (now (memory .entry)) budget (now (readings .entry)) (now (log .entry)) .mem ⌝ }
-    ensures log { λ _. ⌜ now (log .exit) ≡ runFor (now (layout .entry)) (now (words .entry)) (now (engine .entry)) (now (memory .entry)) budget (now (readings .entry)) (now (log .entry)) .log ⌝ }
+    ensures { λ _. ⌜ hostRan (now (answer .exit)) (now (engine .exit)) (now (memory .exit)) (now (log .exit)) ≡ engineFor (now (layout .entry)) (now (words .entry)) (now (engine .entry)) (now (memory .entry)) budget (now (readings .entry)) (now (log .entry)) ⌝ }
 {
     let lay = layout_of(layout);
     let given = *engine;

@@ -1,19 +1,21 @@
 // The class of routines that always finish, for a C host.
 use capi_answers::answer_of;
+use capi_numbers::ANSWER;
+use capi_numbers::LAYOUT;
 use capi_numbers::layout_of;
 ghost use mathlib.Core.Path.{_≡_};
 ghost use Rattle.capi_numbers.specs.Numbers.{layoutFrom, answerTo};
 ghost use Rattle.forward.specs.Forward.{forwardAnswer, checkForwardAnswer};
 
 // Checks that a routine's words are of the class that always finishes.
-pub fn forward(words: &[u64], answer: &mut [u32; 2])
+pub fn forward(words: &[u64], answer: &mut [u32; ANSWER])
     ensures { λ _. ⌜ now (answer .exit) ≡ answerTo (forwardAnswer (now (words .entry))) ⌝ }
 {
     *answer = answer_of(forward::forward(words));
 }
 
 // Checks a list of commands, and that it is of that class.
-pub fn check_forward(layout: &[u32; 16], commands: &[u64], answer: &mut [u32; 2])
+pub fn check_forward(layout: &[u32; LAYOUT], commands: &[u64], answer: &mut [u32; ANSWER])
     ensures { λ _. ⌜ now (answer .exit) ≡ answerTo (checkForwardAnswer (layoutFrom (now (layout .entry))) (now (commands .entry))) ⌝ }
 {
     *answer = answer_of(forward::check_forward(layout_of(layout), commands));

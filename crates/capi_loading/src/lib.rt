@@ -1,15 +1,14 @@
 // Installing a policy and loading a routine, for a C host.
 use capi_answers::answer_of;
+use capi_numbers::ANSWER;
+use capi_numbers::LAYOUT;
 use capi_numbers::RECORD;
 use capi_numbers::layout_of;
 use capi_numbers::record_of;
 use rules::Policy;
 ghost use mathlib.Core.Path.{_≡_};
-ghost use lib.ListN.{length};
 ghost use Rattle.rules.specs.Policies.{policyOf, wordRight};
-ghost use Rattle.rules.specs.Machines.{installAnswer, installMachine, installMemory};
-ghost use Rattle.rules.specs.Loading.{loadAnswer, loadMachine, loadCommands, loadMemory};
-ghost use Rattle.capi_numbers.specs.Numbers.{layoutFrom, machineTo, answerTo};
+ghost use Rattle.capi_numbers.specs.Hosts.{hostInstalled, installFor, hostLoaded, loadFor};
 ghost use Rattle.capi_loading.specs.Hosts.{yesOrNo};
 
 // Whether four bytes of a policy's table, as one word, are right: 1 for yes, 0 for no.
@@ -24,18 +23,16 @@ pub fn word_right(states: u32, word: u32) -> u32
 
 // Installs a policy.
 pub fn install(
-    layout: &[u32; 16],
+    layout: &[u32; LAYOUT],
     states: u32,
     start: u32,
     table: &[u8],
     landings: &[u32],
     memory: &mut [u32],
     machine: &mut [u32; RECORD],
-    answer: &mut [u32; 2],
+    answer: &mut [u32; ANSWER],
 )
-    ensures answer { λ _. ⌜ now (answer .exit) ≡ answerTo (installAnswer (layoutFrom (now (layout .entry))) (policyOf states start (now (table .entry)) (now (landings .entry))) (now (memory .entry))) ⌝ }
-    ensures machine { λ _. ⌜ now (machine .exit) ≡ machineTo (installMachine (layoutFrom (now (layout .entry))) (policyOf states start (now (table .entry)) (now (landings .entry))) (now (memory .entry))) ⌝ }
-    ensures memory { λ _. ⌜ now (memory .exit) ≡ installMemory (layoutFrom (now (layout .entry))) (policyOf states start (now (table .entry)) (now (landings .entry))) (now (memory .entry)) ⌝ }
+    ensures { λ _. ⌜ hostInstalled (now (answer .exit)) (now (machine .exit)) (now (memory .exit)) ≡ installFor (now (layout .entry)) (policyOf states start (now (table .entry)) (now (landings .entry))) (now (memory .entry)) ⌝ }
 {
     let policy = Policy { states, start };
     let done = installer::install(layout_of(layout), policy, table, landings, memory);
@@ -45,7 +42,7 @@ pub fn install(
 
 // Loads a routine: all that comes before a run, in one call.
 pub fn load(
-    layout: &[u32; 16],
+    layout: &[u32; LAYOUT],
     states: u32,
     start: u32,
     table: &[u8],
@@ -54,12 +51,9 @@ pub fn load(
     commands: &mut [u64],
     memory: &mut [u32],
     machine: &mut [u32; RECORD],
-    answer: &mut [u32; 2],
+    answer: &mut [u32; ANSWER],
 )
-    ensures answer { λ _. ⌜ now (answer .exit) ≡ answerTo (loadAnswer (layoutFrom (now (layout .entry))) (policyOf states start (now (table .entry)) (now (landings .entry))) (now (bytes .entry)) (length (now (commands .entry))) (now (memory .entry))) ⌝ }
-    ensures machine { λ _. ⌜ now (machine .exit) ≡ machineTo (loadMachine (layoutFrom (now (layout .entry))) (policyOf states start (now (table .entry)) (now (landings .entry))) (now (bytes .entry)) (length (now (commands .entry))) (now (memory .entry))) ⌝ }
-    ensures commands { λ _. ⌜ now (commands .exit) ≡ loadCommands (layoutFrom (now (layout .entry))) (policyOf states start (now (table .entry)) (now (landings .entry))) (now (bytes .entry)) (now (commands .entry)) (now (memory .entry)) ⌝ }
-    ensures memory { λ _. ⌜ now (memory .exit) ≡ loadMemory (layoutFrom (now (layout .entry))) (policyOf states start (now (table .entry)) (now (landings .entry))) (now (bytes .entry)) (length (now (commands .entry))) (now (memory .entry)) ⌝ }
+    ensures { λ _. ⌜ hostLoaded (now (answer .exit)) (now (machine .exit)) (now (commands .exit)) (now (memory .exit)) ≡ loadFor (now (layout .entry)) (policyOf states start (now (table .entry)) (now (landings .entry))) (now (bytes .entry)) (now (commands .entry)) (now (memory .entry)) ⌝ }
 {
     let policy = Policy { states, start };
     let loaded = sandbox_loading::load(

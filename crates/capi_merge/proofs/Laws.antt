@@ -16,7 +16,7 @@ use Rattle.policy_exploration.proofs.Reach.{place-most}
 use Rattle.policy_merge.specs.declared.Merged.{Merged}
 use Rattle.policy_merge.specs.declared.Side.{Side}
 use Rattle.policy_merge.specs.Pairs.{pairAfter, startPair, sideRight, smaller, pairsOf, withCeilings, mergeOf, mergeTable}
-use Rattle.capi_merge.specs.Numbers.{sideFrom, policyFrom, mergeFor, mergedTo}
+use Rattle.capi_merge.specs.Numbers.{sideFrom, mergedTo, HostMerged, hostMerged, mergeFor}
 
 -- eight numbers of a list, one by one
 spelt : (xs : List ℕ) → length xs ≡ orders → build (λ i. getD xs i 0) orders ≡ xs
@@ -46,18 +46,16 @@ narrow-merged a c b d room m e = subst (λ (x : Merged). x .answer .place < 2 ^ 
 
 -- what is answered and left is that of the numbers
 module _ (xs ys left right table : List ℕ) (one other : Side) (e : one ≡ sideFrom xs) (f : other ≡ sideFrom ys) where
-  for : (m : Merged) → m ≡ mergeOf (policyOf (one .policy .states) (one .policy .start) left []) (one .ceilings) (policyOf (other .policy .states) (other .policy .start) right []) (other .ceilings) (length table)
-      → m ≡ mergeFor xs left ys right (length table)
-  unfolding sideFrom
-  for m q = q ∙ ap₂ (λ (x y : Side). mergeOf (policyOf (x .policy .states) (x .policy .start) left []) (x .ceilings) (policyOf (y .policy .states) (y .policy .start) right []) (y .ceilings) (length table)) e f
-
-  table-for : (t′ : List ℕ) → t′ ≡ mergeTable (policyOf (one .policy .states) (one .policy .start) left []) (policyOf (other .policy .states) (other .policy .start) right []) table
-      → t′ ≡ mergeTable (policyFrom xs left) (policyFrom ys right) table
-  unfolding sideFrom
-  table-for t′ r = r ∙ ap₂ (λ (x y : Side). mergeTable (policyOf (x .policy .states) (x .policy .start) left []) (policyOf (y .policy .states) (y .policy .start) right []) table) e f
+  abbrev policyWith : Side → List ℕ → Policy
+  policyWith s t = policyOf (s .policy .states) (s .policy .start) t []
 
   pub merged : (m : Merged) (t′ ms ns : List ℕ)
-      → m ≡ mergeOf (policyOf (one .policy .states) (one .policy .start) left []) (one .ceilings) (policyOf (other .policy .states) (other .policy .start) right []) (other .ceilings) (length table)
-      → t′ ≡ mergeTable (policyOf (one .policy .states) (one .policy .start) left []) (policyOf (other .policy .states) (other .policy .start) right []) table → ms ≡ mergedTo m → ns ≡ answerTo (m .answer)
-      → (ns ≡ answerTo (mergeFor xs left ys right (length table) .answer)) × ((ms ≡ mergedTo (mergeFor xs left ys right (length table))) × (t′ ≡ mergeTable (policyFrom xs left) (policyFrom ys right) table))
-  merged m t′ ms ns q r k n = (n ∙ ap (λ (x : Merged). answerTo (x .answer)) (for m q), (k ∙ ap mergedTo (for m q), table-for t′ r))
+      → m ≡ mergeOf (policyWith one left) (one .ceilings) (policyWith other right) (other .ceilings) (length table)
+      → t′ ≡ mergeTable (policyWith one left) (policyWith other right) table → ms ≡ mergedTo m → ns ≡ answerTo (m .answer)
+      → hostMerged ns ms t′ ≡ mergeFor xs left ys right table
+  unfolding sideFrom mergeFor
+  merged m t′ ms ns q r k n =
+      let host : Merged → Side → Side → HostMerged = λ d x y. hostMerged (answerTo (d .answer)) (mergedTo d) (mergeTable (policyWith x left) (policyWith y right) table) in
+      rw (k, n, r)
+      (ap (λ (d : Merged). host d one other) q
+      ∙ ap₂ (λ (x y : Side). host (mergeOf (policyWith x left) (x .ceilings) (policyWith y right) (y .ceilings) (length table)) x y) e f)

@@ -1,13 +1,14 @@
 -- What is made of a C host's numbers, and the numbers that it gets.
 use Prim.Native.Nat.{ℕ, _+_}
 use mathlib.Core.List.{List, [], _∷_}
-use lib.ListN.{getD}
+use lib.ListN.{length, getD}
 use Rattle.rules.specs.Names.{orders}
 use Rattle.rules.specs.Policies.{Policy, policyOf}
+use Rattle.capi_numbers.specs.Numbers.{answerTo}
 use Rattle.policy_maps.specs.Maps.{build}
 use Rattle.policy_merge.specs.declared.Merged.{Merged}
 use Rattle.policy_merge.specs.declared.Side.{Side}
-use Rattle.policy_merge.specs.Pairs.{mergeOf}
+use Rattle.policy_merge.specs.Pairs.{mergeOf, mergeTable}
 
 -- one side of a merge from its state count, its start and the ceilings of the orders
 abbrev pub ceilingsFrom : List ℕ → List ℕ
@@ -20,10 +21,20 @@ sideFrom xs = record { policy = record { states = getD xs 0 0; start = getD xs 1
 abbrev pub policyFrom : List ℕ → List ℕ → Policy
 policyFrom xs table = policyOf (getD xs 0 0) (getD xs 1 0) table []
 
--- a merge for the numbers of two sides
-abbrev pub mergeFor : List ℕ → List ℕ → List ℕ → List ℕ → ℕ → Merged
-mergeFor xs left ys right room = mergeOf (policyFrom xs left) (ceilingsFrom xs) (policyFrom ys right) (ceilingsFrom ys) room
-
 -- what was merged as such numbers
 abbrev pub mergedTo : Merged → List ℕ
 mergedTo m = m .policy .states ∷ m .policy .start ∷ m .ceilings
+
+-- hemdroas_merge: the answer, what was merged, the table
+pub record HostMerged : Type 0 where
+  pub answer : List ℕ
+  pub merged : List ℕ
+  pub table : List ℕ
+
+abbrev pub hostMerged : List ℕ → List ℕ → List ℕ → HostMerged
+hostMerged a m table = record { answer = a; merged = m; table = table }
+
+unfoldable pub mergeFor : List ℕ → List ℕ → List ℕ → List ℕ → List ℕ → HostMerged
+mergeFor xs left ys right table =
+    let m = mergeOf (policyFrom xs left) (ceilingsFrom xs) (policyFrom ys right) (ceilingsFrom ys) (length table) in
+    hostMerged (answerTo (m .answer)) (mergedTo m) (mergeTable (policyFrom xs left) (policyFrom ys right) table)

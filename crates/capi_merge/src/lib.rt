@@ -1,17 +1,19 @@
 // Two policies merged, for a C host.
 use capi_answers::answer_of;
+use capi_numbers::ANSWER;
 use policy_merge::Merged;
 use policy_merge::Side;
 use rules::Policy;
 ghost use mathlib.Core.Path.{_≡_};
 ghost use lib.ListN.{length};
 ghost use Rattle.rules.specs.Names.{orders};
-ghost use Rattle.policy_merge.specs.Pairs.{mergeTable};
-ghost use Rattle.capi_numbers.specs.Numbers.{answerTo};
-ghost use Rattle.capi_merge.specs.Numbers.{sideFrom, policyFrom, mergeFor, mergedTo};
+ghost use Rattle.capi_merge.specs.Numbers.{sideFrom, mergedTo, hostMerged, mergeFor};
+
+// How many numbers a policy has: states, start and ceilings.
+pub const POLICY: usize = 2 + Policy::ORDERS as usize;
 
 // One side of a merge.
-fn side_of(xs: &[u32; 10]) -> Side
+fn side_of(xs: &[u32; POLICY]) -> Side
     ensures { λ r. ⌜ r ≡ sideFrom (now (xs .entry)) ⌝ }
 {
     let policy = Policy {
@@ -22,7 +24,7 @@ fn side_of(xs: &[u32; 10]) -> Side
     Side { policy, ceilings }
 }
 
-fn merged_of(m: Merged) -> [u32; 10]
+fn merged_of(m: Merged) -> [u32; POLICY]
     requires { ⌜ length (m .ceilings) ≡ orders ⌝ }
     ensures { λ r. ⌜ r ≡ mergedTo m ⌝ }
 {
@@ -43,17 +45,15 @@ fn merged_of(m: Merged) -> [u32; 10]
 
 // Merges two policies, `left` the table of one and `right` that of the other.
 pub fn merge(
-    one: &[u32; 10],
+    one: &[u32; POLICY],
     left: &[u8],
-    other: &[u32; 10],
+    other: &[u32; POLICY],
     right: &[u8],
     table: &mut [u8],
-    merged: &mut [u32; 10],
-    answer: &mut [u32; 2],
+    merged: &mut [u32; POLICY],
+    answer: &mut [u32; ANSWER],
 )
-    ensures answer { λ _. ⌜ now (answer .exit) ≡ answerTo (mergeFor (now (one .entry)) (now (left .entry)) (now (other .entry)) (now (right .entry)) (length (now (table .entry))) .answer) ⌝ }
-    ensures merged { λ _. ⌜ now (merged .exit) ≡ mergedTo (mergeFor (now (one .entry)) (now (left .entry)) (now (other .entry)) (now (right .entry)) (length (now (table .entry)))) ⌝ }
-    ensures table { λ _. ⌜ now (table .exit) ≡ mergeTable (policyFrom (now (one .entry)) (now (left .entry))) (policyFrom (now (other .entry)) (now (right .entry))) (now (table .entry)) ⌝ }
+    ensures { λ _. ⌜ hostMerged (now (answer .exit)) (now (merged .exit)) (now (table .exit)) ≡ mergeFor (now (one .entry)) (now (left .entry)) (now (other .entry)) (now (right .entry)) (now (table .entry)) ⌝ }
 {
     let done = policy_merge::merge(side_of(one), left, side_of(other), right, table);
     *merged = merged_of(done);

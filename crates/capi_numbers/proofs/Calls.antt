@@ -1,49 +1,33 @@
 -- A list of calls is a list of runs.
 use Prim.Native.Nat.{ℕ, zero, suc, _+_}
-use mathlib.Core.Path.{_≡_, refl, sym, _∙_, ap, ap₂}
+use mathlib.Core.Path.{_≡_, refl, sym, _∙_, ap, subst}
 use mathlib.Core.Bool.{Bool, true, false}
 use mathlib.Core.List.{List, [], _∷_, map}
-use lib.Dec.{ltb}
-use lib.ListN.{length, getD, take, length-set}
-use lib.Seq.{take-at, getD-append-add}
+use lib.ListN.{length, length-set}
 use Rattle.rules.specs.declared.Layout.{Layout}
 use Rattle.rules.specs.declared.Machine.{Machine}
-use Rattle.rules.specs.declared.Status.{Status}
-use Rattle.rules.specs.declared.Status.the-variants.{Running, Ended, Stopped, Faulted, Strayed}
 use Rattle.rules.specs.declared.Effect.{Effect}
 use Rattle.rules.specs.declared.Effect.the-variants.{Go, Put, Cell, Order, Probe, End, Wait}
 use Rattle.rules.specs.Names.{registers}
-use Rattle.rules.specs.Machines.{State, nextOf, stepOf, applyOf, Ran, startOf, fits, runFrom, runOf}
-use Rattle.rules.specs.Loading.{loadAnswer, loadCommands, loadMachine}
-use Rattle.rules.specs.Runs.{Given, Carried, atFirst, runOn, afterTaken, afterRun, Run, runsOf}
-use Rattle.rules.proofs.Bools.{cond-ind}
+use Rattle.rules.specs.Policies.{Policy}
+use Rattle.rules.specs.Bundles.{checkAnswer}
+use Rattle.rules.specs.Machines.{State, nextOf, stepOf, applyOf, Ran, startOf, fits, runFrom, runOf, installAnswer, installMachine, installMemory}
+use Rattle.rules.specs.Runs.{Given, Carried, carriedOf, atFirst, runOn, afterTaken, afterRun, Run, runsOf, Lends}
 use Rattle.rules.proofs.Endings.{run-ind}
 use Rattle.rules.proofs.Conditions.{machine-of}
+use Rattle.rules.proofs.Isolation.{isolation}
 use Rattle.rules.proofs.Loading.{loads}
-use Rattle.capi_numbers.specs.Numbers.{layoutFrom, statuses, statusFrom, statusNumber, statusKnown, machineTo, recordAfter}
-use Rattle.capi_numbers.specs.Claims.{RecordBack, Untouched, callsOf, HostIsolation}
-use Rattle.capi_numbers.proofs.Numbers.{as-it-was}
-
-status-again : (t : Status) → statusFrom (statusNumber t) ≡ t
-status-again Running = refl
-status-again Ended = refl
-status-again Stopped = refl
-status-again Faulted = refl
-status-again Strayed = refl
-
--- the registers of a record in numbers, and what stands behind them
-behind : (m : Machine) (i : ℕ) → length (m .regs) ≡ registers → getD (machineTo m) (registers + i) 0 ≡ getD (m .pc ∷ statusNumber (m .status) ∷ []) i 0
-behind m i n = rw (← n) (getD-append-add (m .regs) (m .pc ∷ statusNumber (m .status) ∷ []) i 0)
+use Rattle.capi_numbers.specs.Numbers.{layoutFrom, machineFrom, machineTo, numbersAfter}
+use Rattle.capi_numbers.specs.Hosts.{checkFor, installFor, loadFor, HostRan, runFor}
+use Rattle.capi_numbers.specs.Claims.{RecordBack, Untouched, callsOf, ranTo, Ready, installed, loaded, HostIsolation}
+use Rattle.capi_numbers.proofs.Numbers.{regs-again, at-again, status-of-record, after-known, untouched-by}
 
 pub record-back : RecordBack
 record-back m n =
-    let regs : take registers (machineTo m) ≡ m .regs = take-at (m .regs) (m .pc ∷ statusNumber (m .status) ∷ []) registers n in
-    let pc : getD (machineTo m) registers 0 ≡ m .pc = behind m 0 n in
-    rw (regs, pc, behind m 1 n, status-again (m .status))
+    rw (regs-again registers (m .regs) (m .pc) (m .status) n, at-again registers (m .regs) (m .pc) (m .status) n, status-of-record registers (m .regs) (m .pc) (m .status) n)
 
 pub untouched : Untouched
-untouched xs r n e =
-    cond-ind (λ (ys : List ℕ). ys ≡ xs) (statusKnown xs) (λ t. ap machineTo e ∙ as-it-was xs n t) (λ _. refl)
+untouched xs r n e = ap (λ (m : Machine). numbersAfter registers xs (machineTo m)) e ∙ untouched-by registers xs n
 
 -- ---- a run keeps the count of registers
 apply-regs : (caps rd : List ℕ) (e : Effect) (s : State) → length (applyOf caps rd e s .regs) ≡ length (s .regs)
@@ -69,35 +53,49 @@ unfolding afterRun afterTaken runOn runOf
 carries lay ws c g true e = rw e (refl, from-regs lay ws (g .readings) (g .budget) 0 (startOf (c .machine) (g .memory) (g .log)))
 carries lay ws c g false e = rw e (refl, refl)
 
-number-known : (t : Status) → ltb (statusNumber t) statuses ≡ true
-number-known Running = refl
-number-known Ended = refl
-number-known Stopped = refl
-number-known Faulted = refl
-number-known Strayed = refl
+-- a call is given the numbers of what is carried: it leaves those of the run
+call : (lay ws : List ℕ) (c : Carried) (g : Given) → length (c .machine .regs) ≡ registers
+    → runFor lay ws (machineTo (c .machine)) (g .memory) (g .budget) (g .readings) (g .log) ≡ ranTo (runOn (layoutFrom lay) ws c g)
+unfolding runFor runOn
+call lay ws c g n = rw (record-back (c .machine) n, after-known registers (c .machine .regs) (c .machine .pc) (c .machine .status) n)
 
-record-is : (m : Machine) (r : Ran) → length (m .regs) ≡ registers → recordAfter (machineTo m) r ≡ machineTo (r .outcome .machine)
-record-is m r n = rw (behind m 1 n, number-known (m .status))
-
-calls : (lay ws : List ℕ) (c : Carried) (gs : List Given) → length (c .machine .regs) ≡ registers → callsOf lay ws (machineTo (c .machine)) gs ≡ map (λ (r : Run). r .ran) (runsOf (layoutFrom lay) ws c gs)
-unfolding callsOf runsOf runOn
-calls lay ws c [] n = refl
-calls lay ws c (g ∷ gs) n =
+calls-from : (lay ws : List ℕ) (c : Carried) (gs : List Given) → length (c .machine .regs) ≡ registers → callsOf lay ws (machineTo (c .machine)) gs ≡ map (λ (r : Run). ranTo (r .ran)) (runsOf (layoutFrom lay) ws c gs)
+unfolding callsOf runsOf
+calls-from lay ws c [] n = refl
+calls-from lay ws c (g ∷ gs) n =
     let l = layoutFrom lay in
     let q = carries l ws c g _ refl in
-    rw (record-back (c .machine) n)
-    (ap₂ (λ (r : Ran) (rs : List Ran). r ∷ rs) refl
-    (ap (λ (xs : List ℕ). callsOf lay ws xs gs) (record-is (c .machine) (runOn l ws c g) n ∙ ap machineTo (sym (q .0)))
-    ∙ calls lay ws (afterRun l ws c g) gs (q .1 ∙ n)))
+    rw (call lay ws c g n)
+    (ap (λ (rs : List HostRan). ranTo (runOn l ws c g) ∷ rs)
+    (ap (λ (m : Machine). callsOf lay ws (machineTo m) gs) (sym (q .0)) ∙ calls-from lay ws (afterRun l ws c g) gs (q .1 ∙ n)))
+
+-- ---- what stands ready is an installation's, of a list that passed
+record Stands (l : Layout) (pol : Policy) (mem ws xs left : List ℕ) : Type 0 where
+  passed : checkAnswer l ws .number ≡ 0
+  taken : installAnswer l pol mem .number ≡ 0
+  machine : xs ≡ machineTo (installMachine l pol mem)
+  memory : left ≡ installMemory l pol mem
+
+stands : {lay : List ℕ} {pol : Policy} {mem ws xs left : List ℕ} → Ready lay pol mem ws xs left → Stands (layoutFrom lay) pol mem ws xs left
+unfolding checkFor installFor loadFor
+stands (installed ws p i) = record { passed = p; taken = i; machine = refl; memory = refl }
+stands {lay} {pol} {mem} (loaded bytes out z) =
+    let d = loads (layoutFrom lay) pol bytes out mem z in
+    record {
+      passed = d .passed;
+      taken = d .installed;
+      machine = ap (λ (c : Carried). machineTo (c .machine)) (d .first);
+      memory = ap (λ (c : Carried). c .memory) (d .first);
+    }
 
 pub host-isolation : HostIsolation
-host-isolation lay pol bytes out mem gs z lends =
+host-isolation lay pol mem ws xs left gs ready lends =
     let l = layoutFrom lay in
-    let d = loads l pol bytes out mem z in
-    let ws = take (loadAnswer l pol bytes (length out) mem .place) (loadCommands l pol bytes out mem) in
-    let first : loadMachine l pol bytes (length out) mem ≡ atFirst l pol mem .machine = ap (λ (c : Carried). c .machine) (d .first) in
-    let n : length (atFirst l pol mem .machine .regs) ≡ registers = rw (machine-of l pol mem (d .installed)) in
+    let s = stands ready in
+    let m = installMachine l pol mem in
+    let n : length (m .regs) ≡ registers = rw (machine-of l pol mem (s .taken)) in
+    let first : carriedOf (machineFrom xs) left [] [] 0 ≡ atFirst l pol mem = rw (s .machine, s .memory, record-back m n) in
     record {
-      calls = ap (λ (m : Machine). callsOf lay ws (machineTo m) gs) first ∙ calls lay ws (atFirst l pol mem) gs n;
-      isolated = d .isolated gs lends;
+      calls = ap (λ (ys : List ℕ). callsOf lay ws ys gs) (s .machine) ∙ calls-from lay ws (atFirst l pol mem) gs n;
+      isolated = isolation l pol ws mem gs (record { passed = s .passed; installed = s .taken; lends = subst (λ (c : Carried). Lends l ws c gs) first lends });
     }

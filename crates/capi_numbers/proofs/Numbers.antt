@@ -3,15 +3,18 @@ use Prim.Native.Nat.{ℕ, zero, suc, _+_, _≤_, _<_}
 use mathlib.Core.Path.{_≡_, refl, sym, _∙_, ap}
 use mathlib.Core.Bool.{Bool, true, cond}
 use mathlib.Core.List.{List, [], _∷_, _++_}
+use native.Mathlib.Numerals.{add-one}
 use native.Mathlib.Omega.{arith}
 use borrow.Author.Tests.{lt-ltb, le-ltb, ltb-true}
-use lib.ListN.{length, getD, take, drop}
-use lib.Seq.{drop-cons, take-all}
-use Rattle.rules.specs.declared.Machine.{Machine}
+use lib.Dec.{ltb}
+use lib.ListN.{length, getD, take, drop, take-append-drop, length-drop}
+use lib.Seq.{drop-cons, take-all, take-at, getD-at, getD-append-add}
 use Rattle.rules.specs.declared.Status.{Status}
+use Rattle.rules.specs.declared.Status.the-variants.{Running, Ended, Stopped, Faulted, Strayed}
 use Rattle.rules.specs.Names.{registers}
 use Rattle.rules.specs.Machines.{machineOf}
-use Rattle.capi_numbers.specs.Numbers.{numbersFrom, statuses, statusFrom, statusNumber, statusKnown, machineFrom, machineTo}
+use Rattle.rules.proofs.Bools.{cond-ind}
+use Rattle.capi_numbers.specs.Numbers.{numbersFrom, statuses, statusFrom, statusNumber, recordTo, statusIn, statusKnown, numbersAfter, machineFrom}
 
 -- ---- arrays
 
@@ -19,25 +22,7 @@ pub spelt : (n i : ℕ) (xs : List ℕ) → i + n ≤ length xs → take n (drop
 spelt zero i xs h = refl
 spelt (suc n) i xs h = ap (take (suc n)) (drop-cons xs i 0 (omega arith)) ∙ ap (λ (r : List ℕ). getD xs i 0 ∷ r) (spelt n (suc i) xs (omega arith))
 
-registers-of : (xs : List ℕ) → registers ≤ length xs → numbersFrom registers 0 xs ≡ take registers xs
-registers-of xs h = sym (spelt registers 0 xs h)
-
-pub machine-of : (xs : List ℕ) (t : Status) → length xs ≡ registers + 2 → t ≡ statusFrom (getD xs (registers + 1) 0) → machineOf (numbersFrom registers 0 xs) (getD xs registers 0) t ≡ machineFrom xs
-machine-of xs t h e = rw (registers-of xs (omega arith), e)
-
-pub record-of : (m : Machine) (t : ℕ) → length (m .regs) ≡ registers → t ≡ statusNumber (m .status) → numbersFrom registers 0 (m .regs) ++ (m .pc ∷ t ∷ []) ≡ machineTo m
-record-of m t h e =
-    ap (λ (k : ℕ). numbersFrom registers 0 (m .regs) ++ (m .pc ∷ k ∷ [])) e
-    ∙ ap (λ (r : List ℕ). r ++ (m .pc ∷ statusNumber (m .status) ∷ [])) (registers-of (m .regs) (omega arith) ∙ take-all registers (m .regs) (omega arith))
-
--- ---- a record after a run
-
-module _ (xs x : List ℕ) where
-  pub is-status : (r : List ℕ) → getD xs (registers + 1) 0 < statuses → r ≡ x → r ≡ cond (statusKnown xs) x xs
-  is-status r h e = e ∙ sym (ap (λ (b : Bool). cond b x xs) (lt-ltb _ _ h))
-
-  pub no-status : statuses ≤ getD xs (registers + 1) 0 → xs ≡ cond (statusKnown xs) x xs
-  no-status h = sym (ap (λ (b : Bool). cond b x xs) (le-ltb _ _ h))
+-- ---- statuses
 
 status-back : (x : ℕ) → x < statuses → statusNumber (statusFrom x) ≡ x
 status-back zero h = refl
@@ -47,10 +32,65 @@ status-back (suc (suc (suc zero))) h = refl
 status-back (suc (suc (suc (suc zero)))) h = refl
 status-back (suc (suc (suc (suc (suc x))))) h = omega arith
 
--- a machine that a run leaves alone, as a refused one does, has the numbers it was made of
-pub as-it-was : (xs : List ℕ) → length xs ≡ registers + 2 → statusKnown xs ≡ true → machineTo (machineFrom xs) ≡ xs
-as-it-was xs n h =
-    ap (λ (t : ℕ). take registers xs ++ (getD xs registers 0 ∷ t ∷ [])) (status-back _ (ltb-true _ _ h))
-    ∙ ap (λ (r : List ℕ). r ++ (getD xs registers 0 ∷ getD xs (registers + 1) 0 ∷ [])) (spelt registers 0 xs (omega arith))
-    ∙ sym (spelt (registers + 2) 0 xs (omega arith))
-    ∙ take-all (registers + 2) xs (omega arith)
+status-again : (t : Status) → statusFrom (statusNumber t) ≡ t
+status-again Running = refl
+status-again Ended = refl
+status-again Stopped = refl
+status-again Faulted = refl
+status-again Strayed = refl
+
+number-known : (t : Status) → ltb (statusNumber t) statuses ≡ true
+number-known Running = refl
+number-known Ended = refl
+number-known Stopped = refl
+number-known Faulted = refl
+number-known Strayed = refl
+
+-- ---- records of n registers
+
+module _ (n : ℕ) where
+  pub registers-of : (xs : List ℕ) → n ≤ length xs → numbersFrom n 0 xs ≡ take n xs
+  registers-of xs h = sym (spelt n 0 xs (omega arith))
+
+  pub record-of : (regs : List ℕ) (at k : ℕ) (t : Status) → length regs ≡ n → k ≡ statusNumber t → numbersFrom n 0 regs ++ (at ∷ k ∷ []) ≡ recordTo regs at t
+  record-of regs at k t h e = rw (e, registers-of regs (omega arith), take-all n regs (omega arith))
+
+  module _ (xs : List ℕ) where
+    pub is-status : (left r : List ℕ) → statusIn n xs < statuses → r ≡ left → r ≡ numbersAfter n xs left
+    is-status left r h e = e ∙ sym (ap (λ (b : Bool). cond b left xs) (lt-ltb _ _ h))
+
+    pub no-status : (left : List ℕ) → statuses ≤ statusIn n xs → xs ≡ numbersAfter n xs left
+    no-status left h = sym (ap (λ (b : Bool). cond b left xs) (le-ltb _ _ h))
+
+    -- numbers whose status is one are those of the record that they stand for
+    pub numbers-back : length xs ≡ n + 2 → statusKnown n xs ≡ true → recordTo (take n xs) (getD xs n 0) (statusFrom (statusIn n xs)) ≡ xs
+    numbers-back l h =
+        let last : drop n xs ≡ getD xs n 0 ∷ statusIn n xs ∷ [] =
+        sym (take-all 2 (drop n xs) (simp length-drop (omega arith))) ∙ spelt 2 n xs (omega arith) in
+        rw (status-back _ (ltb-true _ _ h), ← last) (take-append-drop n xs)
+
+    -- so a run that leaves the record leaves its numbers
+    pub untouched-by : length xs ≡ n + 2 → numbersAfter n xs (recordTo (take n xs) (getD xs n 0) (statusFrom (statusIn n xs))) ≡ xs
+    untouched-by l = cond-ind (λ (ys : List ℕ). ys ≡ xs) (statusKnown n xs) (λ h. numbers-back l h) (λ _. refl)
+
+  -- a record in numbers has its parts, and a status
+  module _ (regs : List ℕ) (at : ℕ) (t : Status) (h : length regs ≡ n) where
+    pub regs-again : take n (recordTo regs at t) ≡ regs
+    regs-again = take-at regs _ n h
+
+    pub at-again : getD (recordTo regs at t) n 0 ≡ at
+    at-again = getD-at regs at _ 0 n h
+
+    number-again : statusIn n (recordTo regs at t) ≡ statusNumber t
+    number-again = rw (← h, ← add-one (length regs)) (getD-append-add regs (at ∷ statusNumber t ∷ []) 1 0)
+
+    pub status-of-record : statusFrom (statusIn n (recordTo regs at t)) ≡ t
+    status-of-record = ap statusFrom number-again ∙ status-again t
+
+    pub after-known : (left : List ℕ) → numbersAfter n (recordTo regs at t) left ≡ left
+    after-known left = rw (number-again, number-known t)
+
+-- ---- the machine's
+
+pub machine-of : (xs : List ℕ) (t : Status) → length xs ≡ registers + 2 → t ≡ statusFrom (statusIn registers xs) → machineOf (numbersFrom registers 0 xs) (getD xs registers 0) t ≡ machineFrom xs
+machine-of xs t h e = rw (registers-of registers xs (omega arith), e)

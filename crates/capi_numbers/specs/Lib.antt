@@ -1,3 +1,4 @@
 pub mod Numbers
+pub mod Hosts
 pub mod Claims
 pub mod Proved

@@ -1,5 +1,5 @@
 -- The numbers in which a C host holds layouts and records.
-use Prim.Native.Nat.{ℕ, zero, suc, _+_}
+use Prim.Native.Nat.{ℕ, zero, suc}
 use mathlib.Core.Bool.{Bool, cond}
 use mathlib.Core.List.{List, [], _∷_, _++_}
 use lib.ListN.{getD, take}
@@ -40,12 +40,30 @@ statusNumber Stopped = 2
 statusNumber Faulted = 3
 statusNumber Strayed = 4
 
--- a record as its registers, pc and status
+-- a record of n registers, a machine's or an engine's: its registers, then pc or index, then status
+abbrev pub recordTo : List ℕ → ℕ → Status → List ℕ
+recordTo regs at t = regs ++ (at ∷ statusNumber t ∷ [])
+
+abbrev pub statusIn : ℕ → List ℕ → ℕ
+statusIn n xs = getD xs (suc n) 0
+
+-- whether its status number is a status
+abbrev pub statusKnown : ℕ → List ℕ → Bool
+statusKnown n xs = ltb (statusIn n xs) statuses
+
+-- its numbers after a run that leaves it as `left`; one whose status number is no status comes back as it was
+abbrev pub numbersAfter : ℕ → List ℕ → List ℕ → List ℕ
+numbersAfter n xs left = cond (statusKnown n xs) left xs
+
+-- the machine's
 abbrev pub machineFrom : List ℕ → Machine
-machineFrom xs = machineOf (take registers xs) (getD xs registers 0) (statusFrom (getD xs (registers + 1) 0))
+machineFrom xs = machineOf (take registers xs) (getD xs registers 0) (statusFrom (statusIn registers xs))
 
 abbrev pub machineTo : Machine → List ℕ
-machineTo m = (m .regs) ++ (m .pc ∷ statusNumber (m .status) ∷ [])
+machineTo m = recordTo (m .regs) (m .pc) (m .status)
+
+abbrev pub recordAfter : List ℕ → Ran → List ℕ
+recordAfter xs r = numbersAfter registers xs (machineTo (r .outcome .machine))
 
 -- an answer as number and place; a run's as ending, steps, pairs and readings used
 abbrev pub answerTo : Answer → List ℕ
@@ -53,11 +71,3 @@ answerTo a = a .number ∷ a .place ∷ []
 
 abbrev pub runAnswerTo : RunAnswer → List ℕ
 runAnswerTo a = endingNumber (a .ending) ∷ a .steps ∷ a .pairs ∷ a .used ∷ []
-
--- whether a record's status number is a status
-abbrev pub statusKnown : List ℕ → Bool
-statusKnown xs = ltb (getD xs (registers + 1) 0) statuses
-
--- the record after a run; one whose status number is no status comes back as it was
-abbrev pub recordAfter : List ℕ → Ran → List ℕ
-recordAfter xs r = cond (statusKnown xs) (machineTo (r .outcome .machine)) xs

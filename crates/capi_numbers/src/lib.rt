@@ -1,10 +1,20 @@
 // The numbers of a C host: layouts and machine records as arrays of u32, and back.
 use rules::Layout;
 use rules::Machine;
+use rules::Policy;
 use rules::Status;
 ghost use mathlib.Core.Path.{_≡_};
-ghost use mathlib.Core.Bool.{cond};
-ghost use Rattle.capi_numbers.specs.Numbers.{layoutFrom, statusFrom, statusNumber, machineFrom, machineTo, statusKnown};
+ghost use Rattle.rules.specs.Names.{registers};
+ghost use Rattle.capi_numbers.specs.Numbers.{layoutFrom, statusFrom, statusNumber, machineFrom, machineTo, numbersAfter};
+
+// How many numbers a layout has, the ceilings behind the others; an answer; a run's answer.
+const CEILINGS: usize = 8;
+
+pub const LAYOUT: usize = CEILINGS + Policy::ORDERS as usize;
+
+pub const ANSWER: usize = 2;
+
+pub const RUN_ANSWER: usize = 4;
 
 // Where pc and status stand in a record, after its registers, and how many numbers it has.
 const PC: usize = Machine::REGISTERS;
@@ -14,7 +24,7 @@ const STATUS: usize = PC + 1;
 pub const RECORD: usize = STATUS + 1;
 
 // A layout.
-pub fn layout_of(xs: &[u32; 16]) -> Layout
+pub fn layout_of(xs: &[u32; LAYOUT]) -> Layout
     ensures { λ r. ⌜ r ≡ layoutFrom (now (xs .entry)) ⌝ }
 {
     let low = xs[1];
@@ -33,7 +43,7 @@ pub fn layout_of(xs: &[u32; 16]) -> Layout
     )
 }
 
-const STATUSES: u32 = 5;
+pub const STATUSES: u32 = 5;
 
 // A status; any number above 4 counts as faulted.
 pub fn status_of(x: u32) -> Status
@@ -121,7 +131,7 @@ pub fn record_of(m: Machine) -> [u32; RECORD]
 
 // The record after a run. One whose status number is no status was not run, and comes back as it was.
 pub fn record_after(m: Machine, xs: [u32; RECORD]) -> [u32; RECORD]
-    ensures { λ r. ⌜ r ≡ cond (statusKnown xs) (machineTo m) xs ⌝ }
+    ensures { λ r. ⌜ r ≡ numbersAfter registers xs (machineTo m) ⌝ }
 {
     if xs[STATUS] < STATUSES {
         return record_of(m);

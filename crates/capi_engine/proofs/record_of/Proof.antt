@@ -2,9 +2,10 @@ use Prim.Native.Nat.{ℕ}
 use mathlib.Core.Path.{sym, _∙_}
 use lib.ListN.{length-map}
 use denote.Struct.Laws as LL
+use Rattle.rules.specs.Names.{guestRegisters}
 use Rattle.engine_rules.proofs.Engine as T
 use Rattle.engine_rules.proofs.Engine.Laws as T′
-use Rattle.capi_engine.proofs.Hosting.{record-of}
+use Rattle.capi_numbers.proofs.Numbers.{record-of}
 use borrow.Author.Needs.{needs}
 use Rattle.capi_engine.proofs.record_of.Statement.{statement}
 use Rattle.capi_engine.proofs.record_of.Tie as tie
@@ -29,4 +30,4 @@ record-of-spec =
     (λ c. search needs)
     (λ c. search needs)
     (λ c. search needs)
-    (λ c. record-of (c .before .before .args .m) _ (sym (length-map (c .before .before .args .m .regs) (λ (v : ℕ). v)) ∙ LL.owed T.the-type T′.the-laws (c .before .before .args .m) _ (c .before .before .good .0) .0 .1 .0 .1) (c .status-number .ensures)))
+    (λ c. record-of guestRegisters (c .before .before .args .m .regs) _ _ (c .before .before .args .m .status) (sym (length-map (c .before .before .args .m .regs) (λ (v : ℕ). v)) ∙ LL.owed T.the-type T′.the-laws (c .before .before .args .m) _ (c .before .before .good .0) .0 .1 .0 .1) (c .status-number .ensures)))

@@ -16,7 +16,7 @@ returns c =
     let m = v .before .before .before in
     let l = m .before .before in
     let s = l .before .before .before .before .before in
-    left _ (now (s .args .engine)) _ _ _ _ _ _ _ _ _ _ (l .layout-of .ensures) (m .engine-of .ensures) (v .run .ensures) _ _ (c .before .record-after .ensures) (c .answer-of .ensures)
+    left _ (now (s .args .engine)) _ _ _ _ _ _ _ _ _ (l .layout-of .ensures) (m .engine-of .ensures) _ _ _ (v .run .ensures) (c .before .record-after .ensures) (c .answer-of .ensures)
 
 pub run-spec : {M : Type 1} → statement M
 run-spec =

@@ -17,4 +17,6 @@ install-spec =
     (λ c κs. search needs)
     (λ c κs. narrow _ _ (ap (λ (i : Installed). i .answer) (c .before .before .before .install .ensures .0)) (install-bound _ _ _) (lit< tt))
     (λ c. search needs)
-    (λ c. installed _ _ (c .before .before .before .before .before .before .layout-of .ensures) _ _ _ _ _ _ (c .before .before .before .before .install .ensures .0) (c .before .before .before .before .install .ensures .1) (c .before .record-of .ensures) (c .answer-of .ensures)))
+    (λ c.
+    let i = c .before .before .before .before in
+    installed _ _ (i .before .before .layout-of .ensures) _ _ _ _ _ _ (c .before .record-of .ensures) (c .answer-of .ensures) (i .install .ensures .0) (i .install .ensures .1)))

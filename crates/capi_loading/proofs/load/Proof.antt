@@ -18,4 +18,6 @@ load-spec =
     (λ c κs. narrow _ _ (ap (λ (i : Installed). i .answer) (c .before .before .before .before .before .load .ensures .0)) (load-bound _ _ _ _ _) (lit< tt))
     (λ c. search needs)
     (λ c. search needs)
-    (λ c. loaded _ _ (c .before .before .before .before .before .before .before .before .before .layout-of .ensures) _ _ _ _ _ _ _ _ _ (c .before .before .before .before .before .before .load .ensures .0) (c .before .before .before .before .before .before .load .ensures .1 .0) (c .before .before .before .before .before .before .load .ensures .1 .1 .0) (c .before .record-of .ensures) (c .answer-of .ensures)))
+    (λ c.
+    let i = c .before .before .before .before .before .before in
+    loaded _ _ (i .before .before .before .layout-of .ensures) _ _ _ _ _ _ (c .before .record-of .ensures) (c .answer-of .ensures) _ _ _ (i .load .ensures .0) (i .load .ensures .1 .0) (i .load .ensures .1 .1 .0)))

@@ -1,3 +1,4 @@
+use Rattle.rules.specs.Names.{registers}
 use Rattle.capi_numbers.proofs.Numbers.{is-status, no-status}
 use borrow.Author.Needs.{needs}
 use Rattle.capi_numbers.proofs.record_after.Statement.{statement}
@@ -9,5 +10,5 @@ record-after-spec =
     (tie.spec
     (λ c. search needs)
     (λ c κs. search needs)
-    (λ c. search (is-status, needs))
-    (λ c. search (no-status, needs)))
+    (λ c. search (is-status registers, needs))
+    (λ c. search (no-status registers, needs)))

@@ -2,6 +2,7 @@ use Prim.Native.Nat.{ℕ}
 use mathlib.Core.Path.{sym, _∙_}
 use lib.ListN.{length-map}
 use denote.Struct.Laws as LL
+use Rattle.rules.specs.Names.{registers}
 use Rattle.rules.proofs.Machine as T
 use Rattle.rules.proofs.Machine.Laws as T′
 use Rattle.capi_numbers.proofs.Numbers.{record-of}
@@ -30,4 +31,4 @@ record-of-spec =
     (λ c. search needs)
     (λ c. search needs)
     (λ c. search needs)
-    (λ c. record-of (c .before .before .args .m) _ (sym (length-map (c .before .before .args .m .regs) (λ (v : ℕ). v)) ∙ LL.owed T.the-type T′.the-laws (c .before .before .args .m) _ (c .before .before .good .0) .0 .1 .0 .1) (c .status-number .ensures)))
+    (λ c. record-of registers (c .before .before .args .m .regs) _ _ (c .before .before .args .m .status) (sym (length-map (c .before .before .args .m .regs) (λ (v : ℕ). v)) ∙ LL.owed T.the-type T′.the-laws (c .before .before .args .m) _ (c .before .before .good .0) .0 .1 .0 .1) (c .status-number .ensures)))
