@@ -12,8 +12,8 @@ use Rattle.rules.specs.Words.{judgeOf, judgeAt, firstRefused, instrOf, routine,
 use Rattle.rules.specs.Commands.{plainOf}
 use Rattle.rules.specs.Bundles.{rewriteAnswer, placeAnswer}
 use Rattle.rules.specs.Machines.{installAnswer, installMemory, applyOf}
-use Rattle.rules.specs.Sample.{layout, policy, code, memory}
-use Rattle.rules.proofs.Trial.{free-set, sample-holds as machine-holds}
+use Rattle.samples.specs.Sample.{layout, policy, code, memory}
+use Rattle.samples.proofs.Samples.{free-set, sample-holds as machine-holds}
 use Rattle.engine_rules.specs.Engines.{sendOf, actOf, nextFor, movedOf, effectOn, runFrom, refusalBy, runOf}
 use Rattle.engine_rules.specs.Claims.{runOn, afterTaken, afterRun, afterRuns, runsOf, after, Served}
 use Rattle.engine_rules.specs.Sample.{left, runs, SampleHolds}

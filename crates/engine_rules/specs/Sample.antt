@@ -9,7 +9,7 @@ use Rattle.rules.specs.Words.{packOf}
 use Rattle.rules.specs.Machines.{installMemory}
 use Rattle.rules.specs.Guests.{pairOf}
 use Rattle.rules.specs.Runs.{Given}
-use Rattle.rules.specs.Sample.{layout, policy, code, memory, given, runs as machineRuns}
+use Rattle.samples.specs.Sample.{layout, policy, code, memory, given, runs as machineRuns}
 use Rattle.engine_rules.specs.Engines.{refusalOf}
 use Rattle.engine_rules.specs.Claims.{atFirst, afterRun, after, Served, Beside, Run, allRuns, recordedIn}
 

@@ -5,6 +5,7 @@ pub mod Facts
 pub mod Layouts
 pub mod Landings
 pub mod Masks
+pub mod Signs
 pub mod Packing
 pub mod WordLaws
 pub mod Bytes
@@ -25,7 +26,5 @@ pub mod Progress
 pub mod Pauses
 pub mod Moments
 pub mod Counts
-pub mod Samples
-pub mod Trial
 pub mod Proved
 pub mod Entries

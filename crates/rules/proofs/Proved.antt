@@ -2,6 +2,7 @@
 use Rattle.rules.specs.Proved.{Proved}
 use Rattle.rules.proofs.Landings.{landings}
 use Rattle.rules.proofs.Masks.{masks, sizes}
+use Rattle.rules.proofs.Signs.{signs}
 use Rattle.rules.proofs.RoundTrip.{words-back, bytes-back}
 use Rattle.rules.proofs.Conditions.{installs}
 use Rattle.rules.proofs.Passing.{rewrite-leaves, rewritten-passes, passed-rewrites, old-refused, passed-decodes}
@@ -14,8 +15,6 @@ use Rattle.rules.proofs.Loading.{loads}
 use Rattle.rules.proofs.Progress.{resumes, progress}
 use Rattle.rules.proofs.Pauses.{state-cell, paused-waits, pause-rule}
 use Rattle.rules.proofs.Moments.{splits, cuts}
-use Rattle.rules.proofs.Samples.{tray-holds}
-use Rattle.rules.proofs.Trial.{sample-holds}
 
 pub proved : Proved
 proved =
@@ -24,6 +23,7 @@ proved =
       landings = landings;
       installs = installs;
       sizes = sizes;
+      signs = signs;
       wordsBack = words-back;
       bytesBack = bytes-back;
       rewriteLeaves = rewrite-leaves;
@@ -48,6 +48,4 @@ proved =
       stateCell = state-cell;
       pausedWaits = paused-waits;
       pauseRule = pause-rule;
-      trayHolds = tray-holds;
-      sampleHolds = sample-holds;
     }

@@ -6,6 +6,8 @@ use mathlib.Core.Logic.{_⊎_}
 use mathlib.Core.List.{List, [], _∷_, _++_}
 use lib.ListN.{length, getD, take, drop}
 use lib.Count.{ones}
+use lib.IntN.{pos, sucℤ, _*ℤ_}
+use lib.Signed.{_≤ℤ_, _<ℤ_}
 use lib.Dec.{ltb}
 use Rattle.rules.specs.declared.Layout.{Layout}
 use Rattle.rules.specs.declared.Instr.{Instr}
@@ -18,6 +20,7 @@ use Rattle.rules.specs.declared.Ending.{Ending}
 use Rattle.rules.specs.declared.Ending.the-variants.{Done, NoArrow, Fault, LogFull, Silent, Spent, NoLanding, Refused}
 use Rattle.rules.specs.declared.Refusal.the-variants.{BadLayout, BadBundle, BadCount, BadBase}
 use Rattle.rules.specs.Names.{events, orders, noArrow, mostInstructions, mostBundles, bundleLength, bundleShift, landingCells, cellBits, guestRegisters, hidden, numberOf, answer, endingNumber}
+use Rattle.rules.specs.Signed.{twos, sarOf, lessOf}
 use Rattle.rules.specs.Layouts.{span, rightLayout, widthOf, maskOf, inBox, protected}
 use Rattle.rules.specs.Policies.{Policy, arrow, allowed, stateOver}
 use Rattle.rules.specs.Landings.{listed, landingsOf, bitAt, marked}
@@ -67,6 +70,19 @@ pub record SizeLaws (n : ℕ) : Type 0 where
 
 abbrev pub Sizes : Type 0
 Sizes = (n : ℕ) → n ≤ mostInstructions → SizeLaws n
+
+-- ---- two's complement
+
+-- 'ra as two's complement, divided by 2^v, rounded down': q × 2^v ≤ x < (q + 1) × 2^v of the integers, q a 32-bit pattern;
+-- 'less than': in the order of the patterns, the sign bit of each turned over
+pub record SignLaws (x y v : ℕ) : Type 0 where
+  pub fits : sarOf x v < 2 ^ 32
+  pub down : (twos (sarOf x v) *ℤ pos (2 ^ v)) ≤ℤ twos x
+  pub most : twos x <ℤ (sucℤ (twos (sarOf x v)) *ℤ pos (2 ^ v))
+  pub less : lessOf x y ≡ ltb ((x + 2 ^ 31) % 2 ^ 32) ((y + 2 ^ 31) % 2 ^ 32)
+
+abbrev pub Signs : Type 0
+Signs = (x y v : ℕ) → x < 2 ^ 32 → y < 2 ^ 32 → SignLaws x y v
 
 -- ---- bytes
 

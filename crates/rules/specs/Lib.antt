@@ -12,6 +12,4 @@ pub mod Guests
 pub mod Runs
 pub mod Loading
 pub mod Claims
-pub mod Tray
-pub mod Sample
 pub mod Proved

@@ -1,13 +1,12 @@
 -- Every claim of this crate, a field each: its one term is `proved`, in proofs/Proved.antt.
-use Rattle.rules.specs.Claims.{Masks, Landings, Installs, Sizes, WordsBack, BytesBack, RewriteLeaves, RewrittenPasses, PassedRewrites, Shapes, Checks, OldRefused, PassedDecodes, ListsBefore, Endings, Splits, Cuts, GuestRule, Resumes, Progress, Recorded, Ceilings, Isolation, Loads, NoWrap, StateCell, PausedWaits, PauseRule}
-use Rattle.rules.specs.Tray.{TrayHolds}
-use Rattle.rules.specs.Sample.{SampleHolds}
+use Rattle.rules.specs.Claims.{Masks, Landings, Installs, Sizes, Signs, WordsBack, BytesBack, RewriteLeaves, RewrittenPasses, PassedRewrites, Shapes, Checks, OldRefused, PassedDecodes, ListsBefore, Endings, Splits, Cuts, GuestRule, Resumes, Progress, Recorded, Ceilings, Isolation, Loads, NoWrap, StateCell, PausedWaits, PauseRule}
 
 pub record Proved : Type 0 where
   pub masks : Masks
   pub landings : Landings
   pub installs : Installs
   pub sizes : Sizes
+  pub signs : Signs
   pub wordsBack : WordsBack
   pub bytesBack : BytesBack
   pub rewriteLeaves : RewriteLeaves
@@ -32,5 +31,3 @@ pub record Proved : Type 0 where
   pub stateCell : StateCell
   pub pausedWaits : PausedWaits
   pub pauseRule : PauseRule
-  pub trayHolds : TrayHolds
-  pub sampleHolds : SampleHolds

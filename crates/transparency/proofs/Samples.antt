@@ -13,7 +13,7 @@ use Rattle.rules.specs.Commands.{isCommand, commandOf, wordOf, fetchOf, plainOf
 use Rattle.rules.specs.Bundles.{shapeOf, valid, readOff, bundleAt, isBundle, shapedAt, passesAt, checkFrom, checkAnswer, placeAnswer, rewriteAnswer}
 use Rattle.rules.specs.Machines.{landsAt, installAnswer, installMemory, installMachine, effectOf, applyOf, runFrom, runOf}
 use Rattle.rules.specs.Runs.{begins, begunFrom, runOn, afterTaken, afterRun, afterRuns, Served}
-use Rattle.rules.specs.Sample.{layout}
+use Rattle.samples.specs.Sample.{layout}
 use lib.Dec.{lit<}
 use Rattle.transparency.specs.Raw.{rawSent, rawDo, rawStep, rawAfter, Behaves}
 use Rattle.transparency.specs.Sample.{policy, code, commands, memory, readings, run, rawAt, SampleHolds}

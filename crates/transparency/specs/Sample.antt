@@ -10,7 +10,7 @@ use Rattle.rules.specs.Bundles.{rewriteAnswer, commandsOf}
 use Rattle.rules.specs.Machines.{installMemory}
 use Rattle.rules.specs.Guests.{pairOf}
 use Rattle.rules.specs.Runs.{Given, Served, after}
-use Rattle.rules.specs.Sample.{layout}
+use Rattle.samples.specs.Sample.{layout}
 use Rattle.transparency.specs.Raw.{Raw, rawAfter, rawStart, BehavesFor}
 use Rattle.transparency.specs.Claims.{SameBox, Begins}
 

@@ -7,21 +7,21 @@ use native.Mathlib.Omega.{arith}
 use lib.Count.{ones, leadingZeros}
 use lib.ListN.{set, replicate}
 use lib.Seq.{getD-set-other}
 use Rattle.rules.specs.declared.Status.the-variants.{Running, Stopped}
 use Rattle.rules.specs.Names.{topGuest}
 use Rattle.rules.specs.Layouts.{rightLayout, inBox, inTable, inLandings, protected}
 use Rattle.rules.specs.Policies.{rightPolicy}
 use Rattle.rules.specs.Landings.{rightLandings, bitsFrom, landingsOf}
 use Rattle.rules.specs.Words.{instrOf, routine, bundlesFor}
 use Rattle.rules.specs.Commands.{isCommand, commandOf, wordOf, fetchOf, plainOf}
 use Rattle.rules.specs.Bundles.{shapeOf, valid, readOff, bundleAt, isBundle, shapedAt, passesAt, checkFrom, checkAnswer}
 use Rattle.rules.specs.Machines.{installAnswer, installMemory, installMachine, effectOf, applyOf, runFrom, runOf}
 use Rattle.rules.specs.Guests.{pairOf, Guest, guestOf, sentOf, doOf, guestStep, guestAfter, guestStart}
 use Rattle.rules.specs.Runs.{begins, begunFrom, runOn, afterTaken, afterRun, afterRuns, runsOf, Matches, Served, allRuns}
 use Rattle.rules.specs.Claims.{Each, Alike, Same}
-use Rattle.rules.specs.Sample.{layout, policy, code, commands, memory, left, runs, SampleHolds}
+use Rattle.samples.specs.Sample.{layout, policy, code, commands, memory, left, runs, SampleHolds}
 use Rattle.rules.proofs.Bools.{no}
 use Rattle.rules.proofs.Isolation.{isolation}
 
 -- a store to a free cell
 pub free-set : (mem : List ℕ) (i x : ℕ) → (inBox layout i || protected layout i) ≡ false → Matches layout (set mem i x) mem

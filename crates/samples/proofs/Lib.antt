@@ -1,0 +1,3 @@
+pub mod Tray
+pub mod Samples
+pub mod Proved

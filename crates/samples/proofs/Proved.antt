@@ -1,0 +1,7 @@
+-- Every claim of this crate is proved.
+use Rattle.samples.specs.Proved.{Proved}
+use Rattle.samples.proofs.Tray.{tray-holds}
+use Rattle.samples.proofs.Samples.{sample-holds}
+
+pub proved : Proved
+proved = record { trayHolds = tray-holds; sampleHolds = sample-holds }

@@ -1,0 +1,3 @@
+pub mod Tray
+pub mod Sample
+pub mod Proved
