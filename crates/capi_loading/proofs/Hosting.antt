@@ -7,7 +7,7 @@ use Rattle.rules.specs.declared.Layout.{Layout}
 use Rattle.rules.specs.declared.Installed.{Installed}
 use Rattle.rules.specs.Policies.{Policy}
 use Rattle.rules.specs.Machines.{installMemory, installOf}
-use Rattle.rules.specs.Loading.{loadCommands, loadMemory, loadOf}
+use Rattle.sandbox_rules.specs.Loading.{loadCommands, loadMemory, loadOf}
 use Rattle.capi_numbers.specs.Numbers.{layoutFrom, machineTo, answerTo}
 use Rattle.capi_numbers.specs.Hosts.{HostInstalled, hostInstalled, installFor, HostLoaded, hostLoaded, loadFor}
 

@@ -7,7 +7,8 @@ use capi_numbers::layout_of;
 use capi_numbers::record_of;
 use rules::Policy;
 ghost use mathlib.Core.Path.{_≡_};
-ghost use Rattle.rules.specs.Policies.{policyOf, wordRight};
+ghost use Rattle.rules.specs.Policies.{policyOf};
+ghost use Rattle.installer_words.specs.Words.{wordRight};
 ghost use Rattle.capi_numbers.specs.Hosts.{hostInstalled, installFor, hostLoaded, loadFor};
 ghost use Rattle.capi_loading.specs.Hosts.{yesOrNo};
 

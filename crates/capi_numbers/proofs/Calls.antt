@@ -16,7 +16,7 @@ use Rattle.rules.specs.Runs.{Given, Carried, carriedOf, atFirst, runOn, afterTa
 use Rattle.rules.proofs.Endings.{run-ind}
 use Rattle.rules.proofs.Conditions.{machine-of}
 use Rattle.rules.proofs.Isolation.{isolation}
-use Rattle.rules.proofs.Loading.{loads}
+use Rattle.sandbox_rules.proofs.Loading.{loads}
 use Rattle.capi_numbers.specs.Numbers.{layoutFrom, machineFrom, machineTo, numbersAfter}
 use Rattle.capi_numbers.specs.Hosts.{checkFor, installFor, loadFor, HostRan, runFor}
 use Rattle.capi_numbers.specs.Claims.{RecordBack, Untouched, callsOf, ranTo, Ready, installed, loaded, HostIsolation}

@@ -5,7 +5,7 @@ use lib.ListN.{length}
 use Rattle.rules.specs.Policies.{Policy}
 use Rattle.rules.specs.Bundles.{checkAnswer}
 use Rattle.rules.specs.Machines.{installAnswer, installMachine, installMemory, runOf}
-use Rattle.rules.specs.Loading.{loadAnswer, loadMachine, loadCommands, loadMemory}
+use Rattle.sandbox_rules.specs.Loading.{loadAnswer, loadMachine, loadCommands, loadMemory}
 use Rattle.capi_numbers.specs.Numbers.{layoutFrom, machineFrom, machineTo, recordAfter, answerTo, runAnswerTo}
 
 -- hemdroas_check: the answer

@@ -7,7 +7,8 @@ use native.Mathlib.Omega.{arith}
 use lib.ListN.{length, getD, take, drop, drop-of-length-le, take-append-drop}
 use lib.Seq.{drop-cons, take-add}
 use Rattle.rules.specs.Names.{mostStates}
-use Rattle.rules.specs.Policies.{entryRight, entriesRight, lowBytes, wordBytes, wordRight}
+use Rattle.rules.specs.Policies.{entryRight, entriesRight}
+use Rattle.installer_words.specs.Words.{lowBytes, wordBytes, wordRight}
 use Rattle.installer_words.proofs.Words.{word-entries}
 use Rattle.rules.proofs.Entries.{entries-append}
 

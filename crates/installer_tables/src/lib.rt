@@ -7,7 +7,8 @@ ghost use mathlib.Core.Path.{_≡_};
 ghost use Prim.Native.Nat.{_*_, _≤_};
 ghost use lib.ListN.{length, take, drop};
 ghost use Rattle.rules.specs.Names.{mostStates};
-ghost use Rattle.rules.specs.Policies.{entriesRight, wordBytes};
+ghost use Rattle.rules.specs.Policies.{entriesRight};
+ghost use Rattle.installer_words.specs.Words.{wordBytes};
 
 // The bytes of a word.
 const WORD: usize = 4;

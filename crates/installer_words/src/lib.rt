@@ -3,7 +3,8 @@ use rules::Layout;
 ghost use mathlib.Core.Path.{_≡_};
 ghost use Prim.Native.Nat.{_+_, _≤_, _<_};
 ghost use lib.ListN.{length, take, drop};
-ghost use Rattle.rules.specs.Policies.{lowBytes, wordBytes, statesRight, wordRight};
+ghost use Rattle.rules.specs.Policies.{statesRight};
+ghost use Rattle.installer_words.specs.Words.{lowBytes, wordBytes, wordRight};
 
 // A number in each of a word's four bytes: 1, the low seven bits, and the top bit.
 const ONES: u32 = 0x0101_0101;

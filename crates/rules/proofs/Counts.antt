@@ -21,14 +21,13 @@ use Rattle.rules.specs.declared.Command.{Command}
 use Rattle.rules.specs.declared.Command.the-variants.{Nop, Halt, Plain, Load, Store, GoIf, GoReg, Look, StopIf, Keep, Event, Stray}
 use Rattle.rules.specs.Names.{mostInstructions, mostCommands, bundleLength, topKind, orders, noArrow, answer, orElse, roomFor}
 use Rattle.rules.specs.Words.{guestLimits, hasStray, hasHigh, judgeOf, judgeWord, judgeAt, firstRefused, kindOf, vOf, fieldsOf, routine, bundlesFor}
-use Rattle.rules.specs.Bytes.{sizeOf, mapOf, fieldsAt, oneFields, oneMap, oneOf, thenAnswer, scanOf, countOf, wordsIn, readAnswer, oneOut, bytesOf, writeAnswer}
+use Rattle.rules.specs.Bytes.{sizeOf, mapOf, fieldsAt, oneFields, oneMap, oneOf, thenAnswer, scanOf, countOf, readAnswer, oneOut, bytesOf, writeAnswer}
 use Rattle.rules.specs.Layouts.{rightLayout}
 use Rattle.rules.specs.Policies.{Policy, rightPolicy}
 use Rattle.rules.specs.Landings.{rightLandings}
 use Rattle.rules.specs.Commands.{fetchOf, holdsOf}
 use Rattle.rules.specs.Bundles.{baseRight, commandsOf, commandCount, placeAnswer, rewriteAnswer, countRight, passesAt, checkFrom, checkAnswer}
 use Rattle.rules.specs.Machines.{ifRoom, View, State, Ran, fits, installAnswer, regAt, entryOf, landsAt, effectOf, withPair, applyOf, seen, nextOf, endingOf, startOf, runOf}
-use Rattle.rules.specs.Loading.{loadAnswer}
 use Rattle.rules.proofs.Bools.{cond-ind, unless-ind, both}
 use Rattle.rules.proofs.Refusals.{taken-then}
 use Rattle.rules.proofs.Bytes.{bit-le, length-fields, length-routine}
@@ -190,7 +189,7 @@ check-bound lay ws =
     unless-ind (Bounded mostInstructions 0) (baseRight lay (length ws / bundleLength)) (λ _. at-start _ _ _ (lit< tt))
     (λ _. check-from-bound lay (length ws / bundleLength) ws 0 (length ws / bundleLength) mostInstructions (omega arith))))
 
--- ---- installing and loading
+-- ---- installing
 
 pub install-bound : (lay : Layout) (pol : Policy) (mem : List ℕ) → Bounded 0 0 (installAnswer lay pol mem)
 unfolding installAnswer
@@ -198,18 +197,6 @@ install-bound lay pol mem =
     unless-ind (Bounded 0 0) (fits lay mem) (λ _. at-start _ _ _ (lit< tt))
     (λ _. unless-ind (Bounded 0 0) (rightPolicy lay pol) (λ _. at-start _ _ _ (lit< tt))
     (λ _. unless-ind (Bounded 0 0) (rightLandings (pol .landings)) (λ _. at-start _ _ _ (lit< tt)) (λ _. at-start _ _ _ (lit< tt))))
-
-pub load-bound : (lay : Layout) (pol : Policy) (s : List ℕ) (room : ℕ) (mem : List ℕ) → Bounded mostCommands room (loadAnswer lay pol s room mem)
-unfolding loadAnswer
-load-bound lay pol s room mem =
-    let ws = wordsIn s in
-    let b = rewrite-bound lay ws room in
-    or-else _ _ (readAnswer s mostInstructions) _ (read-bound s _ .number) (omega (arith, read-bound s mostInstructions .place))
-    (λ _. or-else _ _ (rewriteAnswer lay ws room) _ (b .number) (b .place)
-    (λ z. let e : commandCount (length ws) ≡ rewriteAnswer lay ws room .place = ap (λ (x : Answer). x .place) (sym (rewrite-taken lay ws room z)) in
-    or-else _ _ (checkAnswer lay (commandsOf lay ws)) _ (check-bound lay _ .number) (omega (arith, check-bound lay (commandsOf lay ws) .place))
-    (λ _. or-else _ _ (installAnswer lay pol mem) _ (install-bound lay pol mem .number) (omega (arith, install-bound lay pol mem .place))
-    (λ _. record { number = lit< tt; place = omega (arith, b .place); taken = λ _. omega (arith, b .taken z) }))))
 
 -- ---- a run
 

@@ -14,14 +14,12 @@ pub mod GuestWords
 pub mod Conditions
 pub mod Passing
 pub mod Shapes
-pub mod Before
 pub mod Endings
 pub mod Sim
 pub mod Track
 pub mod Twins
 pub mod Isolation
 pub mod Ceilings
-pub mod Loading
 pub mod Progress
 pub mod Pauses
 pub mod Moments

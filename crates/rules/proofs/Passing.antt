@@ -8,25 +8,25 @@ use native.Mathlib.Omega.{arith}
 use borrow.Author.Tests.{ltb-true, ltb-false, lt-ltb, le-ltb, le-leb, eq-eqb, ne-eqb}
 use lib.Dec.{eqb, ltb, lit<}
 use lib.Count.{trailingZeros}
-use lib.ListN.{length, getD, take, drop}
-use lib.Seq.{ext-getD, getD-take, getD-drop}
+use lib.ListN.{length, getD}
+use lib.Seq.{ext-getD}
 use Rattle.rules.specs.declared.Layout.{Layout}
 use Rattle.rules.specs.declared.Answer.{Answer}
 use Rattle.rules.specs.declared.Instr.{Instr}
 use Rattle.rules.specs.declared.Instr.the-variants.{HALT, PLAIN, LOAD, STORE, GOIF, GOX, EVENT}
 use Rattle.rules.specs.Names.{mostInstructions, mostCommands, bundleLength, bundleShift, hidden, guestRegisters, topCondition, events, answer}
-use Rattle.rules.specs.Words.{kindOf, vOf, packOf, judgeAt, instrOf, routine, bundlesFor}
+use Rattle.rules.specs.Words.{kindOf, judgeAt, instrOf, routine, bundlesFor}
 use Rattle.rules.specs.Commands.{limitsOf, wordOf}
 use Rattle.rules.specs.Bundles.{addressOf, shapeOf, commandsOf, commandCount, placeAnswer, rewriteAnswer, rewriteOutput, valid, readOff, bundleAt, isBundle, shapedAt, passesAt, checkFrom, checkAnswer}
-use Rattle.rules.specs.Claims.{oldEvent, OldRefused, RewriteLeaves, RewrittenPasses, Rewrites, PassedRewrites, PassedDecodes}
+use Rattle.rules.specs.Claims.{RewriteLeaves, RewrittenPasses, Rewrites, PassedRewrites, PassedDecodes}
 use Rattle.rules.proofs.Facts.{Valid}
-use Rattle.rules.proofs.Bools.{no, cases, both}
+use Rattle.rules.proofs.Bools.{cases}
 use Rattle.rules.proofs.Masks.{one-bit, sizes}
 use Rattle.rules.proofs.Refusals.{none-refused, output-start}
 use Rattle.rules.proofs.Counts.{length-commands, rewrite-taken as answer-taken}
 use Rattle.rules.proofs.Packing.{InBits, guest-bits, condition-bits, pack-kind, pack-d, pack-a, pack-b, pack-c, pack-v}
 use Rattle.rules.proofs.GuestWords.{guestWord, guest-taken, guest-instr}
-use Rattle.rules.proofs.Conditions.{bundle-parts, Passed, passed-of, passed-valid, passed-word, passed-last, Taken, taken-of, past-end, some-ones, size-laws, count-most, routine-valid, routine-last, routine-length, routine-word, bundled-of}
+use Rattle.rules.proofs.Conditions.{Passed, passed-of, passed-valid, passed-word, passed-last, Taken, taken-of, past-end, some-ones, size-laws, count-most, routine-valid, routine-last, routine-length, routine-word, bundled-of}
 
 -- ---- an instruction is read off its bundle
 
@@ -110,52 +110,6 @@ module _ (lay : Layout) (n : ℕ) where
     pub bundle-passes : passesAt lay n ws h ≡ true
     unfolding passesAt
     bundle-passes = rw (bundle-shaped, first-word) halts
-
--- ---- a list with a bundle that does not pass is refused, there or before it
-refused-at : (lay : Layout) (n : ℕ) (ws : List ℕ) (j h m : ℕ) → passesAt lay n ws j ≡ false → h ≤ j → j < h + m → (checkFrom lay n ws h m .number ≡ 11) × (checkFrom lay n ws h m .place ≤ j)
-unfolding checkFrom
-refused-at lay n ws j h zero no-shape l k = absurd (omega arith)
-refused-at lay n ws j h (suc m) no-shape l k =
-    ⊎-elim
-    (λ (e : passesAt lay n ws h ≡ true).
-    let apart : h ≡ j → ⊥ = λ (q : h ≡ j). no (sym no-shape ∙ ap (passesAt lay n ws) (sym q) ∙ e) in
-    rw e (refused-at lay n ws j (h + 1) m no-shape (omega arith) (omega arith)))
-    (λ (e : passesAt lay n ws h ≡ false). rw e (refl, l))
-    (cases (passesAt lay n ws h))
-
--- an event's bundle in the old order: the kind of its first word is LOOK's, that of its third KEEP's, where EVENT's is asked for
-look-kind : (r e : ℕ) → kindOf (packOf 16 r 0 0 0 e) ≡ 16
-look-kind r e = omega arith
-
-keep-event : (r v : ℕ) → packOf 18 r 0 0 0 0 ≡ packOf 19 0 0 0 0 v → ⊥
-keep-event r v q = omega arith
-
-module _ (lay : Layout) (n : ℕ) (ws : List ℕ) (h r e : ℕ) (old : take bundleLength (drop (bundleLength * h) ws) ≡ oldEvent r e) where
-  old-word : (p : ℕ) → p < bundleLength → getD ws (bundleLength * h + p) 0 ≡ getD (oldEvent r e) p 0
-  old-word p l = sym (getD-take bundleLength (drop (bundleLength * h) ws) p 0 l ∙ getD-drop (bundleLength * h) ws p 0) ∙ ap (λ (l : List ℕ). getD l p 0) old
-
-  old-look : bundleAt lay ws h ≡ EVENT (vOf (getD ws (bundleLength * h) 0))
-  unfolding bundleAt readOff wordOf
-  old-look =
-      let z : bundleLength * h + 0 ≡ bundleLength * h = omega arith in
-      let k : kindOf (getD ws (bundleLength * h) 0) ≡ 16 = ap (λ (i : ℕ). kindOf (getD ws i 0)) (sym z) ∙ ap kindOf (old-word 0 (lit< tt)) ∙ look-kind r e in
-      rw k
-
-  pub old-fails : passesAt lay n ws h ≡ false
-  unfolding passesAt shapedAt shapeOf wordOf
-  old-fails =
-      ⊎-elim
-      (λ (t : passesAt lay n ws h ≡ true).
-      let p = bundle-parts lay n (bundleAt lay ws h) _ _ _ _ (both (shapedAt lay n ws h) _ t .0) in
-      absurd (keep-event r _ (sym (old-word 2 (lit< tt)) ∙ p .3 ∙ ap (λ (i : Instr). wordOf (shapeOf lay n i 2)) old-look)))
-      (λ t. t)
-      (cases (passesAt lay n ws h))
-
-pub old-refused : OldRefused
-unfolding checkAnswer
-old-refused lay ws h r e right count base l old =
-    let n = length ws / bundleLength in
-    rw (right, count, base) (refused-at lay n ws h 0 n (old-fails lay n ws h r e old) (omega arith) (omega arith))
 
 check-all : (lay : Layout) (n : ℕ) (ws : List ℕ) (h m : ℕ) → ((j : ℕ) → j < h + m → passesAt lay n ws j ≡ true) → checkFrom lay n ws h m ≡ answer 0 0
 unfolding checkFrom

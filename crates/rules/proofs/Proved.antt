@@ -5,13 +5,11 @@ use Rattle.rules.proofs.Masks.{masks, sizes}
 use Rattle.rules.proofs.Signs.{signs}
 use Rattle.rules.proofs.RoundTrip.{words-back, bytes-back}
 use Rattle.rules.proofs.Conditions.{installs}
-use Rattle.rules.proofs.Passing.{rewrite-leaves, rewritten-passes, passed-rewrites, old-refused, passed-decodes}
+use Rattle.rules.proofs.Passing.{rewrite-leaves, rewritten-passes, passed-rewrites, passed-decodes}
 use Rattle.rules.proofs.Shapes.{shapes, checks}
-use Rattle.rules.proofs.Before.{lists-before}
 use Rattle.rules.proofs.Endings.{endings}
 use Rattle.rules.proofs.Isolation.{guest-rule, recorded, isolation, no-wrap}
 use Rattle.rules.proofs.Ceilings.{ceilings}
-use Rattle.rules.proofs.Loading.{loads}
 use Rattle.rules.proofs.Progress.{resumes, progress}
 use Rattle.rules.proofs.Pauses.{state-cell, paused-waits, pause-rule}
 use Rattle.rules.proofs.Moments.{splits, cuts}
@@ -31,9 +29,7 @@ proved =
       passedRewrites = passed-rewrites;
       shapes = shapes;
       checks = checks;
-      oldRefused = old-refused;
       passedDecodes = passed-decodes;
-      listsBefore = lists-before;
       endings = endings;
       splits = splits;
       cuts = cuts;
@@ -43,7 +39,6 @@ proved =
       recorded = recorded;
       ceilings = ceilings;
       isolation = isolation;
-      loads = loads;
       noWrap = no-wrap;
       stateCell = state-cell;
       pausedWaits = paused-waits;

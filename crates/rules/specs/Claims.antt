@@ -1,7 +1,7 @@
 -- What is claimed of the definitions. Each claim is a type; its proof has the claim's name in small letters, in proofs/.
 use Prim.Native.Nat.{ℕ, suc, _+_, _-_, _*_, _/_, _%_, _^_, _<_, _≤_}
 use mathlib.Core.Path.{_≡_}
-use mathlib.Core.Bool.{Bool, true, false, _&&_}
+use mathlib.Core.Bool.{true, false}
 use mathlib.Core.Logic.{_⊎_}
 use mathlib.Core.List.{List, [], _∷_, _++_}
 use lib.ListN.{length, getD, take, drop}
@@ -9,29 +9,19 @@ use lib.Count.{ones}
 use lib.IntN.{pos, sucℤ, _*ℤ_}
 use lib.Signed.{_≤ℤ_, _<ℤ_}
 use lib.Dec.{ltb}
-use Rattle.rules.specs.declared.Layout.{Layout}
-use Rattle.rules.specs.declared.Instr.{Instr}
-use Rattle.rules.specs.declared.Instr.the-variants.{HALT, PLAIN, LOAD, STORE, GOIF, GOX, EVENT}
-use Rattle.rules.specs.declared.Machine.{Machine}
-use Rattle.rules.specs.declared.Command.the-variants.{Look, StopIf, Keep, Event}
-use Rattle.rules.specs.declared.Status.{Status}
-use Rattle.rules.specs.declared.Status.the-variants.{Running, Ended, Stopped, Faulted, Strayed}
-use Rattle.rules.specs.declared.Ending.{Ending}
-use Rattle.rules.specs.declared.Ending.the-variants.{Done, NoArrow, Fault, LogFull, Silent, Spent, NoLanding, Refused}
-use Rattle.rules.specs.declared.Refusal.the-variants.{BadLayout, BadBundle, BadCount, BadBase}
-use Rattle.rules.specs.Names.{events, orders, noArrow, mostInstructions, mostBundles, bundleLength, bundleShift, landingCells, cellBits, guestRegisters, hidden, numberOf, answer, endingNumber}
+use Rattle.rules.specs.Types.{Layout, Instr, HALT, EVENT, Machine, Status, Running, Ended, Stopped, Faulted, Strayed, Ending, Done, NoArrow, Fault, LogFull, Silent, Spent, NoLanding, Refused, BadLayout}
+use Rattle.rules.specs.Names.{events, orders, noArrow, mostInstructions, mostBundles, bundleLength, bundleShift, landingCells, cellBits, guestRegisters, numberOf, answer, endingNumber}
 use Rattle.rules.specs.Signed.{twos, sarOf, lessOf}
 use Rattle.rules.specs.Layouts.{span, rightLayout, widthOf, maskOf, inBox, protected}
 use Rattle.rules.specs.Policies.{Policy, arrow, allowed, stateOver}
 use Rattle.rules.specs.Landings.{listed, landingsOf, bitAt, marked}
 use Rattle.rules.specs.Words.{routine, bundlesFor}
-use Rattle.rules.specs.Bytes.{wordsIn, readAnswer, readOutput, writeAnswer, writeOutput}
-use Rattle.rules.specs.Commands.{wordOf, shlOf, fetchOf}
-use Rattle.rules.specs.Bundles.{addressOf, lastAddress, positionOf, shapeWith, shapeOf, bundleOf, valid, readOff, bundleAt, isBundle, baseRight, countRight, commandsOf, rewriteAnswer, rewriteOutput, checkAnswer}
+use Rattle.rules.specs.Bytes.{readAnswer, readOutput, writeAnswer, writeOutput}
+use Rattle.rules.specs.Commands.{shlOf, fetchOf}
+use Rattle.rules.specs.Bundles.{addressOf, lastAddress, positionOf, shapeOf, bundleOf, valid, readOff, bundleAt, isBundle, baseRight, countRight, commandsOf, rewriteAnswer, rewriteOutput, checkAnswer}
 use Rattle.rules.specs.Machines.{State, onward, Ran, ranOf, outcomeOf, leftIn, fits, runFrom, runOf, installAnswer, installMemory}
 use Rattle.rules.specs.Guests.{Pair, Guest, guestAfter, guestStart, boxOf}
-use Rattle.rules.specs.Runs.{begins, begunFrom, Given, Carried, carriedOf, atFirst, afterRun, allRuns, after, Run, runsOf, recordedIn, Matches, Lent, Lends, Served, pairsOf, eventsOf, waitingAt, pendingAt}
-use Rattle.rules.specs.Loading.{loadAnswer, loadCommands, loadMemory, loadMachine}
+use Rattle.rules.specs.Runs.{begins, begunFrom, Given, Carried, afterRun, allRuns, after, Run, runsOf, recordedIn, Matches, Lent, Served, pairsOf, eventsOf, waitingAt, pendingAt}
 
 -- ---- masks and sizes
 
@@ -157,80 +147,12 @@ pub record CheckLaws (lay : Layout) (ws : List ℕ) (N : ℕ) : Type 0 where
 abbrev pub Checks : Type 0
 Checks = (lay : Layout) (ws : List ℕ) → CheckLaws lay ws (length ws / bundleLength)
 
--- the words of an event's bundle in the order that [12] gave up, LOOK, STOPIF, KEEP, EVENT, with register r for the hidden one
-abbrev pub oldEvent : ℕ → ℕ → List ℕ
-oldEvent r e = wordOf (Look r e) ∷ wordOf (StopIf r) ∷ wordOf (Keep r) ∷ wordOf (Event e) ∷ []
-
--- 'Lists in the old order that contain an event are refused with 11', wherever it stands and whichever it is, if not with 7, 12 or 13;
--- no later bundle is named
-abbrev pub OldRefused : Type 0
-OldRefused =
-    (lay : Layout) (ws : List ℕ) (h r e : ℕ) →
-    let N = length ws / bundleLength in
-    rightLayout lay ≡ true → countRight (length ws) ≡ true → baseRight lay N ≡ true →
-    h < N → take bundleLength (drop (bundleLength * h) ws) ≡ oldEvent r e →
-    (checkAnswer lay ws .number ≡ 11) × (checkAnswer lay ws .place ≤ h)
-
 -- every word of a passed list is a command: the one that its bundle's shape names
 abbrev pub PassedDecodes : Type 0
 PassedDecodes =
     (lay : Layout) (ws : List ℕ) → checkAnswer lay ws .number ≡ 0 →
     let N = length ws / bundleLength in
     (h p : ℕ) → h < N → p < bundleLength → fetchOf ws (lay .base) (addressOf lay h + p) ≡ shapeOf lay N (bundleAt lay ws h) p
-
--- ---- lists written when register 8 was the hidden one
-
-abbrev pub hiddenBefore : ℕ
-hiddenBefore = 8
-
--- LOAD, STORE, GOX and EVENT: their shapes name the hidden register
-abbrev pub namesHidden : Instr → Bool
-namesHidden HALT = false
-namesHidden (PLAIN k d a b v) = false
-namesHidden (LOAD d a) = true
-namesHidden (STORE a b) = true
-namesHidden (GOIF a b c v) = false
-namesHidden (GOX d a b c) = true
-namesHidden (EVENT e) = true
-
--- every register field of an instruction is below r
-abbrev pub fieldsBelow : ℕ → Instr → Bool
-fieldsBelow r HALT = true
-fieldsBelow r (PLAIN k d a b v) = ltb d r && ltb a r && ltb b r
-fieldsBelow r (LOAD d a) = ltb d r && ltb a r
-fieldsBelow r (STORE a b) = ltb a r && ltb b r
-fieldsBelow r (GOIF a b c v) = ltb a r && ltb b r
-fieldsBelow r (GOX d a b c) = ltb d r && ltb a r && ltb b r
-fieldsBelow r (EVENT e) = true
-
--- what the checker passes where r is the hidden register and the guest's are those below it: `is` are the instructions of the bundles
-pub record PassesWith (r : ℕ) (lay : Layout) (ws : List ℕ) (N : ℕ) (is : ℕ → Instr) : Type 0 where
-  pub layout : rightLayout lay ≡ true
-  pub count : countRight (length ws) ≡ true
-  pub base : baseRight lay N ≡ true
-  pub fields : (h : ℕ) → h < N → (valid N (is h) && fieldsBelow r (is h)) ≡ true
-  pub words : (h p : ℕ) → h < N → p < bundleLength → getD ws (bundleLength * h + p) 0 ≡ wordOf (shapeWith r lay N (is h) p)
-  pub last : is (N - 1) ≡ HALT
-
--- `passes` and `passed`: the checker is that of register 15;
--- `refused`: 'the checker refuses lists written before, with 11, whenever they hold a LOAD, STORE, GOX or EVENT bundle', unless 7, 12 or 13 comes first:
---     for all fields and at every place; the bundle's first command is enough;
--- `kept` and `before`: a list without one passes exactly where it passed before, if its register fields are below 8
-pub record BeforeLaws (lay : Layout) (ws : List ℕ) (N : ℕ) : Type 0 where
-  pub passes : (is : ℕ → Instr) → PassesWith hidden lay ws N is → checkAnswer lay ws ≡ answer 0 0
-  pub passed : checkAnswer lay ws .number ≡ 0 → PassesWith hidden lay ws N (bundleAt lay ws)
-  pub refused :
-      (h : ℕ) (i : Instr) → h < N → namesHidden i ≡ true → getD ws (bundleLength * h) 0 ≡ wordOf (shapeWith hiddenBefore lay N i 0) →
-      let x = checkAnswer lay ws .number in
-      (x ≡ numberOf BadLayout → ⊥) → (x ≡ numberOf BadCount → ⊥) → (x ≡ numberOf BadBase → ⊥) → x ≡ numberOf BadBundle
-  pub kept :
-      (is : ℕ → Instr) → ((h : ℕ) → h < N → namesHidden (is h) ≡ false) → PassesWith hiddenBefore lay ws N is → checkAnswer lay ws ≡ answer 0 0
-  pub before :
-      ((h : ℕ) → h < N → (namesHidden (bundleAt lay ws h) ≡ false) × (fieldsBelow hiddenBefore (bundleAt lay ws h) ≡ true)) →
-      checkAnswer lay ws .number ≡ 0 → PassesWith hiddenBefore lay ws N (bundleAt lay ws)
-
-abbrev pub ListsBefore : Type 0
-ListsBefore = (lay : Layout) (ws : List ℕ) → BeforeLaws lay ws (length ws / bundleLength)
 
 -- ---- endings
 
@@ -362,9 +284,9 @@ Limited lay p = p .event < orders → p .value ≤ getD (lay .ceilings) (p .even
 abbrev pub Ceilings : Type 0
 Ceilings = (lay : Layout) (ws : List ℕ) (c : Carried) (gs : List Given) → Every (Limited lay) (recordedIn (runsOf lay ws c gs))
 
--- a run does not answer 22
+-- a run does not answer 22, fault
 abbrev pub Sound : Run → Type 0
-Sound r = endingNumber (r .ran .outcome .answer .ending) ≡ 22 → ⊥
+Sound r = endingNumber (r .ran .outcome .answer .ending) ≡ endingNumber Fault → ⊥
 
 -- a run leaves its memory's length and every cell outside the sandbox but the state cell as it found them; the pairs that it counts
 -- are in its log, the readings among those it was given; beyond the counted pairs a log is as it was found
@@ -410,29 +332,6 @@ pub record Isolated (lay : Layout) (pol : Policy) (ws mem : List ℕ) (gs : List
 abbrev pub Isolation : Type 0
 Isolation = (lay : Layout) (pol : Policy) (ws mem : List ℕ) (gs : List Given) → Served lay pol ws mem gs → Isolated lay pol ws mem gs
 
--- ---- loading
-
--- what is carried into the first run after a load
-abbrev pub loadedAt : Layout → Policy → List ℕ → ℕ → List ℕ → Carried
-loadedAt lay pol bytes room mem = carriedOf (loadMachine lay pol bytes room mem) (loadMemory lay pol bytes room mem) [] [] 0
-
--- what a load that answers 0 leaves is on demand 3's premise: its commands, the first that the answer counts, are those that the rewriter gives
--- and the checker passes; record and memory are an installation's. So every list of runs from there is isolated, if each is lent what the load
--- or the last run left
-pub record Loaded (lay : Layout) (pol : Policy) (bytes out mem ws : List ℕ) : Type 0 where
-  pub rewritten : rewriteAnswer lay (wordsIn bytes) (length out) .number ≡ 0
-  pub commands : ws ≡ commandsOf lay (wordsIn bytes)
-  pub passed : checkAnswer lay ws .number ≡ 0
-  pub installed : installAnswer lay pol mem .number ≡ 0
-  pub first : loadedAt lay pol bytes (length out) mem ≡ atFirst lay pol mem
-  pub isolated : (gs : List Given) → Lends lay ws (loadedAt lay pol bytes (length out) mem) gs → Isolated lay pol ws mem gs
-
-abbrev pub Loads : Type 0
-Loads =
-    (lay : Layout) (pol : Policy) (bytes out mem : List ℕ) →
-    let a = loadAnswer lay pol bytes (length out) mem in
-    a .number ≡ 0 → Loaded lay pol bytes out mem (take (a .place) (loadCommands lay pol bytes out mem))
-
 -- ---- the pc
 
 -- 'The pc wraps at 2^32, which a passed routine, on demand 3's premise, never does': it stays in the list, which ends at 2^32 or before it,
@@ -461,7 +360,7 @@ pub record CellLaws (lay : Layout) (pol : Policy) (ws : List ℕ) (c : Carried) 
 abbrev pub OnlySpent : Layout → List ℕ → Run → Type 0
 OnlySpent lay ws r =
     (r .ran .outcome .answer .ending ≡ Refused → ⊥) → (pendingAt lay ws (r .ran .outcome .machine) ≡ [] → ⊥) →
-    endingNumber (r .ran .outcome .answer .ending) ≡ 25
+    endingNumber (r .ran .outcome .answer .ending) ≡ endingNumber Spent
 
 -- at every moment, those of pauses too: a list of runs may end anywhere
 abbrev pub StateCell : Type 0

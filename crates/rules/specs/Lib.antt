@@ -1,3 +1,4 @@
+pub mod Types
 pub mod Names
 pub mod Signed
 pub mod Layouts
@@ -10,6 +11,5 @@ pub mod Bundles
 pub mod Machines
 pub mod Guests
 pub mod Runs
-pub mod Loading
 pub mod Claims
 pub mod Proved

@@ -1,10 +1,10 @@
 -- Policies: a start state and a table of 16 bytes a state.
-use Prim.Native.Nat.{ℕ, zero, suc, _+_, _*_, _/_, _%_}
+use Prim.Native.Nat.{ℕ, _+_, _*_}
 use mathlib.Core.Bool.{Bool, true, _&&_, _||_, not, cond}
 use mathlib.Core.List.{List, [], _∷_}
 use lib.ListN.{length, getD}
 use lib.Dec.{eqb, leb, ltb}
-use Rattle.rules.specs.declared.Layout.{Layout}
+use Rattle.rules.specs.Types.{Layout}
 use Rattle.rules.specs.Names.{mostStates, events, noArrow}
 
 -- what is installed: the state count, the start state and the table of a policy, and the list of landings
@@ -47,20 +47,9 @@ abbrev pub entriesRight : ℕ → List ℕ → Bool
 entriesRight s [] = true
 entriesRight s (b ∷ bs) = entryRight s b && entriesRight s bs
 
--- the n lowest bytes of a number, low first, and the four of a 32-bit word
-abbrev pub lowBytes : ℕ → ℕ → List ℕ
-lowBytes zero w = []
-lowBytes (suc n) w = w % 256 ∷ lowBytes n (w / 256)
-
-abbrev pub wordBytes : ℕ
-wordBytes = 4
-
--- request 3's test of one word: 'yes exactly when S is from 1 to 16 and each of the word's four bytes is below S or 255'
+-- S is from 1 to 16
 abbrev pub statesRight : ℕ → Bool
 statesRight s = leb 1 s && leb s mostStates
-
-unfoldable pub wordRight : ℕ → ℕ → Bool
-wordRight s w = statesRight s && entriesRight s (lowBytes wordBytes w)
 
 -- what 10 does not refuse: 'S not the layout's, length not 16 × S, start not below S, or a byte neither below S nor 255'
 unfoldable pub rightPolicy : Layout → Policy → Bool

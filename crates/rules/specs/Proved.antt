@@ -1,5 +1,5 @@
 -- Every claim of this crate, a field each: its one term is `proved`, in proofs/Proved.antt.
-use Rattle.rules.specs.Claims.{Masks, Landings, Installs, Sizes, Signs, WordsBack, BytesBack, RewriteLeaves, RewrittenPasses, PassedRewrites, Shapes, Checks, OldRefused, PassedDecodes, ListsBefore, Endings, Splits, Cuts, GuestRule, Resumes, Progress, Recorded, Ceilings, Isolation, Loads, NoWrap, StateCell, PausedWaits, PauseRule}
+use Rattle.rules.specs.Claims.{Masks, Landings, Installs, Sizes, Signs, WordsBack, BytesBack, RewriteLeaves, RewrittenPasses, PassedRewrites, Shapes, Checks, PassedDecodes, Endings, Splits, Cuts, GuestRule, Resumes, Progress, Recorded, Ceilings, Isolation, NoWrap, StateCell, PausedWaits, PauseRule}
 
 pub record Proved : Type 0 where
   pub masks : Masks
@@ -14,9 +14,7 @@ pub record Proved : Type 0 where
   pub passedRewrites : PassedRewrites
   pub shapes : Shapes
   pub checks : Checks
-  pub oldRefused : OldRefused
   pub passedDecodes : PassedDecodes
-  pub listsBefore : ListsBefore
   pub endings : Endings
   pub splits : Splits
   pub cuts : Cuts
@@ -26,7 +24,6 @@ pub record Proved : Type 0 where
   pub recorded : Recorded
   pub ceilings : Ceilings
   pub isolation : Isolation
-  pub loads : Loads
   pub noWrap : NoWrap
   pub stateCell : StateCell
   pub pausedWaits : PausedWaits

@@ -15,7 +15,7 @@ use Rattle.rules.specs.Policies.{Policy}
 use Rattle.rules.specs.Bytes.{wordsIn, readAnswer}
 use Rattle.rules.specs.Bundles.{commandsOf, commandCount, rewriteAnswer, checkAnswer}
 use Rattle.rules.specs.Machines.{machineRefused, installAnswer, installMemory, installMachine, installOf}
-use Rattle.rules.specs.Loading.{loadAnswer, loadCommands, loadMemory, loadMachine, loadOf}
+use Rattle.sandbox_rules.specs.Loading.{loadAnswer, loadCommands, loadMemory, loadMachine, loadOf}
 use Rattle.sandbox_translating.specs.Translating.{translateAnswer, Listed}
 use Rattle.rules.proofs.Refusals.{else-next, else-kept}
 use Rattle.sandbox_translating.proofs.Elses.{else-three, else-twice}

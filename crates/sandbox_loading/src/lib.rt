@@ -12,7 +12,7 @@ ghost use mathlib.Core.Path.{_≡_};
 ghost use mathlib.Core.List.{_++_};
 ghost use lib.ListN.{length, drop};
 ghost use Rattle.rules.specs.Policies.{policyOf};
-ghost use Rattle.rules.specs.Loading.{loadOf, loadCommands, loadMemory};
+ghost use Rattle.sandbox_rules.specs.Loading.{loadOf, loadCommands, loadMemory};
 
 // Copies all of `from` to the start of `to`.
 fn copy(from: &[u64], to: &mut [u64])

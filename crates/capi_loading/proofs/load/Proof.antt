@@ -1,7 +1,7 @@
 use mathlib.Core.Path.{ap}
 use Rattle.rules.specs.declared.Installed.{Installed}
 use lib.Dec.{lit<}
-use Rattle.rules.proofs.Counts.{load-bound}
+use Rattle.sandbox_rules.proofs.Loading.{load-bound}
 use Rattle.capi_answers.proofs.Places.{narrow}
 use Rattle.capi_loading.proofs.Hosting.{loaded}
 use borrow.Author.Needs.{needs}

@@ -2,7 +2,7 @@ use Prim.Native.Nat.{_*_, _/_}
 use denote.Ref.{now}
 use borrow.Author.Needs.{needs}
 use lib.ListN.{length}
-use Rattle.rules.specs.Policies.{wordBytes}
+use Rattle.installer_words.specs.Words.{wordBytes}
 use Rattle.installer_words.proofs.Words.{fit}
 use Rattle.installer_tables.proofs.Tables.{parts}
 use Rattle.installer_tables.proofs.entries_right.Statement.{statement}

@@ -3,7 +3,8 @@ use mathlib.Core.Path.{_≡_, refl}
 use denote.Ref.{now}
 use borrow.Author.Needs.{needs}
 use lib.ListN.{take}
-use Rattle.rules.specs.Policies.{entriesRight, wordBytes}
+use Rattle.rules.specs.Policies.{entriesRight}
+use Rattle.installer_words.specs.Words.{wordBytes}
 use Rattle.installer_tables.proofs.Tables.{word-more, words-done}
 use Rattle.installer_tables.proofs.words_right.Statement.{statement}
 use Rattle.installer_tables.proofs.words_right.Tie as tie

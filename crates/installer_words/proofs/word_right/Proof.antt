@@ -2,7 +2,7 @@ use mathlib.Core.Path.{refl}
 use borrow.Author.Needs.{needs}
 use native.Mathlib.Omega.{arith}
 use lib.Bits.{and-le-r}
-use Rattle.rules.specs.Policies.{wordBytes}
+use Rattle.installer_words.specs.Words.{wordBytes}
 use Rattle.installer_words.proofs.Words.{fit, unfit, fill, together}
 use Rattle.installer_words.proofs.word_right.Statement.{statement}
 use Rattle.installer_words.proofs.word_right.Tie as tie

@@ -1,22 +1,24 @@
--- What a load that answers 0 leaves is on demand 3's premise.
+-- What a load that answers 0 leaves is on demand 3's premise; and how far a load's answer goes.
 use mathlib.Core.Path.{_≡_, refl, sym, _∙_, ap, subst}
 use mathlib.Core.List.{List}
 use Prim.Native.Nat.{ℕ}
+use native.Mathlib.Omega.{arith}
 use borrow.Author.Tests.{eq-eqb}
+use lib.Dec.{lit<}
 use lib.ListN.{length, take}
 use Rattle.rules.specs.declared.Layout.{Layout}
 use Rattle.rules.specs.declared.Answer.{Answer}
-use Rattle.rules.specs.Names.{mostInstructions, answer}
+use Rattle.rules.specs.Names.{mostInstructions, mostCommands, answer}
 use Rattle.rules.specs.Policies.{Policy}
 use Rattle.rules.specs.Bytes.{wordsIn, readAnswer}
 use Rattle.rules.specs.Bundles.{commandsOf, commandCount, rewriteAnswer, checkAnswer}
 use Rattle.rules.specs.Machines.{installAnswer}
-use Rattle.rules.specs.Loading.{loadAnswer, loadCommands, loadMemory, loadMachine}
 use Rattle.rules.specs.Runs.{Carried, atFirst, Lends}
-use Rattle.rules.specs.Claims.{loadedAt, Loads}
 use Rattle.rules.proofs.Refusals.{else-next, else-none, output-start}
-use Rattle.rules.proofs.Counts.{length-commands}
+use Rattle.rules.proofs.Counts.{Bounded, or-else, read-bound, rewrite-bound, rewrite-taken, check-bound, install-bound, length-commands}
 use Rattle.rules.proofs.Isolation.{isolation}
+use Rattle.sandbox_rules.specs.Loading.{loadAnswer, loadCommands, loadMemory, loadMachine}
+use Rattle.sandbox_rules.specs.Claims.{loadedAt, Loads}
 
 module _ (lay : Layout) (pol : Policy) (bytes : List ℕ) (room : ℕ) (mem : List ℕ) (z : loadAnswer lay pol bytes room mem .number ≡ 0) where
   -- no part refuses
@@ -68,3 +70,16 @@ loads lay pol bytes out mem z =
           λ gs l.
           isolation lay pol ws mem gs (record { passed = passed; installed = p .installed; lends = subst (λ (x : Carried). Lends lay ws x gs) f l });
     }
+
+-- the number fits a byte, and the place is at most the commands that there can be
+pub load-bound : (lay : Layout) (pol : Policy) (s : List ℕ) (room : ℕ) (mem : List ℕ) → Bounded mostCommands room (loadAnswer lay pol s room mem)
+unfolding loadAnswer
+load-bound lay pol s room mem =
+    let ws = wordsIn s in
+    let b = rewrite-bound lay ws room in
+    or-else _ _ (readAnswer s mostInstructions) _ (read-bound s _ .number) (omega (arith, read-bound s mostInstructions .place))
+    (λ _. or-else _ _ (rewriteAnswer lay ws room) _ (b .number) (b .place)
+    (λ z. let e : commandCount (length ws) ≡ rewriteAnswer lay ws room .place = ap (λ (x : Answer). x .place) (sym (rewrite-taken lay ws room z)) in
+    or-else _ _ (checkAnswer lay (commandsOf lay ws)) _ (check-bound lay _ .number) (omega (arith, check-bound lay (commandsOf lay ws) .place))
+    (λ _. or-else _ _ (installAnswer lay pol mem) _ (install-bound lay pol mem .number) (omega (arith, install-bound lay pol mem .place))
+    (λ _. record { number = lit< tt; place = omega (arith, b .place); taken = λ _. omega (arith, b .taken z) }))))

@@ -7,21 +7,21 @@ use native.Mathlib.Omega.{arith}
 use borrow.Author.Tests.{lt-ltb, ne-eqb}
 use lib.Dec.{eqb, lit<}
 use lib.ListN.{length, getD}
 use Rattle.rules.specs.declared.Layout.{Layout}
 use Rattle.rules.specs.declared.Answer.{Answer}
 use Rattle.rules.specs.declared.Instr.{Instr}
 use Rattle.rules.specs.declared.Instr.the-variants.{HALT, PLAIN, LOAD, STORE, GOIF, GOX, EVENT}
 use Rattle.rules.specs.declared.Refusal.the-variants.{BadLayout, BadBundle, BadCount, BadBase}
 use Rattle.rules.specs.Names.{bundleLength, hidden, numberOf, answer}
 use Rattle.rules.specs.Layouts.{rightLayout}
 use Rattle.rules.specs.Words.{kindOf, dOf, packOf}
 use Rattle.rules.specs.Commands.{wordOf}
 use Rattle.rules.specs.Bundles.{shapeWith, shapeOf, valid, bundleAt, baseRight, passesAt, checkFrom, countRight, checkAnswer}
-use Rattle.rules.specs.Claims.{hiddenBefore, namesHidden, fieldsBelow, PassesWith, ListsBefore}
 use Rattle.rules.proofs.Facts.{Valid}
 use Rattle.rules.proofs.Bools.{no, both, join, cond-ind, unless-ind}
 use Rattle.rules.proofs.Conditions.{counted, passed-of, passed-count, passed-valid, passed-word, passed-last, valid-is}
 use Rattle.rules.proofs.Passing.{is-valid, bundle-passes, check-taken}
+use Rattle.changes.specs.Claims.{hiddenBefore, namesHidden, fieldsBelow, PassesWith, ListsBefore}
 
 -- ---- the first command of a bundle
 

@@ -1,0 +1,4 @@
+pub mod Pauses
+pub mod Before
+pub mod OldOrder
+pub mod Proved

@@ -1,0 +1,8 @@
+-- Every claim of this crate is proved.
+use Rattle.changes.specs.Proved.{Proved}
+use Rattle.changes.proofs.Pauses.{silent-first}
+use Rattle.changes.proofs.Before.{lists-before}
+use Rattle.changes.proofs.OldOrder.{old-refused}
+
+pub proved : Proved
+proved = record { silentFirst = silent-first; listsBefore = lists-before; oldRefused = old-refused }

@@ -1,0 +1,109 @@
+-- What the change requests changed of answers given before them: what is claimed, and what was before.
+use Prim.Native.Nat.{ℕ, _+_, _-_, _*_, _/_, _<_, _≤_}
+use mathlib.Core.Path.{_≡_}
+use mathlib.Core.Bool.{Bool, true, false, _&&_, cond}
+use mathlib.Core.List.{List, [], _∷_}
+use lib.ListN.{length, getD, take, drop}
+use lib.Dec.{eqb, ltb}
+use Rattle.rules.specs.declared.Layout.{Layout}
+use Rattle.rules.specs.declared.Instr.{Instr}
+use Rattle.rules.specs.declared.Instr.the-variants.{HALT, PLAIN, LOAD, STORE, GOIF, GOX, EVENT}
+use Rattle.rules.specs.declared.Command.the-variants.{Look, StopIf, Keep, Event}
+use Rattle.rules.specs.declared.Effect.{Effect}
+use Rattle.rules.specs.declared.Effect.the-variants.{Order, Probe, Wait}
+use Rattle.rules.specs.declared.Ending.the-variants.{LogFull, Silent}
+use Rattle.rules.specs.declared.Refusal.the-variants.{BadLayout, BadBundle, BadCount, BadBase}
+use Rattle.rules.specs.Names.{orders, bundleLength, hidden, numberOf, answer}
+use Rattle.rules.specs.Layouts.{rightLayout}
+use Rattle.rules.specs.Commands.{wordOf}
+use Rattle.rules.specs.Bundles.{shapeWith, valid, bundleAt, baseRight, countRight, checkAnswer}
+use Rattle.rules.specs.Machines.{View, ifRoom, effectOf}
+
+-- ---- [4]: which pause comes first
+
+-- what EVENT v did before, by the free log cells and the readings left: a full log was reported first
+abbrev pub eventBefore : ℕ → ℕ → ℕ → Effect
+eventBefore v free left = ifRoom free (cond (ltb v orders) (Order v) (cond (eqb left 0) (Wait Silent) (Probe v)))
+
+-- 'a reading event with no readings left and fewer than two free log cells'
+abbrev pub BothPause : ℕ → View → Type 0
+BothPause v s = (orders ≤ v) × (s .left ≡ 0) × (s .free < 2)
+
+-- 'The one old answer that changes is' that event: 'it gave 23 and gives 24'; any other does what it did
+pub record PauseLaws (v : ℕ) (s : View) : Type 0 where
+  pub gave : BothPause v s → eventBefore v (s .free) (s .left) ≡ Wait LogFull
+  pub gives : BothPause v s → effectOf (Event v) s ≡ Wait Silent
+  pub same : (BothPause v s → ⊥) → effectOf (Event v) s ≡ eventBefore v (s .free) (s .left)
+
+abbrev pub SilentFirst : Type 0
+SilentFirst = (v : ℕ) (s : View) → PauseLaws v s
+
+-- ---- [6]: lists written when register 8 was the hidden one
+
+abbrev pub hiddenBefore : ℕ
+hiddenBefore = 8
+
+-- LOAD, STORE, GOX and EVENT: their shapes name the hidden register
+abbrev pub namesHidden : Instr → Bool
+namesHidden HALT = false
+namesHidden (PLAIN k d a b v) = false
+namesHidden (LOAD d a) = true
+namesHidden (STORE a b) = true
+namesHidden (GOIF a b c v) = false
+namesHidden (GOX d a b c) = true
+namesHidden (EVENT e) = true
+
+-- every register field of an instruction is below r
+abbrev pub fieldsBelow : ℕ → Instr → Bool
+fieldsBelow r HALT = true
+fieldsBelow r (PLAIN k d a b v) = ltb d r && ltb a r && ltb b r
+fieldsBelow r (LOAD d a) = ltb d r && ltb a r
+fieldsBelow r (STORE a b) = ltb a r && ltb b r
+fieldsBelow r (GOIF a b c v) = ltb a r && ltb b r
+fieldsBelow r (GOX d a b c) = ltb d r && ltb a r && ltb b r
+fieldsBelow r (EVENT e) = true
+
+-- what the checker passes where r is the hidden register and the guest's are those below it: `is` are the instructions of the bundles
+pub record PassesWith (r : ℕ) (lay : Layout) (ws : List ℕ) (N : ℕ) (is : ℕ → Instr) : Type 0 where
+  pub layout : rightLayout lay ≡ true
+  pub count : countRight (length ws) ≡ true
+  pub base : baseRight lay N ≡ true
+  pub fields : (h : ℕ) → h < N → (valid N (is h) && fieldsBelow r (is h)) ≡ true
+  pub words : (h p : ℕ) → h < N → p < bundleLength → getD ws (bundleLength * h + p) 0 ≡ wordOf (shapeWith r lay N (is h) p)
+  pub last : is (N - 1) ≡ HALT
+
+-- `passes` and `passed`: the checker is that of register 15;
+-- `refused`: 'the checker refuses lists written before, with 11, whenever they hold a LOAD, STORE, GOX or EVENT bundle', unless 7, 12 or 13 comes first:
+--     for all fields and at every place; the bundle's first command is enough;
+-- `kept` and `before`: a list without one passes exactly where it passed before, if its register fields are below 8
+pub record BeforeLaws (lay : Layout) (ws : List ℕ) (N : ℕ) : Type 0 where
+  pub passes : (is : ℕ → Instr) → PassesWith hidden lay ws N is → checkAnswer lay ws ≡ answer 0 0
+  pub passed : checkAnswer lay ws .number ≡ 0 → PassesWith hidden lay ws N (bundleAt lay ws)
+  pub refused :
+      (h : ℕ) (i : Instr) → h < N → namesHidden i ≡ true → getD ws (bundleLength * h) 0 ≡ wordOf (shapeWith hiddenBefore lay N i 0) →
+      let x = checkAnswer lay ws .number in
+      (x ≡ numberOf BadLayout → ⊥) → (x ≡ numberOf BadCount → ⊥) → (x ≡ numberOf BadBase → ⊥) → x ≡ numberOf BadBundle
+  pub kept :
+      (is : ℕ → Instr) → ((h : ℕ) → h < N → namesHidden (is h) ≡ false) → PassesWith hiddenBefore lay ws N is → checkAnswer lay ws ≡ answer 0 0
+  pub before :
+      ((h : ℕ) → h < N → (namesHidden (bundleAt lay ws h) ≡ false) × (fieldsBelow hiddenBefore (bundleAt lay ws h) ≡ true)) →
+      checkAnswer lay ws .number ≡ 0 → PassesWith hiddenBefore lay ws N (bundleAt lay ws)
+
+abbrev pub ListsBefore : Type 0
+ListsBefore = (lay : Layout) (ws : List ℕ) → BeforeLaws lay ws (length ws / bundleLength)
+
+-- ---- [12]: lists whose events stand in the old order
+
+-- the words of an event's bundle in the order that [12] gave up, LOOK, STOPIF, KEEP, EVENT, with register r for the hidden one
+abbrev pub oldEvent : ℕ → ℕ → List ℕ
+oldEvent r e = wordOf (Look r e) ∷ wordOf (StopIf r) ∷ wordOf (Keep r) ∷ wordOf (Event e) ∷ []
+
+-- 'Lists in the old order that contain an event are refused with 11', wherever it stands and whichever it is, if not with 7, 12 or 13;
+-- no later bundle is named
+abbrev pub OldRefused : Type 0
+OldRefused =
+    (lay : Layout) (ws : List ℕ) (h r e : ℕ) →
+    let N = length ws / bundleLength in
+    rightLayout lay ≡ true → countRight (length ws) ≡ true → baseRight lay N ≡ true →
+    h < N → take bundleLength (drop (bundleLength * h) ws) ≡ oldEvent r e →
+    (checkAnswer lay ws .number ≡ numberOf BadBundle) × (checkAnswer lay ws .place ≤ h)

@@ -1,0 +1,7 @@
+-- Every claim of this crate, a field each: its one term is `proved`, in proofs/Proved.antt.
+use Rattle.changes.specs.Claims.{SilentFirst, ListsBefore, OldRefused}
+
+pub record Proved : Type 0 where
+  pub silentFirst : SilentFirst
+  pub listsBefore : ListsBefore
+  pub oldRefused : OldRefused

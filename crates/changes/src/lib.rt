@@ -1,0 +1,1 @@
+// What the change requests changed of answers given before them. Definitions and claims in specs/; no code.
