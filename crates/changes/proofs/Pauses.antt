@@ -2,6 +2,7 @@
 use mathlib.Core.Path.{_≡_, refl}
 use mathlib.Core.Bool.{Bool, true, false}
 use Prim.Native.Nat.{ℕ}
+use native.Mathlib.Omega.{arith}
 use borrow.Author.Tests.{ltb-true, ltb-false, eqb-true, lt-ltb, le-ltb, eq-eqb}
 use lib.Dec.{eqb, ltb}
 use Rattle.rules.specs.declared.Command.the-variants.{Event}
@@ -14,7 +15,7 @@ same-by : (v : ℕ) (s : View) (a b c : Bool) → ltb v orders ≡ a → eqb (s 
 unfolding effectOf
 same-by v s true b true e f g n = rw (e, g)
 same-by v s true b false e f g n = rw (e, g)
-same-by v s false true true e f g n = absurd (n (ltb-false v orders e, eqb-true (s .left) 0 f, ltb-true (s .free) 2 g))
+same-by v s false true true e f g n = absurd (n (ltb-false v orders e, eqb-true (s .left) 0 f, omega (arith, ltb-true (s .free) 2 g)))
 same-by v s false true false e f g n = rw (e, f, g)
 same-by v s false false true e f g n = rw (e, f, g)
 same-by v s false false false e f g n = rw (e, f, g)

@@ -1,3 +1,4 @@
 pub mod Tray
 pub mod Samples
+pub mod Trial
 pub mod Proved

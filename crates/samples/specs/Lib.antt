@@ -1,3 +1,4 @@
 pub mod Tray
 pub mod Sample
+pub mod Trial
 pub mod Proved

@@ -1,7 +1,9 @@
 -- Every claim of this crate, a field each: its one term is `proved`, in proofs/Proved.antt.
 use Rattle.samples.specs.Tray.{TrayHolds}
 use Rattle.samples.specs.Sample.{SampleHolds}
+use Rattle.samples.specs.Trial.{TrialHolds}
 
 pub record Proved : Type 0 where
   pub trayHolds : TrayHolds
   pub sampleHolds : SampleHolds
+  pub trialHolds : TrialHolds

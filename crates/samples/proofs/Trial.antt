@@ -1,0 +1,28 @@
+-- The trial's output, by computation.
+use mathlib.Core.Path.{_≡_, refl}
+use lib.Count.{ones, leadingZeros}
+use Rattle.rules.specs.Names.{mostCommands, answer}
+use Rattle.rules.specs.Layouts.{rightLayout}
+use Rattle.rules.specs.Policies.{rightPolicy}
+use Rattle.rules.specs.Landings.{rightLandings, landingsOf}
+use Rattle.rules.specs.Words.{judgeOf, judgeAt, firstRefused, instrOf, routine, bundlesFor}
+use Rattle.rules.specs.Bytes.{byteAt, quadAt, fieldsAt, oneFields, oneMap, oneOf, scanOf, wordsOf, readAnswer}
+use Rattle.rules.specs.Commands.{isCommand, commandOf, wordOf, fetchOf, plainOf}
+use Rattle.rules.specs.Bundles.{shapeOf, placeAnswer, rewriteAnswer, valid, readOff, bundleAt, isBundle, shapedAt, passesAt, checkFrom, checkAnswer}
+use Rattle.rules.specs.Machines.{installAnswer, installMemory, installMachine, effectOf, applyOf, runFrom, runOf}
+use Rattle.rules.specs.Runs.{runOn}
+use Rattle.sandbox_rules.specs.Loading.{loadAnswer, loadCommands, loadMemory, loadMachine}
+use Rattle.samples.specs.Sample.{layout}
+use Rattle.samples.specs.Trial.{policy, input, memory, TrialHolds}
+
+pub trial-holds : TrialHolds
+unfolding ones leadingZeros rightLayout rightPolicy rightLandings landingsOf judgeOf judgeAt firstRefused instrOf routine bundlesFor byteAt quadAt fieldsAt oneFields oneMap oneOf scanOf wordsOf readAnswer isCommand commandOf wordOf fetchOf plainOf shapeOf placeAnswer rewriteAnswer valid readOff bundleAt isBundle shapedAt passesAt checkFrom checkAnswer installAnswer installMemory installMachine effectOf applyOf runFrom runOf runOn loadAnswer loadCommands loadMemory loadMachine
+trial-holds =
+    record {
+      answers = refl;
+      events = refl;
+      ending = refl;
+      steps = refl;
+      state = refl;
+      lends = (λ l i s. refl, tt);
+    }

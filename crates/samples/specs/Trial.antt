@@ -1,0 +1,58 @@
+-- The program `trial` of document 01 on its sample input: 'so its output remains'.
+use Prim.Native.Nat.{ℕ, zero, suc}
+use mathlib.Core.Path.{_≡_}
+use mathlib.Core.List.{List, [], _∷_}
+use lib.ListN.{getD, take, replicate}
+use Rattle.rules.specs.Names.{mostBundles, mostCommands, answer, endingNumber}
+use Rattle.rules.specs.Policies.{Policy, policyOf}
+use Rattle.rules.specs.Machines.{Ran}
+use Rattle.rules.specs.Guests.{pairOf}
+use Rattle.rules.specs.Runs.{Given, pairsOf, Lends, runOn}
+use Rattle.sandbox_rules.specs.Loading.{loadAnswer, loadCommands, loadMemory}
+use Rattle.sandbox_rules.specs.Claims.{loadedAt}
+use Rattle.samples.specs.Sample.{layout, policy as samplePolicy}
+
+-- the numbers from x on, n of them
+abbrev pub numbersFrom : ℕ → ℕ → List ℕ
+numbersFrom x zero = []
+numbersFrom x (suc n) = x ∷ numbersFrom (suc x) n
+
+-- 'row 0 stays in 0 but event 2 (door) goes to 1; row 1 stays in 1 but has no arrow for event 0 (gas)'; 'lists all 1,024 landings'
+abbrev pub policy : Policy
+policy = policyOf 2 0 (samplePolicy .table) (numbersFrom 0 mostBundles)
+
+-- 'Input, hexadecimal'
+abbrev pub input : List ℕ
+input =
+    0x04 ∷ 0x00 ∷ 0x21 ∷ 0x01 ∷ 0x46 ∷ 0x00 ∷ 0x00 ∷ 0x00 ∷ 0x01 ∷ 0x0C ∷ 0x21 ∷ 0x0C ∷ 0x02 ∷ 0x00 ∷ 0x00 ∷ 0x00 ∷ 0x01 ∷ 0x0C ∷ []
+
+-- 'all cells 0 at first'
+abbrev pub memory : List ℕ
+memory = replicate 1024 0
+
+-- what loading leaves of a list that has room for the most commands
+abbrev pub commands : List ℕ
+commands =
+    take (loadAnswer layout policy input mostCommands memory .place) (loadCommands layout policy input (replicate mostCommands 0) memory)
+
+-- 'readings 1800, 1950, 2100; log 64 cells; budget 1,000'
+abbrev pub given : Given
+given =
+    record {
+      memory = loadMemory layout policy input mostCommands memory;
+      budget = 1000;
+      readings = 1800 ∷ 1950 ∷ 2100 ∷ [];
+      log = replicate 64 0;
+    }
+
+abbrev pub ran : Ran
+ran = runOn layout commands (loadedAt layout policy input mostCommands memory) given
+
+-- what it prints: 'answer 0; event 0 70; event 2 70; end 21 steps 14 state 1'; and the run is on the premises of Loads
+pub record TrialHolds : Type 0 where
+  pub answers : loadAnswer layout policy input mostCommands memory ≡ answer 0 32
+  pub events : pairsOf (ran .log) (ran .outcome .answer .pairs) ≡ pairOf 0 70 ∷ pairOf 2 70 ∷ []
+  pub ending : endingNumber (ran .outcome .answer .ending) ≡ 21
+  pub steps : ran .outcome .answer .steps ≡ 14
+  pub state : getD (ran .mem) (layout .cell) 0 ≡ 1
+  pub lends : Lends layout commands (loadedAt layout policy input mostCommands memory) (given ∷ [])
