@@ -1,9 +1,5 @@
 -- A routine's bytes: what reading and writing answer and leave.
-use Prim.Native.Nat.{ℕ, zero, suc, _+_, _*_, _/_, _%_, min}
-use mathlib.Core.Bool.{not, cond}
-use mathlib.Core.List.{List, [], _∷_, _++_}
-use lib.ListN.{length, getD, drop}
-use lib.Dec.{ltb, eqb}
+use Rattle.rules.specs.Kit.{ℕ, zero, suc, _+_, _*_, _/_, _%_, min, not, cond, List, [], _∷_, _++_, length, getD, drop, ltb, eqb}
 use Rattle.rules.specs.Types.{Fields, Answer, One, Word, Bad, Taken, Short, Foreign, Oversize, Trailing, SmallOutput}
 use Rattle.rules.specs.Names.{mostInstructions, numberOf, answer, refusal, outputOf, roomFor, first}
 use Rattle.rules.specs.Words.{judgeOf, judgeWord, firstRefused, fieldsOf, packFields}

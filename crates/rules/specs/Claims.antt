@@ -1,14 +1,5 @@
 -- What is claimed of the definitions. Each claim is a type; its proof has the claim's name in small letters, in proofs/.
-use Prim.Native.Nat.{ℕ, suc, _+_, _-_, _*_, _/_, _%_, _^_, _<_, _≤_}
-use mathlib.Core.Path.{_≡_}
-use mathlib.Core.Bool.{true, false}
-use mathlib.Core.Logic.{_⊎_}
-use mathlib.Core.List.{List, [], _∷_, _++_}
-use lib.ListN.{length, getD, take, drop}
-use lib.Count.{ones}
-use lib.IntN.{pos, sucℤ, _*ℤ_}
-use lib.Signed.{_≤ℤ_, _<ℤ_}
-use lib.Dec.{ltb}
+use Rattle.rules.specs.Kit.{ℕ, suc, _+_, _-_, _*_, _/_, _%_, _^_, _<_, _≤_, _≡_, true, false, _⊎_, List, [], _∷_, _++_, length, getD, take, drop, ones, pos, sucℤ, _*ℤ_, _≤ℤ_, _<ℤ_, ltb}
 use Rattle.rules.specs.Types.{Layout, Instr, HALT, EVENT, Machine, Status, Running, Ended, Stopped, Faulted, Strayed, Ending, Done, NoArrow, Fault, LogFull, Silent, Spent, NoLanding, Refused, BadLayout}
 use Rattle.rules.specs.Names.{events, orders, noArrow, mostInstructions, mostBundles, bundleLength, bundleShift, landingCells, cellBits, guestRegisters, numberOf, answer, endingNumber}
 use Rattle.rules.specs.Signed.{twos, sarOf, lessOf}

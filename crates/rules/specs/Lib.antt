@@ -1,3 +1,4 @@
+pub mod Kit
 pub mod Types
 pub mod Names
 pub mod Signed

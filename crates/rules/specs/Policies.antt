@@ -1,9 +1,5 @@
 -- Policies: a start state and a table of 16 bytes a state.
-use Prim.Native.Nat.{ℕ, _+_, _*_}
-use mathlib.Core.Bool.{Bool, true, _&&_, _||_, not, cond}
-use mathlib.Core.List.{List, [], _∷_}
-use lib.ListN.{length, getD}
-use lib.Dec.{eqb, leb, ltb}
+use Rattle.rules.specs.Kit.{ℕ, _+_, _*_, Bool, true, _&&_, _||_, not, cond, List, [], _∷_, length, getD, eqb, leb, ltb}
 use Rattle.rules.specs.Types.{Layout}
 use Rattle.rules.specs.Names.{mostStates, events, noArrow}
 

@@ -1,10 +1,5 @@
 -- Two's complement at 32 bits.
-use Prim.Native.Nat.{ℕ, suc, _-_, _^_}
-use mathlib.Core.Bool.{Bool}
-use lib.IntN.{ℤ, pos, negsuc}
-use lib.Signed.{shrZ, ltZ}
-use lib.Dec.{ltb}
-use mir.Val.{sel}
+use Rattle.rules.specs.Kit.{ℕ, suc, _-_, _^_, Bool, ℤ, pos, negsuc, shrZ, ltZ, ltb, sel}
 
 -- the integer of a 32-bit pattern: x below 2 ^ 31, else x - 2 ^ 32; `negsuc n` is -(n + 1)
 abbrev pub twos : ℕ → ℤ
