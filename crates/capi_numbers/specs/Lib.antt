@@ -1,4 +1,5 @@
 pub mod Numbers
 pub mod Hosts
 pub mod Claims
+pub mod Sample
 pub mod Proved

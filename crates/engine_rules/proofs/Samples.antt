@@ -1,6 +1,6 @@
 -- The premises of the claims can be met, and the definitions compute.
-use mathlib.Core.Path.{_≡_, refl, ap}
-use mathlib.Core.List.{List, []}
+use mathlib.Core.Path.{_≡_, refl, ap, _∙_}
+use mathlib.Core.List.{List, [], _∷_}
 use Prim.Native.Nat.{ℕ, _<_}
 use native.Mathlib.Omega.{arith}
 use lib.Count.{ones, leadingZeros}
@@ -12,7 +12,7 @@ use Rattle.rules.specs.Words.{judgeOf, judgeAt, firstRefused, instrOf, routine,
 use Rattle.rules.specs.Commands.{plainOf}
 use Rattle.rules.specs.Bundles.{rewriteAnswer, placeAnswer}
 use Rattle.rules.specs.Machines.{installAnswer, installMemory, applyOf}
-use Rattle.samples.specs.Sample.{layout, policy, code, memory}
+use Rattle.samples.specs.Sample.{layout, policy, code, memory, pausedRun}
 use Rattle.samples.proofs.Samples.{free-set, sample-holds as machine-holds}
 use Rattle.engine_rules.specs.Engines.{sendOf, actOf, nextFor, movedOf, effectOn, runFrom, refusalBy, runOf}
 use Rattle.engine_rules.specs.Claims.{runOn, afterTaken, afterRun, afterRuns, runsOf, after, Served}
@@ -48,6 +48,15 @@ sample-holds =
       counted = λ x. refl;
       recorded = λ x. refl;
       state = λ x. refl;
+      pausedBeside =
+          λ x.
+          record {
+            rewritten = refl;
+            machine = machine-holds .pausedServed x;
+            engine = record { taken = refl; installed = refl; lends = (λ l i s. refl, tt) };
+            readings = λ i m n. absurd (let z : i < length (after layout policy code (memory x) (pausedRun x ∷ []) .used) = n in let q : i < 0 = z in omega arith);
+          };
+      begun = λ x. machine-holds .waitingBegun x;
       unknown = refl;
       landing = refl;
     }

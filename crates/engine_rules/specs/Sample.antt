@@ -1,5 +1,5 @@
 -- A sample on the claims' premises: the routine of document 01's trial, in two runs of the engine with a refused one between.
-use Prim.Native.Nat.{ℕ}
+use Prim.Native.Nat.{ℕ, _+_}
 use mathlib.Core.Path.{_≡_}
 use mathlib.Core.List.{List, [], _∷_, map}
 use lib.ListN.{getD, set}
@@ -8,8 +8,8 @@ use Rattle.rules.specs.Names.{answer}
 use Rattle.rules.specs.Words.{packOf}
 use Rattle.rules.specs.Machines.{installMemory}
 use Rattle.rules.specs.Guests.{pairOf}
-use Rattle.rules.specs.Runs.{Given}
-use Rattle.samples.specs.Sample.{layout, policy, code, memory, given, runs as machineRuns}
+use Rattle.rules.specs.Runs.{Given, after as machineAfter}
+use Rattle.samples.specs.Sample.{layout, policy, code, commands, memory, given, runs as machineRuns, pausedRun}
 use Rattle.engine_rules.specs.Engines.{refusalOf}
 use Rattle.engine_rules.specs.Claims.{atFirst, afterRun, after, Served, Beside, Run, allRuns, recordedIn}
 
@@ -38,6 +38,9 @@ pub record SampleHolds : Type 0 where
   pub counted : (x : ℕ) → countsIn (allRuns layout policy code (memory x) (runs x)) ≡ 2 ∷ 0 ∷ 2 ∷ []
   pub recorded : (x : ℕ) → recordedIn (allRuns layout policy code (memory x) (runs x)) ≡ pairOf 0 70 ∷ pairOf 2 70 ∷ []
   pub state : (x : ℕ) → getD (after layout policy code (memory x) (runs x) .memory) (layout .cell) 0 ≡ 1
+  -- without a log both wait for the first event: of the bundles that the machine began that one is not done
+  pub pausedBeside : (x : ℕ) → Beside layout policy code (memory x) 32 (pausedRun x ∷ []) (pausedRun x ∷ [])
+  pub begun : (x : ℕ) → machineAfter layout policy commands (memory x) (pausedRun x ∷ []) .begun ≡ after layout policy code (memory x) (pausedRun x ∷ []) .counted + 1
   -- a kind above 12 in the second word, and a landing beyond
   pub unknown : refusalOf layout (packOf 1 0 0 0 0 70 ∷ packOf 13 0 0 0 0 0 ∷ []) (memory 0) ≡ answer 3 1
   pub landing : refusalOf layout (packOf 10 0 0 0 0 2 ∷ []) (memory 0) ≡ answer 8 0

@@ -90,7 +90,9 @@ sample-holds =
       begun = λ x. refl;
       guest = guest-with;
       paused = λ x. refl;
-      waiting = λ x. refl;
+      pausedServed = λ x. record { passed = passed; installed = refl; lends = (λ l i s. refl, tt) };
+      waiting = λ x. record { running = refl; event = 0; third = refl };
+      waitingBegun = λ x. refl;
       late = λ x. refl;
       pending = λ x. refl;
       behind = λ x. refl;

@@ -13,8 +13,8 @@ use Rattle.rules.specs.Words.{packOf, routine}
 use Rattle.rules.specs.Bundles.{commandsOf}
 use Rattle.rules.specs.Machines.{installMemory, runAnswer}
 use Rattle.rules.specs.Guests.{pairOf, guestAfter, guestStart}
-use Rattle.rules.specs.Runs.{Given, atFirst, afterRun, Run, recordedIn, Matches, Served, allRuns, after, waitingAt, pendingAt}
-use Rattle.rules.specs.Claims.{Each, Alike, Same}
+use Rattle.rules.specs.Runs.{Given, atFirst, afterRun, Run, recordedIn, Matches, Served, allRuns, after, pendingAt}
+use Rattle.rules.specs.Claims.{Each, Alike, Same, Waiting}
 
 abbrev pub layout : Layout
 layout = layoutOf 1024 256 511 0 16 2 4096 64 noLimits
@@ -79,7 +79,9 @@ pub record SampleHolds : Type 0 where
   pub begun : (x : ℕ) → after layout policy commands (memory x) (runs x) .begun ≡ 4
   pub guest : (x : ℕ) → guestAfter layout policy 8 (routine code) [] (guestStart layout policy (installMemory layout policy (memory x))) 4 .records ≡ pairOf 0 70 ∷ pairOf 2 70 ∷ []
   pub paused : (x : ℕ) → answersIn (allRuns layout policy commands (memory x) (pausedRun x ∷ [])) ≡ runAnswer LogFull 6 0 0 ∷ []
-  pub waiting : (x : ℕ) → waitingAt layout commands (after layout policy commands (memory x) (pausedRun x ∷ []) .machine) ≡ 0 ∷ []
+  pub pausedServed : (x : ℕ) → Served layout policy commands (memory x) (pausedRun x ∷ [])
+  pub waiting : (x : ℕ) → Waiting layout commands (after layout policy commands (memory x) (pausedRun x ∷ []) .machine)
+  pub waitingBegun : (x : ℕ) → after layout policy commands (memory x) (pausedRun x ∷ []) .begun ≡ 2
   pub late : (x : ℕ) → answersIn (allRuns layout policy commands (memory x) (lateRun x ∷ [])) ≡ runAnswer Spent 11 2 0 ∷ []
   pub pending : (x : ℕ) → pendingAt layout commands (after layout policy commands (memory x) (lateRun x ∷ []) .machine) ≡ 2 ∷ []
   pub behind : (x : ℕ) → getD (after layout policy commands (memory x) (lateRun x ∷ []) .memory) (layout .cell) 0 ≡ 0
