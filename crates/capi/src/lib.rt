@@ -13,7 +13,7 @@ ghost use Rattle.rules.specs.Bundles.{rewriteAnswer, rewriteOutput};
 ghost use Rattle.capi_numbers.specs.Numbers.{layoutFrom, answerTo};
 ghost use Rattle.capi_numbers.specs.Hosts.{checkFor, hostInstalled, installFor, hostLoaded, loadFor, hostRan, runFor, hostPreviewed, previewFor};
 ghost use Rattle.policy_precedence.specs.Precedence.{makeOf, makeTable};
-ghost use Rattle.forward.specs.Forward.{forwardAnswer, checkForwardAnswer};
+ghost use Rattle.forward_rules.specs.Forward.{forwardAnswer, checkForwardAnswer};
 ghost use Rattle.policy_determinise.specs.Drawings.{drawingOf, determiniseOf, determiniseTable};
 ghost use Rattle.capi_loading.specs.Hosts.{yesOrNo};
 ghost use Rattle.capi_precedence.specs.Hosts.{madeTo};

@@ -7,8 +7,8 @@ use Rattle.rules.specs.declared.Layout.{Layout}
 use Rattle.rules.specs.declared.Answer.{Answer}
 use Rattle.capi_numbers.specs.Numbers.{layoutFrom, answerTo}
 use Rattle.capi_answers.proofs.Places.{narrow}
-use Rattle.forward.specs.Forward.{forwardAnswer, checkForwardAnswer}
-use Rattle.forward.proofs.Places.{forward-bound, check-forward-bound}
+use Rattle.forward_rules.specs.Forward.{forwardAnswer, checkForwardAnswer}
+use Rattle.forward_rules.proofs.Places.{forward-bound, check-forward-bound}
 
 -- their places have 32 bits
 pub narrow-forward : (ws : List ℕ) (a : Answer) → a ≡ forwardAnswer ws → a .place < 2 ^ 32

@@ -5,7 +5,7 @@ use capi_numbers::LAYOUT;
 use capi_numbers::layout_of;
 ghost use mathlib.Core.Path.{_≡_};
 ghost use Rattle.capi_numbers.specs.Numbers.{layoutFrom, answerTo};
-ghost use Rattle.forward.specs.Forward.{forwardAnswer, checkForwardAnswer};
+ghost use Rattle.forward_rules.specs.Forward.{forwardAnswer, checkForwardAnswer};
 
 // Checks that a routine's words are of the class that always finishes.
 pub fn forward(words: &[u64], answer: &mut [u32; ANSWER])

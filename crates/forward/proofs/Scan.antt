@@ -16,8 +16,8 @@ use Rattle.rules.specs.Names.{mostInstructions, bundleLength, numberOf, answer,
 use Rattle.rules.specs.Words.{kindOf, vOf, judgeAt, firstRefused, instrOf, routine}
 use Rattle.rules.specs.Bundles.{readOff, bundleAt, checkAnswer}
 use Rattle.rules.proofs.Bools.{cond-ind}
-use Rattle.forward.specs.Forward.{forwardAt, forwardFrom, forwardAnswer, checkForwardAnswer, forwardWord}
-use Rattle.forward.proofs.Laws.{breaks-here, goes-past, judged, words-long, words-refused, words-taken, list-refused, list-passed}
+use Rattle.forward_rules.specs.Forward.{forwardAt, forwardFrom, forwardAnswer, checkForwardAnswer, forwardWord}
+use Rattle.forward_rules.proofs.Laws.{breaks-here, goes-past, judged, words-long, words-refused, words-taken, list-refused, list-passed}
 
 -- a jump, by its instruction
 pub jump-at : (h a b c v : ℕ) (i : Instr) → i ≡ GOIF a b c v → ltb h v ≡ forwardAt h i

@@ -14,7 +14,7 @@ ghost use lib.ListN.{length};
 ghost use Rattle.rules.specs.Names.{bundleLength};
 ghost use Rattle.rules.specs.Words.{routine};
 ghost use Rattle.rules.specs.Bundles.{bundleAt};
-ghost use Rattle.forward.specs.Forward.{forwardAt, forwardWord, forwardFrom, forwardAnswer, checkForwardAnswer};
+ghost use Rattle.forward_rules.specs.Forward.{forwardAt, forwardWord, forwardFrom, forwardAnswer, checkForwardAnswer};
 
 // Kinds of a bundle's first command: a jump to an address, and the shift with which a GOX begins.
 const GOIF: u64 = 14;

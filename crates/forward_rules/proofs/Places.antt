@@ -13,7 +13,7 @@ use Rattle.rules.specs.Bundles.{bundleAt, checkAnswer}
 use Rattle.rules.proofs.Bools.{cond-ind}
 use Rattle.rules.proofs.Counts.{Bounded, at-start, or-else, first-bound, judge-at-small, check-bound}
 use Rattle.rules.proofs.Conditions.{passed-of}
-use Rattle.forward.specs.Forward.{forwardAt, forwardFrom, forwardAnswer, checkForwardAnswer}
+use Rattle.forward_rules.specs.Forward.{forwardAt, forwardFrom, forwardAnswer, checkForwardAnswer}
 
 scan-bound : (is : ℕ → Instr) (h m top : ℕ) → h + m ≤ top + 1 → Bounded top 0 (forwardFrom is h m)
 unfolding forwardFrom

@@ -10,8 +10,8 @@ use Rattle.rules.specs.Commands.{isCommand, commandOf, wordOf, fetchOf, plainOf
 use Rattle.rules.specs.Bundles.{shapeOf, valid, readOff, bundleAt, isBundle, shapedAt, passesAt, checkFrom, checkAnswer}
 use Rattle.rules.specs.Machines.{installAnswer, installMemory, installMachine, effectOf, applyOf, runFrom, runOf}
 use Rattle.rules.specs.Runs.{runOn, afterTaken, afterRun, runsOf, Served}
-use Rattle.forward.specs.Forward.{forwardAt, forwardFrom, forwardAnswer, checkForwardAnswer}
-use Rattle.forward.specs.Sample.{layout, policy, commands, memory, runs, Answers, Reaches}
+use Rattle.forward_rules.specs.Forward.{forwardAt, forwardFrom, forwardAnswer, checkForwardAnswer}
+use Rattle.forward_rules.specs.Sample.{layout, policy, commands, memory, runs, Answers, Reaches}
 
 pub answers : Answers
 unfolding ones leadingZeros rightLayout judgeOf judgeAt firstRefused instrOf routine bundlesFor wordOf shapeOf valid readOff bundleAt isBundle shapedAt passesAt checkFrom checkAnswer forwardAt forwardFrom forwardAnswer checkForwardAnswer

@@ -26,10 +26,10 @@ use Rattle.rules.proofs.Conditions.{bundled-of, right-of, layout-of}
 use Rattle.rules.proofs.Sim.{Sim, over, live}
 use Rattle.rules.proofs.Track.{tracks}
 use Rattle.rules.proofs.Isolation.{stays}
-use Rattle.forward.specs.Forward.{checkForwardAnswer}
-use Rattle.forward.specs.Claims.{mostSteps, stepsIn, Resumed, GoesOn, Over, paidFor, paidBy, paidIn, Finishes, FinishesIn}
-use Rattle.forward.proofs.Runs.{pauses, steps-some, ran-before, all-spent}
-use Rattle.forward.proofs.Bound.{ahead-all}
+use Rattle.forward_rules.specs.Forward.{checkForwardAnswer}
+use Rattle.forward_rules.specs.Claims.{mostSteps, stepsIn, Resumed, GoesOn, Over, paidFor, paidBy, paidIn, Finishes, FinishesIn}
+use Rattle.forward_rules.proofs.Runs.{pauses, steps-some, ran-before, all-spent}
+use Rattle.forward_rules.proofs.Bound.{ahead-all}
 
 -- ---- one run that is not refused
 module _ (lay : Layout) (ws : List ℕ) (c : Carried) (g : Given) (fit : fits lay (g .memory) ≡ true) where

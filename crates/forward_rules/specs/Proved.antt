@@ -1,6 +1,6 @@
 -- Every claim of this crate, a field each: its one term is `proved`, in proofs/Proved.antt.
-use Rattle.forward.specs.Claims.{ChecksAgree, ForwardWritten, ForwardRead, Bounded, GoesOn, Finishes, FinishesIn, FinishesAtOnce, AlwaysFinish}
-use Rattle.forward.specs.Sample.{Answers, Reaches}
+use Rattle.forward_rules.specs.Claims.{ChecksAgree, ForwardWritten, ForwardRead, Bounded, GoesOn, Finishes, FinishesIn, FinishesAtOnce, AlwaysFinish}
+use Rattle.forward_rules.specs.Sample.{Answers, Reaches}
 
 pub record Proved : Type 0 where
   pub checksAgree : ChecksAgree

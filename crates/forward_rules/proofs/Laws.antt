@@ -13,7 +13,7 @@ use Rattle.rules.specs.Names.{mostInstructions, bundleLength, numberOf, answer,
 use Rattle.rules.specs.Words.{judgeAt, firstRefused, routine}
 use Rattle.rules.specs.Bundles.{bundleAt, checkAnswer}
 use Rattle.rules.proofs.Refusals.{else-next, else-kept}
-use Rattle.forward.specs.Forward.{forwardAt, forwardFrom, forwardAnswer, checkForwardAnswer}
+use Rattle.forward_rules.specs.Forward.{forwardAt, forwardFrom, forwardAnswer, checkForwardAnswer}
 
 -- ---- instructions in order: the first that breaks the class is answered
 module _ (is : ℕ → Instr) (h m : ℕ) where

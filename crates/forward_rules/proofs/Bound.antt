@@ -30,9 +30,9 @@ use Rattle.rules.proofs.Facts.{Valid, Bundled}
 use Rattle.rules.proofs.Loops.{Goes}
 use Rattle.rules.proofs.Endings.{run-ind}
 use Rattle.rules.proofs.Conditions.{bundled-of, right-of, machine-of}
-use Rattle.forward.specs.Forward.{forwardAt, checkForwardAnswer}
-use Rattle.forward.specs.Claims.{mostSteps, stepsIn, Bounded}
-use Rattle.forward.proofs.Class.{AllForward, class-of}
+use Rattle.forward_rules.specs.Forward.{forwardAt, checkForwardAnswer}
+use Rattle.forward_rules.specs.Claims.{mostSteps, stepsIn, Bounded}
+use Rattle.forward_rules.proofs.Class.{AllForward, class-of}
 
 -- a machine of the class neither runs on from an end nor stops for want of a landing
 abbrev pub Ends : Status → Type 0

@@ -15,7 +15,7 @@ use Rattle.rules.specs.Words.{bundlesFor}
 use Rattle.rules.specs.Bundles.{commandsOf, rewriteAnswer}
 use Rattle.rules.specs.Runs.{Given, Run, runOn, allRuns, after, Served}
 use Rattle.rules.specs.Claims.{Every}
-use Rattle.forward.specs.Forward.{forwardAnswer, checkForwardAnswer}
+use Rattle.forward_rules.specs.Forward.{forwardAnswer, checkForwardAnswer}
 
 -- ---- the two checks agree
 

@@ -13,8 +13,8 @@ use Rattle.rules.specs.Bundles.{commandsOf}
 use Rattle.rules.specs.Machines.{installMemory, runAnswer}
 use Rattle.rules.specs.Runs.{Given, atFirst, afterRun, Run, Served, allRuns}
 use Rattle.rules.specs.Claims.{Every}
-use Rattle.forward.specs.Forward.{forwardAnswer, checkForwardAnswer}
-use Rattle.forward.specs.Claims.{mostSteps, stepsIn, Resumed, paidIn}
+use Rattle.forward_rules.specs.Forward.{forwardAnswer, checkForwardAnswer}
+use Rattle.forward_rules.specs.Claims.{mostSteps, stepsIn, Resumed, paidIn}
 
 -- SET r0, 70; always to instruction v; GOX on r0; order v
 abbrev pub plain : ℕ

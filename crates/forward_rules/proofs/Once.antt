@@ -26,11 +26,11 @@ use Rattle.rules.proofs.Loops.{Goes}
 use Rattle.rules.proofs.Endings.{goes, run-ind}
 use Rattle.rules.proofs.Conditions.{bundled-of, right-of, layout-of}
 use Rattle.rules.proofs.Progress.{Still, still, quiet}
-use Rattle.forward.specs.Claims.{stepsIn, FinishesAtOnce}
-use Rattle.forward.proofs.Runs.{pauses, ending-plain, all-spent}
-use Rattle.forward.proofs.Class.{AllForward, class-of}
-use Rattle.forward.proofs.Bound.{Leads, Ahead, ahead-step, on-by-one, split, below-end, next-leads, ahead-all}
-use Rattle.forward.proofs.Finish.{going-or-over}
+use Rattle.forward_rules.specs.Claims.{stepsIn, FinishesAtOnce}
+use Rattle.forward_rules.proofs.Runs.{pauses, ending-plain, all-spent}
+use Rattle.forward_rules.proofs.Class.{AllForward, class-of}
+use Rattle.forward_rules.proofs.Bound.{Leads, Ahead, ahead-step, on-by-one, split, below-end, next-leads, ahead-all}
+use Rattle.forward_rules.proofs.Finish.{going-or-over}
 
 -- ---- what pauses or records comes from a bundle's third command
 abbrev Third : ℕ → Effect → Type 0

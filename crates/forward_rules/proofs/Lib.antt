@@ -1,0 +1,10 @@
+pub mod Laws
+pub mod Class
+pub mod Runs
+pub mod Bound
+pub mod Finish
+pub mod Once
+pub mod Agree
+pub mod Places
+pub mod Samples
+pub mod Proved

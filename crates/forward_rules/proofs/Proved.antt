@@ -1,0 +1,23 @@
+-- Every claim of this crate is proved.
+use Rattle.forward_rules.specs.Proved.{Proved}
+use Rattle.forward_rules.proofs.Bound.{bounded}
+use Rattle.forward_rules.proofs.Finish.{goes-on, finishes, finishes-in}
+use Rattle.forward_rules.proofs.Once.{finishes-at-once}
+use Rattle.forward_rules.proofs.Agree.{checks-agree, forward-written, forward-read, always-finish}
+use Rattle.forward_rules.proofs.Samples.{answers, reaches}
+
+pub proved : Proved
+proved =
+    record {
+      checksAgree = checks-agree;
+      forwardWritten = forward-written;
+      forwardRead = forward-read;
+      bounded = bounded;
+      goesOn = goes-on;
+      finishes = finishes;
+      finishesIn = finishes-in;
+      finishesAtOnce = finishes-at-once;
+      alwaysFinish = always-finish;
+      answers = answers;
+      reaches = reaches;
+    }

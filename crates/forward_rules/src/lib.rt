@@ -1,0 +1,1 @@
+// Request 13: routines that always finish. Definitions and claims in specs/; no code.
