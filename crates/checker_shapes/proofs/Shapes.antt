@@ -10,7 +10,7 @@ use Rattle.rules.specs.declared.Layout.{Layout}
 use Rattle.rules.specs.declared.Fields.{Fields}
 use Rattle.rules.specs.declared.Instr.{Instr}
 use Rattle.rules.specs.declared.Instr.the-variants.{PLAIN, LOAD, STORE, GOIF, GOX}
-use Rattle.rules.specs.Names.{bundleLength, guestRegisters, hidden, topCondition, events}
+use Rattle.rules.specs.Names.{bundleLength, bundleShift, guestRegisters, hidden, topCondition, events, guest, command, plainStep}
 use Rattle.rules.specs.Words.{kindOf, dOf, aOf, bOf, cOf, vOf, zeroOf, fieldsOf, packOf, packFields}
 use Rattle.rules.specs.Commands.{limitsOf, isCommand, wordOf}
 use Rattle.rules.specs.Bundles.{addressOf, lastAddress, shapeOf, valid, isBundle}
@@ -34,34 +34,34 @@ plain-words w x y z p q ep eq = rw (ep, eq)
 pub goif-words : (l : Layout) (n w x y z : ℕ) (p q s : Bool) → p ≡ isCommand w → q ≡ guestsOf w → s ≡ landsOf l n (vOf w) → (p && q && s && eqb x 0 && eqb y 0 && eqb z 0) ≡ goifWords l n w x y z
 goif-words l n w x y z p q s ep eq es = rw (ep, eq, es)
 
-pub event-words : (w x y z : ℕ) (p q s t : Bool) → p ≡ eqb w (packOf 16 hidden 0 0 0 (vOf w)) → q ≡ eqb x (packOf 17 hidden 0 0 0 0) → s ≡ eqb y (packOf 19 0 0 0 0 (vOf w)) → t ≡ eqb z (packOf 18 hidden 0 0 0 0)
+pub event-words : (w x y z : ℕ) (p q s t : Bool) → p ≡ eqb w (packOf (command .look) hidden 0 0 0 (vOf w)) → q ≡ eqb x (packOf (command .stopif) hidden 0 0 0 0) → s ≡ eqb y (packOf (command .event) 0 0 0 0 (vOf w)) → t ≡ eqb z (packOf (command .keep) hidden 0 0 0 0)
     → (ltb (vOf w) events && p && q && s && t) ≡ eventWords w x y z
 event-words w x y z p q s t ep eq es et = rw (ep, eq, es, et)
 
 -- ---- LOAD and STORE
 
-module _ (l : Layout) (w x y z : ℕ) (p q s : Bool) (ep : p ≡ eqb w (packOf 9 hidden (aOf w) 0 0 (l .high))) (eq : q ≡ eqb x (packOf 10 hidden hidden 0 0 (l .low))) where
-  pub load-is : s ≡ eqb y (packOf 12 (dOf y) hidden 0 0 0)
+module _ (l : Layout) (w x y z : ℕ) (p q s : Bool) (ep : p ≡ eqb w (packOf (command .andi) hidden (aOf w) 0 0 (l .high))) (eq : q ≡ eqb x (packOf (command .ori) hidden hidden 0 0 (l .low))) where
+  pub load-is : s ≡ eqb y (packOf (command .load) (dOf y) hidden 0 0 0)
       → (ltb (dOf y) guestRegisters && ltb (aOf w) guestRegisters && p && q && s && eqb z 0) ≡ isBundle l 0 (LOAD (dOf y) (aOf w)) w x y z
   unfolding isBundle valid shapeOf wordOf
   load-is es = rw (ep, eq, es)
 
-  pub store-is : s ≡ eqb y (packOf 13 0 hidden (bOf y) 0 0)
+  pub store-is : s ≡ eqb y (packOf (command .store) 0 hidden (bOf y) 0 0)
       → (ltb (aOf w) guestRegisters && ltb (bOf y) guestRegisters && p && q && s && eqb z 0) ≡ isBundle l 0 (STORE (aOf w) (bOf y)) w x y z
   unfolding isBundle valid shapeOf wordOf
   store-is es = rw (ep, eq, es)
 
 module _ (l : Layout) (w x y z : ℕ) (r : Bool) where
-  pub by-load : kindOf y ≡ 12 → r ≡ isBundle l 0 (LOAD (dOf y) (aOf w)) w x y z → r ≡ isBundle l 0 (accessOf w y) w x y z
+  pub by-load : kindOf y ≡ command .load → r ≡ isBundle l 0 (LOAD (dOf y) (aOf w)) w x y z → r ≡ isBundle l 0 (accessOf w y) w x y z
   by-load k e = e ∙ rw k
 
-  pub by-store : (kindOf y ≡ 12 → ⊥) → r ≡ isBundle l 0 (STORE (aOf w) (bOf y)) w x y z → r ≡ isBundle l 0 (accessOf w y) w x y z
-  by-store k e = e ∙ rw (ne-eqb (kindOf y) 12 k)
+  pub by-store : (kindOf y ≡ command .load → ⊥) → r ≡ isBundle l 0 (STORE (aOf w) (bOf y)) w x y z → r ≡ isBundle l 0 (accessOf w y) w x y z
+  by-store k e = e ∙ rw (ne-eqb (kindOf y) (command .load) k)
 
 -- ---- GOX: its second word holds the last address, formed from the one after it
 
-pub gox-is : (l : Layout) (n w x y z : ℕ) (g : ℕ) → g ≡ addressOf l n → (p q s t : Bool) → p ≡ eqb w (packOf 11 hidden (aOf w) 0 0 2) → q ≡ eqb x (packOf 9 hidden hidden 0 0 (g - 1))
-    → s ≡ eqb y (packOf 10 hidden hidden 0 0 (l .base)) → t ≡ eqb z (packOf 15 hidden (aOf z) (bOf z) (cOf z) 0)
+pub gox-is : (l : Layout) (n w x y z : ℕ) (g : ℕ) → g ≡ addressOf l n → (p q s t : Bool) → p ≡ eqb w (packOf (command .shl) hidden (aOf w) 0 0 2) → q ≡ eqb x (packOf (command .andi) hidden hidden 0 0 (g - 1))
+    → s ≡ eqb y (packOf (command .ori) hidden hidden 0 0 (l .base)) → t ≡ eqb z (packOf (command .goxr) hidden (aOf z) (bOf z) (cOf z) 0)
     → (ltb (aOf w) guestRegisters && ltb (aOf z) guestRegisters && ltb (bOf z) guestRegisters && leb (cOf z) topCondition && p && q && s && t)
     ≡ isBundle l n (GOX (aOf w) (aOf z) (bOf z) (cOf z)) w x y z
 unfolding isBundle valid shapeOf wordOf
@@ -80,7 +80,7 @@ module _ (l : Layout) (n v : ℕ) where
       (λ t. let e = eqb-true ((v - l .base) % bundleLength) 0 t in eq-eqb v (addressOf l (landingOf l v)) (omega arith))
       (λ t. let e = eqb-true v (addressOf l (landingOf l v)) t in eq-eqb ((v - l .base) % bundleLength) 0 (omega arith)))
 
-module _ (l : Layout) (n w : ℕ) (fits : w < 2 ^ 64) (k : kindOf w ≡ 14) where
+module _ (l : Layout) (n w : ℕ) (fits : w < 2 ^ 64) (k : kindOf w ≡ command .goif) where
   abbrev g : ℕ
   g = landingOf l (vOf w)
 
@@ -88,14 +88,14 @@ module _ (l : Layout) (n w : ℕ) (fits : w < 2 ^ 64) (k : kindOf w ≡ 14) wher
   goif = GOIF (aOf w) (bOf w) (cOf w) g
 
   abbrev goif-fields : Fields
-  goif-fields = record { kind = 14; d = 0; a = aOf w; b = bOf w; c = cOf w; v = addressOf l g }
+  goif-fields = record { kind = command .goif; d = 0; a = aOf w; b = bOf w; c = cOf w; v = addressOf l g }
 
   goif-in : (isCommand w && guestsOf w && landsOf l n (vOf w)) ≡ true → (valid n goif && eqb w (packFields goif-fields)) ≡ true
   unfolding valid
   goif-in t =
       let t₁ = both (isCommand w && guestsOf w) (landsOf l n (vOf w)) t in
       let t₀ = both (isCommand w) (guestsOf w) (t₁ .0) in
-      let i : Within (limitsOf 14) w = subst (λ (j : ℕ). Within (limitsOf j) w) k (command-in w (t₀ .0)) in
+      let i : Within (limitsOf (command .goif)) w = subst (λ (j : ℕ). Within (limitsOf j) w) k (command-in w (t₀ .0)) in
       let gb = both (ltb (dOf w) guestRegisters && ltb (aOf w) guestRegisters) (ltb (bOf w) guestRegisters) (t₀ .1) in
       let ga = both (ltb (dOf w) guestRegisters) (ltb (aOf w) guestRegisters) (gb .0) in
       let at = both (eqb (vOf w) (addressOf l g)) (ltb g n) (t₁ .1) in
@@ -113,7 +113,7 @@ module _ (l : Layout) (n w : ℕ) (fits : w < 2 ^ 64) (k : kindOf w ≡ 14) wher
       let ed : dOf w ≡ 0 = ap dOf ew ∙ ap (λ (f : Fields). f .d) (back .0) in
       let ev : vOf w ≡ addressOf l g = ap vOf ew ∙ ap (λ (f : Fields). f .v) (back .0) in
       let ez : zeroOf w ≡ 0 = ap zeroOf ew ∙ back .1 in
-      let i : Within (limitsOf 14) w =
+      let i : Within (limitsOf (command .goif)) w =
       record { kind = omega arith; zero = ez; d = omega arith; a = omega arith; b = omega arith; c = h .2; v = omega arith } in
       let c : isCommand w ≡ true = command-from w (subst (λ (j : ℕ). Within (limitsOf j) w) (sym k) i) in
       simp (c, lt-ltb (dOf w) guestRegisters (omega arith), lt-ltb (aOf w) guestRegisters (h .0), lt-ltb (bOf w) guestRegisters (h .1), eq-eqb (vOf w) (addressOf l g) ev, lt-ltb g n (h .3))
@@ -126,7 +126,7 @@ module _ (l : Layout) (n w : ℕ) (fits : w < 2 ^ 64) (k : kindOf w ≡ 14) wher
 
 -- ---- the plain kinds
 
-no-condition : (k : ℕ) → 2 ≤ k → k ≤ 8 → limitsOf k .c ≡ 0
+no-condition : (k : ℕ) → command .set ≤ k → k ≤ command .sar → limitsOf k .c ≡ 0
 no-condition zero lo hi = absurd (omega arith)
 no-condition (suc zero) lo hi = absurd (omega arith)
 no-condition (suc (suc zero)) lo hi = refl
@@ -138,14 +138,14 @@ no-condition (suc (suc (suc (suc (suc (suc (suc zero))))))) lo hi = refl
 no-condition (suc (suc (suc (suc (suc (suc (suc (suc zero)))))))) lo hi = refl
 no-condition (suc (suc (suc (suc (suc (suc (suc (suc (suc k))))))))) lo hi = absurd (omega arith)
 
-module _ (n w : ℕ) (lo : 2 ≤ kindOf w) (hi : kindOf w ≤ 8) where
+module _ (n w : ℕ) (lo : command .set ≤ kindOf w) (hi : kindOf w ≤ command .sar) where
   abbrev pub plain-instr : Instr
-  plain-instr = PLAIN (kindOf w - 1) (dOf w) (aOf w) (bOf w) (vOf w)
+  plain-instr = PLAIN (kindOf w - plainStep) (dOf w) (aOf w) (bOf w) (vOf w)
 
   abbrev plain-fields : Fields
-  plain-fields = record { kind = kindOf w - 1 + 1; d = dOf w; a = aOf w; b = bOf w; c = 0; v = vOf w }
+  plain-fields = record { kind = kindOf w - plainStep + plainStep; d = dOf w; a = aOf w; b = bOf w; c = 0; v = vOf w }
 
-  next : kindOf w - 1 + 1 ≡ kindOf w
+  next : kindOf w - plainStep + plainStep ≡ kindOf w
   next = omega arith
 
   plain-in : (isCommand w && guestsOf w) ≡ true → (valid n plain-instr && eqb w (packFields plain-fields)) ≡ true
@@ -153,13 +153,13 @@ module _ (n w : ℕ) (lo : 2 ≤ kindOf w) (hi : kindOf w ≤ 8) where
   plain-in t =
       let t₀ = both (isCommand w) (guestsOf w) t in
       let i₀ : Within (limitsOf (kindOf w)) w = command-in w (t₀ .0) in
-      let i : Within (limitsOf (kindOf w - 1 + 1)) w = subst (λ (j : ℕ). Within (limitsOf j) w) (sym next) i₀ in
+      let i : Within (limitsOf (kindOf w - plainStep + plainStep)) w = subst (λ (j : ℕ). Within (limitsOf j) w) (sym next) i₀ in
       let gb = both (ltb (dOf w) guestRegisters && ltb (aOf w) guestRegisters) (ltb (bOf w) guestRegisters) (t₀ .1) in
       let ga = both (ltb (dOf w) guestRegisters) (ltb (aOf w) guestRegisters) (gb .0) in
       let none = no-condition (kindOf w) lo hi in
       let ec : cOf w ≡ 0 = omega (arith, i₀ .c, none) in
       let ew : w ≡ packFields plain-fields = rw next (sym (rw ec at (pack-fields w (i₀ .zero)))) in
-      simp (le-leb 1 (kindOf w - 1) (omega arith), le-leb (kindOf w - 1) 7 (omega arith), ga .0, ga .1, gb .1, le-leb _ _ (i .d), le-leb _ _ (i .a), le-leb _ _ (i .b), le-leb _ _ (i .v), eq-eqb w (packFields plain-fields) ew)
+      simp (le-leb (guest .set) (kindOf w - plainStep) (omega arith), le-leb (kindOf w - plainStep) (guest .sar) (omega arith), ga .0, ga .1, gb .1, le-leb _ _ (i .d), le-leb _ _ (i .a), le-leb _ _ (i .b), le-leb _ _ (i .v), eq-eqb w (packFields plain-fields) ew)
 
   plain-out : (valid n plain-instr && eqb w (packFields plain-fields)) ≡ true → (isCommand w && guestsOf w) ≡ true
   plain-out t =
@@ -169,7 +169,7 @@ module _ (n w : ℕ) (lo : 2 ≤ kindOf w) (hi : kindOf w ≤ 8) where
       let back = bits-pack plain-fields (omega arith, omega arith, omega arith, omega arith, omega arith) in
       let ec : cOf w ≡ 0 = ap cOf ew ∙ ap (λ (f : Fields). f .c) (back .0) in
       let ez : zeroOf w ≡ 0 = ap zeroOf ew ∙ back .1 in
-      let i : Within (limitsOf (kindOf w - 1 + 1)) w =
+      let i : Within (limitsOf (kindOf w - plainStep + plainStep)) w =
       record { kind = omega arith; zero = ez; d = h .5; a = h .6; b = h .7; c = omega arith; v = h .8 } in
       let c : isCommand w ≡ true = command-from w (subst (λ (j : ℕ). Within (limitsOf j) w) next i) in
       simp (c, lt-ltb _ _ (h .2), lt-ltb _ _ (h .3), lt-ltb _ _ (h .4))

@@ -1,14 +1,14 @@
 -- The tests of four words, shape by shape.
 use Prim.Native.Nat.{ℕ, _-_, _/_}
-use mathlib.Core.Bool.{Bool, _&&_, cond}
+use mathlib.Core.Bool.{Bool, _&&_, _||_, cond}
 use lib.Dec.{ltb, eqb}
 use Rattle.rules.specs.declared.Layout.{Layout}
 use Rattle.rules.specs.declared.Instr.{Instr}
 use Rattle.rules.specs.declared.Instr.the-variants.{LOAD, STORE}
-use Rattle.rules.specs.Names.{bundleLength, hidden, events}
+use Rattle.rules.specs.Names.{bundleLength, hidden, events, command}
 use Rattle.rules.specs.Words.{kindOf, dOf, aOf, bOf, vOf, packOf}
 use Rattle.rules.specs.Commands.{isCommand}
-use Rattle.rules.specs.Bundles.{addressOf}
+use Rattle.rules.specs.Bundles.{addressOf, readOff, isBundle}
 use Rattle.words.specs.Guests.{guestsOf}
 
 -- a command's word, and three of commands that do nothing
@@ -21,7 +21,7 @@ plainWords w x y z = isCommand w && guestsOf w && eqb x 0 && eqb y 0 && eqb z 0
 
 -- LOAD or STORE, by the third word
 abbrev pub accessOf : ℕ → ℕ → Instr
-accessOf w y = cond (eqb (kindOf y) 12) (LOAD (dOf y) (aOf w)) (STORE (aOf w) (bOf y))
+accessOf w y = cond (eqb (kindOf y) (command .load)) (LOAD (dOf y) (aOf w)) (STORE (aOf w) (bOf y))
 
 -- the bundle to which an address leads, and whether it is the address of one among n
 abbrev pub landingOf : Layout → ℕ → ℕ
@@ -37,4 +37,8 @@ goifWords l n w x y z = isCommand w && guestsOf w && landsOf l n (vOf w) && eqb 
 -- an event, one number throughout
 abbrev pub eventWords : ℕ → ℕ → ℕ → ℕ → Bool
 eventWords w x y z =
-    ltb (vOf w) events && eqb w (packOf 16 hidden 0 0 0 (vOf w)) && eqb x (packOf 17 hidden 0 0 0 0) && eqb y (packOf 19 0 0 0 0 (vOf w)) && eqb z (packOf 18 hidden 0 0 0 0)
+    ltb (vOf w) events && eqb w (packOf (command .look) hidden 0 0 0 (vOf w)) && eqb x (packOf (command .stopif) hidden 0 0 0 0) && eqb y (packOf (command .event) 0 0 0 0 (vOf w)) && eqb z (packOf (command .keep) hidden 0 0 0 0)
+
+-- four words are a bundle, and a HALT where no more follow
+abbrev pub passesOf : Layout → ℕ → ℕ → ℕ → ℕ → ℕ → Bool → Bool
+passesOf l n w x y z more = isBundle l n (readOff l w y z) w x y z && (more || eqb (kindOf w) (command .halt))

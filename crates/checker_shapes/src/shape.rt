@@ -1,5 +1,6 @@
 // The shapes of a bundle. Whole words are compared; no bundle is built, and no instruction.
 use rules::Bundle;
+use rules::Command;
 use rules::Fields;
 use rules::Layout;
 use rules::Machine;
@@ -12,6 +13,7 @@ ghost use mathlib.Core.Path.{_≡_};
 ghost use Prim.Native.Nat.{_≤_, _<_, _^_};
 ghost use lib.Dec.{eqb};
 ghost use Rattle.rules.specs.declared.Instr.the-variants.{GOX, LOAD, STORE};
+ghost use Rattle.rules.specs.Names.{command};
 ghost use Rattle.rules.specs.Words.{dOf, aOf, bOf, cOf, packOf};
 ghost use Rattle.rules.specs.Bundles.{addressOf, isBundle};
 ghost use Rattle.checker_shapes.specs.Sameness.{alone, plainWords, accessOf, landsOf, goifWords, eventWords};
@@ -22,9 +24,6 @@ const HIDDEN: u64 = Machine::HIDDEN as u64;
 const LENGTH: u64 = Bundle::LENGTH as u64;
 
 const EVENTS: u64 = Policy::EVENTS as u64;
-
-// The shift that makes of an instruction's number the distance of its bundle.
-const SHIFT: u64 = 2;
 
 // Whether a word is that of a kind and its fields.
 fn is_word(w: u64, kind: u64, d: u64, a: u64, b: u64, c: u64, v: u64) -> bool
@@ -44,9 +43,9 @@ fn is_word(w: u64, kind: u64, d: u64, a: u64, b: u64, c: u64, v: u64) -> bool
 
 // HALT, and three that do nothing.
 pub(crate) fn halts(w: u64, x: u64, y: u64, z: u64) -> bool
-    ensures { λ r. ⌜ r ≡ alone w x y z 1 ⌝ }
+    ensures { λ r. ⌜ r ≡ alone w x y z (command .halt) ⌝ }
 {
-    (w == 1) & (x == 0) & (y == 0) & (z == 0)
+    (w == Command::HALT) & (x == 0) & (y == 0) & (z == 0)
 }
 
 // A plain command on the guest's registers, and three that do nothing.
@@ -65,9 +64,9 @@ fn loads(l: Layout, w: u64, x: u64, y: u64, z: u64) -> bool
     let a = (w >> 12) % 16;
     (to < HIDDEN)
         & (a < HIDDEN)
-        & is_word(w, 9, HIDDEN, a, 0, 0, l.high as u64)
-        & is_word(x, 10, HIDDEN, HIDDEN, 0, 0, l.low as u64)
-        & is_word(y, 12, to, HIDDEN, 0, 0, 0)
+        & is_word(w, Command::ANDI, HIDDEN, a, 0, 0, l.high as u64)
+        & is_word(x, Command::ORI, HIDDEN, HIDDEN, 0, 0, l.low as u64)
+        & is_word(y, Command::LOAD, to, HIDDEN, 0, 0, 0)
         & (z == 0)
 }
 
@@ -78,9 +77,9 @@ fn stores(l: Layout, w: u64, x: u64, y: u64, z: u64) -> bool
     let from = (y >> 16) % 16;
     (a < HIDDEN)
         & (from < HIDDEN)
-        & is_word(w, 9, HIDDEN, a, 0, 0, l.high as u64)
-        & is_word(x, 10, HIDDEN, HIDDEN, 0, 0, l.low as u64)
-        & is_word(y, 13, 0, HIDDEN, from, 0, 0)
+        & is_word(w, Command::ANDI, HIDDEN, a, 0, 0, l.high as u64)
+        & is_word(x, Command::ORI, HIDDEN, HIDDEN, 0, 0, l.low as u64)
+        & is_word(y, Command::STORE, 0, HIDDEN, from, 0, 0)
         & (z == 0)
 }
 
@@ -88,7 +87,7 @@ fn stores(l: Layout, w: u64, x: u64, y: u64, z: u64) -> bool
 pub(crate) fn accesses(l: Layout, w: u64, x: u64, y: u64, z: u64) -> bool
     ensures { λ r. ⌜ r ≡ isBundle l 0 (accessOf w y) w x y z ⌝ }
 {
-    if y % 256 == 12 {
+    if y % 256 == Command::LOAD {
         return loads(l, w, x, y, z);
     }
     stores(l, w, x, y, z)
@@ -118,10 +117,10 @@ pub(crate) fn goes(l: Layout, n: usize, w: u64, x: u64, y: u64, z: u64) -> bool
         & (a < HIDDEN)
         & (b < HIDDEN)
         & (c <= TOP_CONDITION)
-        & is_word(w, 11, HIDDEN, d, 0, 0, SHIFT)
-        & is_word(x, 9, HIDDEN, HIDDEN, 0, 0, last)
-        & is_word(y, 10, HIDDEN, HIDDEN, 0, 0, l.base as u64)
-        & is_word(z, 15, HIDDEN, a, b, c, 0)
+        & is_word(w, Command::SHL, HIDDEN, d, 0, 0, Bundle::SHIFT)
+        & is_word(x, Command::ANDI, HIDDEN, HIDDEN, 0, 0, last)
+        & is_word(y, Command::ORI, HIDDEN, HIDDEN, 0, 0, l.base as u64)
+        & is_word(z, Command::GOXR, HIDDEN, a, b, c, 0)
 }
 
 // Whether an address is that of one of n bundles.
@@ -152,8 +151,8 @@ pub(crate) fn sends(w: u64, x: u64, y: u64, z: u64) -> bool
 {
     let e = w >> 32;
     (e < EVENTS)
-        & is_word(w, 16, HIDDEN, 0, 0, 0, e)
-        & is_word(x, 17, HIDDEN, 0, 0, 0, 0)
-        & is_word(y, 19, 0, 0, 0, 0, e)
-        & is_word(z, 18, HIDDEN, 0, 0, 0, 0)
+        & is_word(w, Command::LOOK, HIDDEN, 0, 0, 0, e)
+        & is_word(x, Command::STOPIF, HIDDEN, 0, 0, 0, 0)
+        & is_word(y, Command::EVENT, 0, 0, 0, 0, e)
+        & is_word(z, Command::KEEP, HIDDEN, 0, 0, 0, 0)
 }

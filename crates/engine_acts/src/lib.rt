@@ -1,6 +1,7 @@
 // What the instruction at the index would do: a pure decision.
 use engine_rules::Engine;
 use rules::Effect;
+use rules::Instr;
 use rules::Layout;
 use rules::Policy;
 use rules::Status;
@@ -156,27 +157,30 @@ fn act(
     ensures { λ r. ⌜ r ≡ actOf layout (bundlesFor n) (instrOf w) (viewOf (now (regs .entry)) at (now (memory .entry)) (layout .cell) (layout .table) (layout .base) (layout .landings) free left) ⌝ }
 {
     match w % 256 {
-        0 => Effect::End(Status::Ended),
-        1 => Effect::Put(target(w), number(w)),
-        2 => Effect::Put(target(w), left_of(w, regs)),
-        3 => Effect::Put(target(w), arith::add(left_of(w, regs), right_of(w, regs))),
-        4 => Effect::Put(target(w), arith::sub(left_of(w, regs), right_of(w, regs))),
-        5 => Effect::Put(target(w), arith::and(left_of(w, regs), right_of(w, regs))),
-        6 => Effect::Put(target(w), arith::or(left_of(w, regs), right_of(w, regs))),
-        7 => Effect::Put(target(w), arith::sar(left_of(w, regs), number(w))),
-        8 => Effect::Put(
+        Instr::KIND_HALT => Effect::End(Status::Ended),
+        Instr::KIND_SET => Effect::Put(target(w), number(w)),
+        Instr::KIND_MOVE => Effect::Put(target(w), left_of(w, regs)),
+        Instr::KIND_ADD => Effect::Put(target(w), arith::add(left_of(w, regs), right_of(w, regs))),
+        Instr::KIND_SUB => Effect::Put(target(w), arith::sub(left_of(w, regs), right_of(w, regs))),
+        Instr::KIND_AND => Effect::Put(target(w), arith::and(left_of(w, regs), right_of(w, regs))),
+        Instr::KIND_OR => Effect::Put(target(w), arith::or(left_of(w, regs), right_of(w, regs))),
+        Instr::KIND_SAR => Effect::Put(target(w), arith::sar(left_of(w, regs), number(w))),
+        Instr::KIND_LOAD => Effect::Put(
             target(w),
             words_arith::peek(memory, address(w, layout.low, layout.high, regs)),
         ),
-        9 => Effect::Cell(address(w, layout.low, layout.high, regs), right_of(w, regs)),
-        10 => branch(
+        Instr::KIND_STORE => Effect::Cell(
+            address(w, layout.low, layout.high, regs),
+            right_of(w, regs),
+        ),
+        Instr::KIND_GOIF => branch(
             (w >> 20) % 16,
             left_of(w, regs),
             right_of(w, regs),
             number(w),
             at,
         ),
-        11 => jump(
+        Instr::KIND_GOX => jump(
             (w >> 20) % 16,
             left_of(w, regs),
             right_of(w, regs),

@@ -159,16 +159,16 @@ fn value(k: u64, x: u32, y: u32, v: u32) -> u32
     ensures { λ r. ⌜ r ≡ plainOf k x y v ⌝ }
 {
     match k {
-        2 => v,
-        3 => x,
-        4 => arith::add(x, y),
-        5 => arith::sub(x, y),
-        6 => arith::and(x, y),
-        7 => arith::or(x, y),
-        8 => arith::sar(x, v),
-        9 => arith::and(x, v),
-        10 => arith::or(x, v),
-        11 => arith::shl(x, v),
+        Command::SET => v,
+        Command::MOVE => x,
+        Command::ADD => arith::add(x, y),
+        Command::SUB => arith::sub(x, y),
+        Command::AND => arith::and(x, y),
+        Command::OR => arith::or(x, y),
+        Command::SAR => arith::sar(x, v),
+        Command::ANDI => arith::and(x, v),
+        Command::ORI => arith::or(x, v),
+        Command::SHL => arith::shl(x, v),
         _ => 0,
     }
 }

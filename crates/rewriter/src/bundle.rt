@@ -1,5 +1,6 @@
 // The words of one bundle.
 use rules::Bundle;
+use rules::Command;
 use rules::Fields;
 use rules::Instr;
 use rules::Layout;
@@ -35,30 +36,30 @@ pub(crate) fn bundle(l: Layout, n: usize, i: Instr) -> Bundle
     let high = l.high as u64;
     match i {
         Instr::HALT => Bundle {
-            words: [word(1, 0, 0, 0, 0, 0), 0, 0, 0],
+            words: [word(Command::HALT, 0, 0, 0, 0, 0), 0, 0, 0],
         },
         Instr::PLAIN(k, d, a, b, v) => Bundle {
-            words: [word(k + 1, d, a, b, 0, v), 0, 0, 0],
+            words: [word(k + Instr::PLAIN_STEP, d, a, b, 0, v), 0, 0, 0],
         },
         Instr::LOAD(d, a) => Bundle {
             words: [
-                word(9, HIDDEN, a, 0, 0, high),
-                word(10, HIDDEN, HIDDEN, 0, 0, low),
-                word(12, d, HIDDEN, 0, 0, 0),
+                word(Command::ANDI, HIDDEN, a, 0, 0, high),
+                word(Command::ORI, HIDDEN, HIDDEN, 0, 0, low),
+                word(Command::LOAD, d, HIDDEN, 0, 0, 0),
                 0,
             ],
         },
         Instr::STORE(a, b) => Bundle {
             words: [
-                word(9, HIDDEN, a, 0, 0, high),
-                word(10, HIDDEN, HIDDEN, 0, 0, low),
-                word(13, 0, HIDDEN, b, 0, 0),
+                word(Command::ANDI, HIDDEN, a, 0, 0, high),
+                word(Command::ORI, HIDDEN, HIDDEN, 0, 0, low),
+                word(Command::STORE, 0, HIDDEN, b, 0, 0),
                 0,
             ],
         },
         Instr::GOIF(a, b, c, v) => Bundle {
             words: [
-                word(14, 0, a, b, c, base + Bundle::LENGTH as u64 * v),
+                word(Command::GOIF, 0, a, b, c, base + Bundle::LENGTH as u64 * v),
                 0,
                 0,
                 0,
@@ -66,25 +67,25 @@ pub(crate) fn bundle(l: Layout, n: usize, i: Instr) -> Bundle
         },
         Instr::GOX(d, a, b, c) => Bundle {
             words: [
-                word(11, HIDDEN, d, 0, 0, 2),
+                word(Command::SHL, HIDDEN, d, 0, 0, Bundle::SHIFT),
                 word(
-                    9,
+                    Command::ANDI,
                     HIDDEN,
                     HIDDEN,
                     0,
                     0,
                     base + Bundle::LENGTH as u64 * n as u64 - 1,
                 ),
-                word(10, HIDDEN, HIDDEN, 0, 0, base),
-                word(15, HIDDEN, a, b, c, 0),
+                word(Command::ORI, HIDDEN, HIDDEN, 0, 0, base),
+                word(Command::GOXR, HIDDEN, a, b, c, 0),
             ],
         },
         Instr::EVENT(e) => Bundle {
             words: [
-                word(16, HIDDEN, 0, 0, 0, e),
-                word(17, HIDDEN, 0, 0, 0, 0),
-                word(19, 0, 0, 0, 0, e),
-                word(18, HIDDEN, 0, 0, 0, 0),
+                word(Command::LOOK, HIDDEN, 0, 0, 0, e),
+                word(Command::STOPIF, HIDDEN, 0, 0, 0, 0),
+                word(Command::EVENT, 0, 0, 0, 0, e),
+                word(Command::KEEP, HIDDEN, 0, 0, 0, 0),
             ],
         },
     }

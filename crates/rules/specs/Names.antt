@@ -83,12 +83,27 @@ topEvent = events - 1
 abbrev pub topWord : ℕ
 topWord = 4294967295
 
--- the greatest guest kind, and the count of command kinds
+-- the guest's kinds, and the greatest
+abbrev pub guest : record { halt : ℕ; set : ℕ; move : ℕ; add : ℕ; sub : ℕ; and : ℕ; or : ℕ; sar : ℕ; load : ℕ; store : ℕ; goif : ℕ; gox : ℕ; event : ℕ }
+guest = record { halt = 0; set = 1; move = 2; add = 3; sub = 4; and = 5; or = 6; sar = 7; load = 8; store = 9; goif = 10; gox = 11; event = 12 }
+
 abbrev pub topKind : ℕ
-topKind = 12
+topKind = guest .event
+
+-- the command kinds, and their count
+abbrev pub command : record { nop : ℕ; halt : ℕ; set : ℕ; move : ℕ; add : ℕ; sub : ℕ; and : ℕ; or : ℕ; sar : ℕ; andi : ℕ; ori : ℕ; shl : ℕ; load : ℕ; store : ℕ; goif : ℕ; goxr : ℕ; look : ℕ; stopif : ℕ; keep : ℕ; event : ℕ }
+command = record { nop = 0; halt = 1; set = 2; move = 3; add = 4; sub = 5; and = 6; or = 7; sar = 8; andi = 9; ori = 10; shl = 11; load = 12; store = 13; goif = 14; goxr = 15; look = 16; stopif = 17; keep = 18; event = 19 }
 
 abbrev pub commandKinds : ℕ
-commandKinds = 20
+commandKinds = command .event + 1
+
+-- the plain kinds, SET to SAR, are that much higher as commands
+abbrev pub plainStep : ℕ
+plainStep = command .set - guest .set
+
+-- the kind of a word that is no command
+abbrev pub noCommand : ℕ
+noCommand = 255
 
 -- the table 'Rejects', with its words
 abbrev pub numberOf : Refusal → ℕ

@@ -13,7 +13,7 @@ pub struct Layout {
     pub states: u32,
     pub base: u32,
     pub landings: u32,
-    pub ceilings: [u32; 8],
+    pub ceilings: [u32; Policy::ORDERS as usize],
 }
 
 impl Layout {
@@ -36,7 +36,7 @@ impl Layout {
         states: u32,
         base: u32,
         landings: u32,
-        ceilings: [u32; 8],
+        ceilings: [u32; Policy::ORDERS as usize],
     ) -> Layout
         ensures { λ r. ⌜ r ≡ layoutOf size low high cell table states base landings ceilings ⌝ }
     {
@@ -88,7 +88,7 @@ pub struct Limits {
     pub v: u64,
 }
 
-// A guest instruction, which is also the bundle that it becomes. PLAIN holds kinds 1 to 7: kind, d, a, b, v.
+// A guest instruction, which is also the bundle that it becomes. PLAIN holds kinds SET to SAR: kind, d, a, b, v.
 pub enum Instr {
     HALT,
     PLAIN(u64, u64, u64, u64, u64),
@@ -102,9 +102,37 @@ pub enum Instr {
 impl Instr {
     // The most instructions of a routine.
     pub const MOST: usize = 1023;
+    // The kinds; a plain one is a step higher as a command.
+    pub const KIND_HALT: u64 = 0;
+
+    pub const KIND_SET: u64 = 1;
+
+    pub const KIND_MOVE: u64 = 2;
+
+    pub const KIND_ADD: u64 = 3;
+
+    pub const KIND_SUB: u64 = 4;
+
+    pub const KIND_AND: u64 = 5;
+
+    pub const KIND_OR: u64 = 6;
+
+    pub const KIND_SAR: u64 = 7;
+
+    pub const KIND_LOAD: u64 = 8;
+
+    pub const KIND_STORE: u64 = 9;
+
+    pub const KIND_GOIF: u64 = 10;
+
+    pub const KIND_GOX: u64 = 11;
+
+    pub const KIND_EVENT: u64 = 12;
+
+    pub const PLAIN_STEP: u64 = Command::SET - Instr::KIND_SET;
 }
 
-// A command. Plain holds the arithmetic kinds 2 to 11: kind, d, a, b, v. Stray is a word that is no command.
+// A command. Plain holds the arithmetic kinds SET to SHL: kind, d, a, b, v. Stray is a word that is no command.
 pub enum Command {
     Nop,
     Halt,
@@ -120,16 +148,65 @@ pub enum Command {
     Stray,
 }
 
+impl Command {
+    // The kinds, and their count.
+    pub const NOP: u64 = 0;
+
+    pub const HALT: u64 = 1;
+
+    pub const SET: u64 = 2;
+
+    pub const MOVE: u64 = 3;
+
+    pub const ADD: u64 = 4;
+
+    pub const SUB: u64 = 5;
+
+    pub const AND: u64 = 6;
+
+    pub const OR: u64 = 7;
+
+    pub const SAR: u64 = 8;
+
+    pub const ANDI: u64 = 9;
+
+    pub const ORI: u64 = 10;
+
+    pub const SHL: u64 = 11;
+
+    pub const LOAD: u64 = 12;
+
+    pub const STORE: u64 = 13;
+
+    pub const GOIF: u64 = 14;
+
+    pub const GOXR: u64 = 15;
+
+    pub const LOOK: u64 = 16;
+
+    pub const STOPIF: u64 = 17;
+
+    pub const KEEP: u64 = 18;
+
+    pub const EVENT: u64 = 19;
+
+    pub const KINDS: u64 = Command::EVENT + 1;
+}
+
 // The words of one bundle.
 pub struct Bundle {
-    pub words: [u64; 4],
+    pub words: [u64; Bundle::LENGTH],
 }
 
 impl Bundle {
     // Commands of a bundle.
     pub const LENGTH: usize = 4;
-    // The most bundles of a list.
+    // The most bundles of a list, and their commands.
     pub const MOST: usize = 1024;
+
+    pub const MOST_COMMANDS: usize = Bundle::LENGTH * Bundle::MOST;
+    // The shift that makes of an instruction's number the distance of its bundle.
+    pub const SHIFT: u64 = 2;
 }
 
 pub enum Status {

@@ -13,26 +13,26 @@ fn stray(k: u64) -> u64
     ensures { λ r. ⌜ r ≡ strayOf (limitsOf k) ⌝ }
 {
     match k {
-        0 => 0xFFFF_FFFF_FFFF_FF00,
-        1 => 0xFFFF_FFFF_FFFF_FF00,
-        2 => 0x0000_0000_FFFF_F000,
-        3 => 0xFFFF_FFFF_FFFF_0000,
-        4 => 0xFFFF_FFFF_FFF0_0000,
-        5 => 0xFFFF_FFFF_FFF0_0000,
-        6 => 0xFFFF_FFFF_FFF0_0000,
-        7 => 0xFFFF_FFFF_FFF0_0000,
-        8 => 0xFFFF_FFE0_FFFF_0000,
-        9 => 0x0000_0000_FFFF_0000,
-        10 => 0x0000_0000_FFFF_0000,
-        11 => 0xFFFF_FFE0_FFFF_0000,
-        12 => 0xFFFF_FFFF_FFFF_0000,
-        13 => 0xFFFF_FFFF_FFF0_0F00,
-        14 => 0x0000_0000_FFC0_0F00,
-        15 => 0xFFFF_FFFF_FFC0_0000,
-        16 => 0xFFFF_FFF0_FFFF_F000,
-        17 => 0xFFFF_FFFF_FFFF_F000,
-        18 => 0xFFFF_FFFF_FFFF_F000,
-        19 => 0xFFFF_FFF0_FFFF_FF00,
+        Command::NOP => 0xFFFF_FFFF_FFFF_FF00,
+        Command::HALT => 0xFFFF_FFFF_FFFF_FF00,
+        Command::SET => 0x0000_0000_FFFF_F000,
+        Command::MOVE => 0xFFFF_FFFF_FFFF_0000,
+        Command::ADD => 0xFFFF_FFFF_FFF0_0000,
+        Command::SUB => 0xFFFF_FFFF_FFF0_0000,
+        Command::AND => 0xFFFF_FFFF_FFF0_0000,
+        Command::OR => 0xFFFF_FFFF_FFF0_0000,
+        Command::SAR => 0xFFFF_FFE0_FFFF_0000,
+        Command::ANDI => 0x0000_0000_FFFF_0000,
+        Command::ORI => 0x0000_0000_FFFF_0000,
+        Command::SHL => 0xFFFF_FFE0_FFFF_0000,
+        Command::LOAD => 0xFFFF_FFFF_FFFF_0000,
+        Command::STORE => 0xFFFF_FFFF_FFF0_0F00,
+        Command::GOIF => 0x0000_0000_FFC0_0F00,
+        Command::GOXR => 0xFFFF_FFFF_FFC0_0000,
+        Command::LOOK => 0xFFFF_FFF0_FFFF_F000,
+        Command::STOPIF => 0xFFFF_FFFF_FFFF_F000,
+        Command::KEEP => 0xFFFF_FFFF_FFFF_F000,
+        Command::EVENT => 0xFFFF_FFF0_FFFF_FF00,
         _ => 0,
     }
 }
@@ -51,13 +51,13 @@ pub fn is_command(w: u64) -> bool
     ensures { λ r. ⌜ r ≡ isCommand w ⌝ }
 {
     let k = w % 256;
-    if k < 20 {
+    if k < Command::KINDS {
         return is_of_kind(k, w);
     }
     false
 }
 
-// The command that a word stands for; kinds 2 to 11 are the plain ones.
+// The command that a word stands for.
 pub fn command(w: u64) -> Command
     ensures { λ r. ⌜ r ≡ commandOf w ⌝ }
 {
@@ -71,17 +71,17 @@ pub fn command(w: u64) -> Command
     let c = (w >> 20) % 16;
     let v = w >> 32;
     match kind {
-        0 => Command::Nop,
-        1 => Command::Halt,
-        2..=11 => Command::Plain(kind, d, a, b, v),
-        12 => Command::Load(d, a),
-        13 => Command::Store(a, b),
-        14 => Command::GoIf(a, b, c, v),
-        15 => Command::GoReg(d, a, b, c),
-        16 => Command::Look(d, v),
-        17 => Command::StopIf(d),
-        18 => Command::Keep(d),
-        19 => Command::Event(v),
+        Command::NOP => Command::Nop,
+        Command::HALT => Command::Halt,
+        Command::SET..=Command::SHL => Command::Plain(kind, d, a, b, v),
+        Command::LOAD => Command::Load(d, a),
+        Command::STORE => Command::Store(a, b),
+        Command::GOIF => Command::GoIf(a, b, c, v),
+        Command::GOXR => Command::GoReg(d, a, b, c),
+        Command::LOOK => Command::Look(d, v),
+        Command::STOPIF => Command::StopIf(d),
+        Command::KEEP => Command::Keep(d),
+        Command::EVENT => Command::Event(v),
         _ => Command::Stray,
     }
 }

@@ -16,7 +16,7 @@ pub fn bundles(n: u32) -> usize
 pub fn count_right(k: usize) -> bool
     ensures { λ r. ⌜ r ≡ countRight k ⌝ }
 {
-    (k <= Bundle::LENGTH * Bundle::MOST)
+    (k <= Bundle::MOST_COMMANDS)
         & (k % Bundle::LENGTH == 0)
         & (usize::count_ones(k / Bundle::LENGTH) == 1)
 }

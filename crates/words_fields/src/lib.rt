@@ -39,7 +39,7 @@ pub fn guests(w: u64) -> bool
     (pairs & (pairs >> 2)) & 0x1_1100 == 0
 }
 
-// By its kind; kinds 1 to 7 are the plain ones.
+// By its kind.
 pub fn instruction(w: u64) -> Instr
     ensures { λ r. ⌜ r ≡ instrOf w ⌝ }
 {
@@ -50,12 +50,12 @@ pub fn instruction(w: u64) -> Instr
     let c = (w >> 20) % 16;
     let v = w >> 32;
     match kind {
-        0 => Instr::HALT,
-        1..=7 => Instr::PLAIN(kind, d, a, b, v),
-        8 => Instr::LOAD(d, a),
-        9 => Instr::STORE(a, b),
-        10 => Instr::GOIF(a, b, c, v),
-        11 => Instr::GOX(d, a, b, c),
+        Instr::KIND_HALT => Instr::HALT,
+        Instr::KIND_SET..=Instr::KIND_SAR => Instr::PLAIN(kind, d, a, b, v),
+        Instr::KIND_LOAD => Instr::LOAD(d, a),
+        Instr::KIND_STORE => Instr::STORE(a, b),
+        Instr::KIND_GOIF => Instr::GOIF(a, b, c, v),
+        Instr::KIND_GOX => Instr::GOX(d, a, b, c),
         _ => Instr::EVENT(v),
     }
 }

@@ -1,5 +1,6 @@
 // The first refusal of a guest word, alone and among others.
 use rules::Answer;
+use rules::Instr;
 use rules::Refusal;
 use words_fields::fields;
 use words_fields::guests;
@@ -13,28 +14,25 @@ ghost use Rattle.rules.specs.Names.{topKind};
 ghost use Rattle.rules.specs.Words.{guestLimits, judgeWord, judgeAt, firstRefused};
 ghost use Rattle.words_fields.specs.Strays.{strayOf};
 
-// The kind with a landing.
-const GOIF: u64 = 10;
-
 // The bits that no instruction of a kind has: those of the fields that it lacks, and those above the bounds of c and v.
 fn stray_bits(k: u64) -> u64
     requires { ⌜ k ≤ topKind ⌝ }
     ensures { λ r. ⌜ r ≡ strayOf (guestLimits k) ⌝ }
 {
     match k {
-        0 => 0xFFFF_FFFF_FFFF_FF00,
-        1 => 0x0000_0000_FFFF_F000,
-        2 => 0xFFFF_FFFF_FFFF_0000,
-        3 => 0xFFFF_FFFF_FFF0_0000,
-        4 => 0xFFFF_FFFF_FFF0_0000,
-        5 => 0xFFFF_FFFF_FFF0_0000,
-        6 => 0xFFFF_FFFF_FFF0_0000,
-        7 => 0xFFFF_FFE0_FFFF_0000,
-        8 => 0xFFFF_FFFF_FFFF_0000,
-        9 => 0xFFFF_FFFF_FFF0_0F00,
-        10 => 0x0000_0000_FFC0_0F00,
-        11 => 0xFFFF_FFFF_FFC0_0000,
-        12 => 0xFFFF_FFF0_FFFF_FF00,
+        Instr::KIND_HALT => 0xFFFF_FFFF_FFFF_FF00,
+        Instr::KIND_SET => 0x0000_0000_FFFF_F000,
+        Instr::KIND_MOVE => 0xFFFF_FFFF_FFFF_0000,
+        Instr::KIND_ADD => 0xFFFF_FFFF_FFF0_0000,
+        Instr::KIND_SUB => 0xFFFF_FFFF_FFF0_0000,
+        Instr::KIND_AND => 0xFFFF_FFFF_FFF0_0000,
+        Instr::KIND_OR => 0xFFFF_FFFF_FFF0_0000,
+        Instr::KIND_SAR => 0xFFFF_FFE0_FFFF_0000,
+        Instr::KIND_LOAD => 0xFFFF_FFFF_FFFF_0000,
+        Instr::KIND_STORE => 0xFFFF_FFFF_FFF0_0F00,
+        Instr::KIND_GOIF => 0x0000_0000_FFC0_0F00,
+        Instr::KIND_GOX => 0xFFFF_FFFF_FFC0_0000,
+        Instr::KIND_EVENT => 0xFFFF_FFF0_FFFF_FF00,
         _ => 0,
     }
 }
@@ -71,7 +69,7 @@ pub fn judge_word(w: u64) -> u8
 pub fn judge_at(n: usize, w: u64) -> u8
     ensures { λ r. ⌜ r ≡ judgeAt n w ⌝ }
 {
-    let landing_bad = (w % 256 == GOIF) & ((n as u64) < w >> 32);
+    let landing_bad = (w % 256 == Instr::KIND_GOIF) & ((n as u64) < w >> 32);
     if clean(w) & !landing_bad {
         return Refusal::TAKEN;
     }

@@ -1,5 +1,6 @@
 // The first refusal of an instruction, by its fields.
 use rules::Fields;
+use rules::Instr;
 use rules::Limits;
 use rules::Machine;
 use rules::Policy;
@@ -10,7 +11,7 @@ ghost use Rattle.rules.specs.Names.{topKind};
 ghost use Rattle.rules.specs.Words.{limitOf, guestLimits, hasStray, hasHigh, judgeOf};
 
 // The greatest kind, the greatest guest register and the greatest condition.
-pub const TOP_KIND: u64 = 12;
+pub const TOP_KIND: u64 = Instr::KIND_EVENT;
 
 const TOP_GUEST: u64 = Machine::HIDDEN as u64 - 1;
 
@@ -35,19 +36,19 @@ fn limits_of(k: u64) -> Limits
     ensures { λ r. ⌜ r ≡ guestLimits k ⌝ }
 {
     match k {
-        0 => limits(0, 0, 0, 0, 0),
-        1 => limits(TOP_GUEST, 0, 0, 0, TOP_WORD),
-        2 => limits(TOP_GUEST, TOP_GUEST, 0, 0, 0),
-        3 => limits(TOP_GUEST, TOP_GUEST, TOP_GUEST, 0, 0),
-        4 => limits(TOP_GUEST, TOP_GUEST, TOP_GUEST, 0, 0),
-        5 => limits(TOP_GUEST, TOP_GUEST, TOP_GUEST, 0, 0),
-        6 => limits(TOP_GUEST, TOP_GUEST, TOP_GUEST, 0, 0),
-        7 => limits(TOP_GUEST, TOP_GUEST, 0, 0, TOP_SHIFT),
-        8 => limits(TOP_GUEST, TOP_GUEST, 0, 0, 0),
-        9 => limits(0, TOP_GUEST, TOP_GUEST, 0, 0),
-        10 => limits(0, TOP_GUEST, TOP_GUEST, TOP_CONDITION, TOP_WORD),
-        11 => limits(TOP_GUEST, TOP_GUEST, TOP_GUEST, TOP_CONDITION, 0),
-        12 => limits(0, 0, 0, 0, TOP_EVENT),
+        Instr::KIND_HALT => limits(0, 0, 0, 0, 0),
+        Instr::KIND_SET => limits(TOP_GUEST, 0, 0, 0, TOP_WORD),
+        Instr::KIND_MOVE => limits(TOP_GUEST, TOP_GUEST, 0, 0, 0),
+        Instr::KIND_ADD => limits(TOP_GUEST, TOP_GUEST, TOP_GUEST, 0, 0),
+        Instr::KIND_SUB => limits(TOP_GUEST, TOP_GUEST, TOP_GUEST, 0, 0),
+        Instr::KIND_AND => limits(TOP_GUEST, TOP_GUEST, TOP_GUEST, 0, 0),
+        Instr::KIND_OR => limits(TOP_GUEST, TOP_GUEST, TOP_GUEST, 0, 0),
+        Instr::KIND_SAR => limits(TOP_GUEST, TOP_GUEST, 0, 0, TOP_SHIFT),
+        Instr::KIND_LOAD => limits(TOP_GUEST, TOP_GUEST, 0, 0, 0),
+        Instr::KIND_STORE => limits(0, TOP_GUEST, TOP_GUEST, 0, 0),
+        Instr::KIND_GOIF => limits(0, TOP_GUEST, TOP_GUEST, TOP_CONDITION, TOP_WORD),
+        Instr::KIND_GOX => limits(TOP_GUEST, TOP_GUEST, TOP_GUEST, TOP_CONDITION, 0),
+        Instr::KIND_EVENT => limits(0, 0, 0, 0, TOP_EVENT),
         _ => limits(0, 0, 0, 0, 0),
     }
 }
