@@ -7,14 +7,15 @@ use Prim.Native.Nat.{ℕ, zero, suc, _+_, _-_, _*_, _<_, _≤_}
 use native.Mathlib.Omega.{arith}
 use borrow.Author.Tests.{lt-ltb, le-ltb, eq-eqb, ne-eqb, ltb-true}
 use lib.Dec.{ltb}
-use lib.ListN.{length}
+use lib.ListN.{length, length-set}
 use Rattle.rules.specs.declared.Layout.{Layout}
 use Rattle.rules.specs.declared.Instr.the-variants.{EVENT}
 use Rattle.rules.specs.declared.Status.{Status}
 use Rattle.rules.specs.declared.Status.the-variants.{Running, Ended, Stopped, Faulted, Strayed}
 use Rattle.rules.specs.declared.Ending.{Ending}
-use Rattle.rules.specs.declared.Ending.the-variants.{LogFull, Silent}
-use Rattle.rules.specs.declared.Effect.the-variants.{End, Wait}
+use Rattle.rules.specs.declared.Ending.the-variants.{LogFull, Silent, Spent}
+use Rattle.rules.specs.declared.Effect.{Effect}
+use Rattle.rules.specs.declared.Effect.the-variants.{Go, Put, Cell, Order, Probe, End, Wait}
 use Rattle.rules.specs.declared.Answer.{Answer}
 use Rattle.rules.specs.Names.{orders, noArrow, mostInstructions, answer, orElse}
 use Rattle.rules.specs.Layouts.{rightLayout}
@@ -22,105 +23,128 @@ use Rattle.rules.specs.Words.{judgeAt, routine, bundlesFor}
 use Rattle.rules.specs.Bundles.{placeAnswer, rewriteAnswer}
 use Rattle.rules.specs.Machines.{State, applyOf, seen, endingOf, eventEffect}
 use Rattle.rules.proofs.Bools.{no, cases}
-use Rattle.rules.proofs.Loops.{over-ind}
+use Rattle.rules.proofs.Loops.{over-from, wait-from, go-from, keeps}
 use Rattle.rules.proofs.Refusals.{refused-map, else-kept, else-none}
-use Rattle.engine_rules.specs.declared.Engine.{Engine}
-use Rattle.engine_rules.specs.Engines.{sendOf, actOf, nextFor, nextOf, entryAt, movedOf, effectOn, endedIn, runFrom, startOf, refusalBy, refusalOf, runOf}
+use Rattle.engine_rules.specs.Engines.{sendOf, actOf, nextFor, nextOf, entryAt, movedOf, effectOn, Ran, endedIn, leftIn, runFrom, startOf, refusalBy, runOf}
 use Rattle.engine_rules.specs.Order.{addressOf, only, EngineOrder, EngineRefuses, EngineRewriter, EngineTakes}
-use Rattle.engine_rules.proofs.Runs.{taken-size}
-
-module _ (lay : Layout) (ws rd : List ℕ) where
-  over-run : (n k : ℕ) (s : State) → (s .status ≡ Running → ⊥) → runFrom lay ws rd n k s ≡ endedIn (endingOf (s .status)) k s
-  unfolding runFrom
-  over-run zero k s h = refl
-  over-run (suc n) k s h = over-ind (λ r. r ≡ endedIn (endingOf (s .status)) k s) (s .status) (λ _. refl) (λ r. absurd (h r))
-
-  -- an instruction that ends the run
-  end-run : (n : ℕ) (s : State) (t : Status) → s .status ≡ Running → (t ≡ Running → ⊥) → nextOf lay ws rd s ≡ End t → runFrom lay ws rd (suc n) 0 s ≡ endedIn (endingOf t) 1 (effectOn lay rd (End t) s)
-  unfolding runFrom effectOn applyOf movedOf
-  end-run n s t run h e = rw (run, e) (over-run n 1 (effectOn lay rd (End t) s) h)
-
-  -- a pause
-  wait-run : (n : ℕ) (s : State) (e : Ending) → s .status ≡ Running → nextOf lay ws rd s ≡ Wait e → runFrom lay ws rd (suc n) 0 s ≡ endedIn e 0 s
-  unfolding runFrom
-  wait-run n s e run h = rw (run, h)
+use Rattle.engine_rules.proofs.Runs.{engineLoop, taken-size}
+use Rattle.engine_rules.proofs.Moments.{engine-splits}
 
 pub engine-refuses : EngineRefuses
 unfolding runOf
 engine-refuses lay ws m mem budget rd log z = rw (ne-eqb _ _ z)
 
-module _ (lay : Layout) (ws : List ℕ) (m : Engine) (mem rd log : List ℕ) (z : refusalOf lay ws mem .number ≡ 0) where
-  abbrev s : State
-  s = startOf m mem log
+-- ---- no instruction changes the memory's length
+move-length : (lay : Layout) (e : Effect) (mem : List ℕ) → length (movedOf lay e mem) ≡ length mem
+unfolding movedOf
+move-length lay (Go to) mem = refl
+move-length lay (Put d x) mem = refl
+move-length lay (Cell i x) mem = refl
+move-length lay (Order v) mem = length-set mem (lay .cell) (entryAt lay mem v)
+move-length lay (Probe v) mem = length-set mem (lay .cell) (entryAt lay mem v)
+move-length lay (End t) mem = refl
+move-length lay (Wait w) mem = refl
 
-  taken : (n : ℕ) → runOf lay ws m mem n rd log ≡ runFrom lay ws rd n 0 s
-  unfolding runOf
-  taken n = rw (eq-eqb _ _ z)
+step-length : (lay : Layout) (rd : List ℕ) (e : Effect) (s : State) → length (effectOn lay rd e s .mem) ≡ length (s .mem)
+unfolding effectOn applyOf
+step-length lay rd (Go to) s = move-length lay (Go to) (s .mem)
+step-length lay rd (Put d x) s = move-length lay (Put d x) (s .mem)
+step-length lay rd (Cell i x) s = length-set (movedOf lay (Cell i x) (s .mem)) i x ∙ move-length lay (Cell i x) (s .mem)
+step-length lay rd (Order v) s = move-length lay (Order v) (s .mem)
+step-length lay rd (Probe v) s = move-length lay (Probe v) (s .mem)
+step-length lay rd (End t) s = move-length lay (End t) (s .mem)
+step-length lay rd (Wait w) s = move-length lay (Wait w) (s .mem)
 
-  size : length mem ≡ lay .size
-  size = taken-size lay ws mem z
+-- what a run of at most j instructions leaves: a memory as long as it was; if it is no longer running, as its status says; if it is and counted j, spent
+record Left (j len : ℕ) (r : Ran) : Type 0 where
+  size : length (r .mem) ≡ len
+  over : (r .outcome .engine .status ≡ Running → ⊥) → r ≡ endedIn (endingOf (r .outcome .engine .status)) (r .outcome .steps) (leftIn r)
+  spent : r .outcome .engine .status ≡ Running → r .outcome .steps ≡ j → r ≡ endedIn Spent j (leftIn r)
 
-  ends : (more : ℕ) (t : Status) → m .status ≡ Running → (t ≡ Running → ⊥) → nextOf lay ws rd s ≡ End t → runOf lay ws m mem (more + 1) rd log ≡ only m t (endingOf t) 1 mem log
+left-of : (lay : Layout) (ws rd : List ℕ) (j : ℕ) (s : State) → Left j (length (s .mem)) (runFrom lay ws rd j 0 s)
+left-of lay ws rd j s₀ =
+    keeps (engineLoop lay ws rd) (λ n k s. (k + n ≡ j) × (length (s .mem) ≡ length (s₀ .mem))) (Left j (length (s₀ .mem)))
+    (λ n k s i o. record { size = i .1; over = λ _. refl; spent = λ r e. rw (r, e) })
+    (λ n k s i r w z. record { size = i .1; over = λ o. absurd (o r); spent = λ _ e. absurd (omega (arith, i .0)) })
+    (λ n k s i r g. (omega (arith, i .0), step-length lay rd (nextOf lay ws rd s) s ∙ i .1)) j 0 s₀ (omega arith, refl)
+
+-- ---- a run from any state
+module _ (lay : Layout) (ws rd : List ℕ) (k : ℕ) (s : State) (size : length (s .mem) ≡ lay .size) where
+  -- an instruction that ends the run
+  ends : (n : ℕ) (t : Status) → s .status ≡ Running → (t ≡ Running → ⊥) → nextOf lay ws rd s ≡ End t → runFrom lay ws rd (suc n) k s ≡ only s t (endingOf t) (k + 1)
   unfolding effectOn applyOf movedOf
-  ends more t run h e =
-      let k : more + 1 ≡ suc more = omega arith in
-      taken (more + 1) ∙ ap (λ (n : ℕ). runFrom lay ws rd n 0 s) k ∙ end-run lay ws rd more s t run h e
+  ends n t run h e =
+      let l = engineLoop lay ws rd in
+      go-from l n k s run (λ w z. no (cc)) ∙ ap (λ (x : Effect). runFrom lay ws rd n (k + 1) (effectOn lay rd x s)) e ∙ over-from l n (k + 1) (effectOn lay rd (End t) s) h
 
-  waits : (more : ℕ) (e : Ending) → m .status ≡ Running → nextOf lay ws rd s ≡ Wait e → runOf lay ws m mem (more + 1) rd log ≡ only m Running e 0 mem log
-  waits more e run h =
-      let k : more + 1 ≡ suc more = omega arith in
-      taken (more + 1) ∙ ap (λ (n : ℕ). runFrom lay ws rd n 0 s) k ∙ wait-run lay ws rd more s e run h ∙ rw run
+  -- a pause
+  waits : (n : ℕ) (e : Ending) → s .status ≡ Running → nextOf lay ws rd s ≡ Wait e → runFrom lay ws rd (suc n) k s ≡ only s Running e k
+  waits n e run h = wait-from (engineLoop lay ws rd) n k s e run h ∙ rw run
 
-  none-left : m .status ≡ Running → runFrom lay ws rd 0 0 s ≡ only m Running (endingOf Running) 0 mem log
-  unfolding runFrom
-  none-left run = rw run
-
-  module _ (v : ℕ) (l : m .at < bundlesFor (length ws)) (e : routine ws (m .at) ≡ EVENT v) where
+  module _ (v : ℕ) (l : s .pc < bundlesFor (length ws)) (e : routine ws (s .pc) ≡ EVENT v) where
     sends : nextOf lay ws rd s ≡ sendOf v (seen lay rd s)
     unfolding nextFor actOf
     sends = rw (lt-ltb _ _ l, e)
 
-    faulted : lay .size ≤ addressOf lay mem v → nextOf lay ws rd s ≡ End Faulted
+    faulted : lay .size ≤ addressOf lay (s .mem) v → nextOf lay ws rd s ≡ End Faulted
     unfolding sendOf
-    faulted h = sends ∙ rw (le-ltb (addressOf lay mem v) (length mem) (omega (arith, size)))
+    faulted h = sends ∙ rw (le-ltb (addressOf lay (s .mem) v) (length (s .mem)) (omega (arith, size)))
 
-    module _ (h : addressOf lay mem v < lay .size) where
-      inside : addressOf lay mem v < length mem
+    module _ (h : addressOf lay (s .mem) v < lay .size) where
+      inside : addressOf lay (s .mem) v < length (s .mem)
       inside = omega (arith, size)
 
-      stopped : entryAt lay mem v ≡ noArrow → nextOf lay ws rd s ≡ End Stopped
+      stopped : entryAt lay (s .mem) v ≡ noArrow → nextOf lay ws rd s ≡ End Stopped
       unfolding sendOf
-      stopped a = sends ∙ rw (lt-ltb _ _ inside, eq-eqb (entryAt lay mem v) noArrow a)
+      stopped a = sends ∙ rw (lt-ltb _ _ inside, eq-eqb (entryAt lay (s .mem) v) noArrow a)
 
-      pub paused : (entryAt lay mem v ≡ noArrow → ⊥) → nextOf lay ws rd s ≡ eventEffect v (length log - 2 * 0) (length rd - 0)
+      pub paused : (entryAt lay (s .mem) v ≡ noArrow → ⊥) → nextOf lay ws rd s ≡ eventEffect v (length (s .log) - 2 * s .pairs) (length rd - s .used)
       unfolding sendOf
-      paused a = sends ∙ rw (lt-ltb _ _ inside, ne-eqb (entryAt lay mem v) noArrow a)
+      paused a = sends ∙ rw (lt-ltb _ _ inside, ne-eqb (entryAt lay (s .mem) v) noArrow a)
 
-  silent-by : (v : ℕ) → orders ≤ v → length rd ≡ 0 → eventEffect v (length log - 2 * 0) (length rd - 0) ≡ Wait Silent
-  silent-by v o r = rw (le-ltb v orders o, eq-eqb (length rd - 0) 0 (omega arith))
+silent-by : (v free left : ℕ) → orders ≤ v → left ≡ 0 → eventEffect v free left ≡ Wait Silent
+silent-by v free left o r = rw (le-ltb v orders o, eq-eqb left 0 r)
 
-  full-by : (v : ℕ) → ((v < orders) ⊎ (1 ≤ length rd)) → length log < 2 → eventEffect v (length log - 2 * 0) (length rd - 0) ≡ Wait LogFull
-  full-by v (inl o) r = rw (lt-ltb v orders o, lt-ltb (length log - 2 * 0) 2 (omega arith))
-  full-by v (inr o) r =
-      ⊎-elim (λ t. full-by-order (ltb-true v orders t)) (λ t. rw (t, ne-eqb (length rd - 0) 0 (λ y. omega arith), lt-ltb (length log - 2 * 0) 2 (omega arith))) (cases (ltb v orders))
-    where
-      full-by-order : v < orders → eventEffect v (length log - 2 * 0) (length rd - 0) ≡ Wait LogFull
-      full-by-order o = rw (lt-ltb v orders o, lt-ltb (length log - 2 * 0) 2 (omega arith))
+full-order : (v free left : ℕ) → v < orders → free < 2 → eventEffect v free left ≡ Wait LogFull
+full-order v free left o r = rw (lt-ltb v orders o, lt-ltb free 2 r)
+
+full-by : (v free left : ℕ) → ((v < orders) ⊎ (0 < left)) → free < 2 → eventEffect v free left ≡ Wait LogFull
+full-by v free left (inl o) r = full-order v free left o r
+full-by v free left (inr o) r =
+    ⊎-elim (λ t. full-order v free left (ltb-true v orders t) r) (λ t. rw (t, ne-eqb left 0 (λ y. omega arith), lt-ltb free 2 r)) (cases (ltb v orders))
+
+-- a run that is over stays so, whatever its budget
+over-on : (lay : Layout) (ws rd : List ℕ) (j n : ℕ) (first : State) → Left j (length (first .mem)) (runFrom lay ws rd j 0 first) → let s = leftIn (runFrom lay ws rd j 0 first) in (s .status ≡ Running → ⊥) → runFrom lay ws rd (j + n) 0 first ≡ endedIn (endingOf (s .status)) (runFrom lay ws rd j 0 first .outcome .steps) s
+over-on lay ws rd j zero first left h = let e : j + 0 ≡ j = omega arith in ap (λ (i : ℕ). runFrom lay ws rd i 0 first) e ∙ left .over h
+over-on lay ws rd j (suc n) first left h = engine-splits lay ws rd j n 0 first ∙ over-from (engineLoop lay ws rd) (suc n) _ (leftIn (runFrom lay ws rd j 0 first)) h
 
 pub engine-order : EngineOrder
-unfolding nextFor actOf
-engine-order lay ws m mem rd log z =
-    record {
-      over = λ budget h. taken lay ws m mem rd log z budget ∙ over-run lay ws rd budget 0 (startOf m mem log) h;
-      spent = λ run. taken lay ws m mem rd log z 0 ∙ none-left lay ws m mem rd log z run;
-      past = λ more run l. ends lay ws m mem rd log z more Faulted run (λ e. no (cc)) (rw (le-ltb _ _ l));
-      outside = λ more v run l e h. ends lay ws m mem rd log z more Faulted run (λ e. no (cc)) (faulted lay ws m mem rd log z v l e h);
-      stops = λ more v run l e h a. ends lay ws m mem rd log z more Stopped run (λ e. no (cc)) (stopped lay ws m mem rd log z v l e h a);
-      silent = λ more v run l e h a o r. waits lay ws m mem rd log z more Silent run (paused lay ws m mem rd log z v l e h a ∙ silent-by lay ws m mem rd log z v o r);
-      full = λ more v run l e h a o r. waits lay ws m mem rd log z more LogFull run (paused lay ws m mem rd log z v l e h a ∙ full-by lay ws m mem rd log z v o r);
-      strays = λ more d a b c run l e h z′. ends lay ws m mem rd log z more Strayed run (λ e. no (cc)) (rw (lt-ltb _ _ l, e, h, z′));
-      halts = λ more run l e. ends lay ws m mem rd log z more Ended run (λ e. no (cc)) (rw (lt-ltb _ _ l, e));
-    }
+unfolding runOf nextFor actOf
+engine-order lay ws m mem rd log j z =
+    let first = startOf m mem log in
+    let r = runFrom lay ws rd j 0 first in
+    let k = r .outcome .steps in
+    let s = leftIn r in
+    let left = left-of lay ws rd j first in
+    let size : length (s .mem) ≡ lay .size = left .size ∙ taken-size lay ws mem z in
+    -- the run with more: it goes on from here
+    let on : (n : ℕ) → runFrom lay ws rd (j + (n + 1)) 0 first ≡ runFrom lay ws rd (suc n) k s =
+    λ n. let e : j + (n + 1) ≡ j + suc n = omega arith in ap (λ (i : ℕ). runFrom lay ws rd i 0 first) e ∙ engine-splits lay ws rd j n 0 first in
+    let none : j + 0 ≡ j = omega arith in
+    let free = length (s .log) - 2 * s .pairs in
+    let rest = length rd - s .used in
+    rw (eq-eqb _ _ z)
+    (record {
+      over = λ n h. over-on lay ws rd j n first left h;
+      spent = λ run e. ap (λ (i : ℕ). runFrom lay ws rd i 0 first) none ∙ left .spent run e ∙ rw (run, e);
+      past = λ n run l. on n ∙ ends lay ws rd k s size n Faulted run (λ e. no (cc)) (rw (le-ltb _ _ l));
+      outside = λ n v run l e h. on n ∙ ends lay ws rd k s size n Faulted run (λ e. no (cc)) (faulted lay ws rd k s size v l e h);
+      stops = λ n v run l e h a. on n ∙ ends lay ws rd k s size n Stopped run (λ e. no (cc)) (stopped lay ws rd k s size v l e h a);
+      silent = λ n v run l e h a o u. on n ∙ waits lay ws rd k s size n Silent run (paused lay ws rd k s size v l e h a ∙ silent-by v free rest o (omega arith));
+      full = λ n v run l e h a o u. on n ∙ waits lay ws rd k s size n LogFull run (paused lay ws rd k s size v l e h a ∙ full-by v free rest (⊎-elim (λ x. inl x) (λ x. inr (omega arith)) o) (omega arith));
+      strays = λ n d a b c run l e h y. on n ∙ ends lay ws rd k s size n Strayed run (λ e. no (cc)) (rw (lt-ltb _ _ l, e, h, y));
+      halts = λ n run l e. on n ∙ ends lay ws rd k s size n Ended run (λ e. no (cc)) (rw (lt-ltb _ _ l, e));
+    })
 
 -- ---- the rewriter's refusals
 refusals : (lay : Layout) (ws : List ℕ) (room : ℕ) (r m : Bool) → rightLayout lay ≡ r → ltb mostInstructions (length ws) ≡ m → rewriteAnswer lay ws room ≡ orElse (refusalBy lay ws (lay .size)) (placeAnswer lay (length ws) room)

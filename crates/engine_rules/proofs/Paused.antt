@@ -123,7 +123,7 @@ engine-pauses lay pol code mem room gs es v w count g h sg sh lent logs readings
     let s = machineStart (c .machine) (g .memory) (g .log) in
     let here : machineNext lay ws (g .readings) s ≡ eventEffect e (length (g .log) - 2 * 0) (length (g .readings) - 0) =
     machine-next lay code (g .readings) room s (G .at) e (v .rewritten) (subst (λ (x : ℕ). x < N) at within) (p .event) (p .agrees .next (w .running)) in
-    let there = paused lay code (n .engine) (h .memory) (h .readings) (h .log) z e within event inside (λ y. p .arrow (sym entry ∙ y)) in
+    let there = paused lay code (h .readings) 0 (startOf (n .engine) (h .memory) (h .log)) sh e within event inside (λ y. p .arrow (sym entry ∙ y)) in
     rw (fit, eq-eqb _ _ z)
     (machine-one lay ws (g .readings) s e (length (g .log) - 2 * 0) (length (g .readings) - 0) (w .running) here
     ∙ ap₂ (λ (x y : ℕ). numberBy (eventEffect e (x - 2 * 0) (y - 0))) logs readings

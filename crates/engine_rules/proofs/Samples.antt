@@ -1,5 +1,5 @@
 -- The premises of the claims can be met, and the definitions compute.
-use mathlib.Core.Path.{_≡_, refl, ap, _∙_}
+use mathlib.Core.Path.{_≡_, refl, ap}
 use mathlib.Core.List.{List, [], _∷_}
 use Prim.Native.Nat.{ℕ, _<_}
 use native.Mathlib.Omega.{arith}
@@ -9,13 +9,15 @@ use Rattle.rules.specs.Layouts.{rightLayout, inBox, inTable, inLandings, protec
 use Rattle.rules.specs.Policies.{rightPolicy}
 use Rattle.rules.specs.Landings.{rightLandings, bitsFrom, landingsOf}
 use Rattle.rules.specs.Words.{judgeOf, judgeAt, firstRefused, instrOf, routine, bundlesFor}
-use Rattle.rules.specs.Commands.{plainOf}
-use Rattle.rules.specs.Bundles.{rewriteAnswer, placeAnswer}
-use Rattle.rules.specs.Machines.{installAnswer, installMemory, applyOf}
-use Rattle.samples.specs.Sample.{layout, policy, code, memory, pausedRun}
+use Rattle.rules.specs.Commands.{wordOf, isCommand, commandOf, fetchOf, plainOf}
+use Rattle.rules.specs.Bundles.{shapeOf, readOff, bundleAt, rewriteAnswer, placeAnswer}
+use Rattle.rules.specs.Machines.{effectOf, installAnswer, installMemory, installMachine, applyOf, runFrom as machineFrom, runOf as machineRunOf}
+use Rattle.rules.specs.Runs.{begins, begunFrom, runOn as machineOn, afterTaken as machineTaken, afterRun as machineRun, afterRuns as machineAll, after as machineAfter}
+use Rattle.rules.specs.Claims.{Waiting}
+use Rattle.samples.specs.Sample.{layout, policy, code, commands, memory, runs as machineRuns, pausedRun}
 use Rattle.samples.proofs.Samples.{free-set, sample-holds as machine-holds}
 use Rattle.engine_rules.specs.Engines.{sendOf, actOf, nextFor, movedOf, effectOn, runFrom, refusalBy, runOf}
-use Rattle.engine_rules.specs.Claims.{runOn, afterTaken, afterRun, afterRuns, runsOf, after, Served}
+use Rattle.engine_rules.specs.Claims.{runOn, afterTaken, afterRun, afterRuns, runsOf, after, Served, Beside}
 use Rattle.engine_rules.specs.Sample.{left, runs, SampleHolds}
 
 served-with : (x : ℕ) → Served layout policy code (memory x) (runs x)
@@ -31,32 +33,49 @@ nothing-used : (x : ℕ) → after layout policy code (memory x) (runs x) .used 
 unfolding ones leadingZeros rightLayout rightPolicy rightLandings bitsFrom landingsOf judgeOf judgeAt firstRefused instrOf routine bundlesFor plainOf installAnswer installMemory applyOf sendOf actOf nextFor movedOf effectOn runFrom refusalBy runOf runOn afterTaken afterRun afterRuns
 nothing-used x = refl
 
+beside-with : (x : ℕ) → Beside layout policy code (memory x) 32 (machineRuns x) (runs x)
+unfolding rightLayout ones judgeOf judgeAt firstRefused rewriteAnswer placeAnswer bundlesFor leadingZeros
+beside-with x =
+    record {
+      rewritten = refl;
+      machine = machine-holds .served x;
+      engine = served-with x;
+      readings = λ i m n. absurd (let z : i < length (after layout policy code (memory x) (runs x) .used) = n in omega (arith, ap (λ (us : List ℕ). length us) (nothing-used x)));
+    }
+
+-- the machine, given no log
+machine-waits : (x : ℕ) → Waiting layout commands (machineAfter layout policy commands (memory x) (pausedRun x ∷ []) .machine) × (machineAfter layout policy commands (memory x) (pausedRun x ∷ []) .begun ≡ 2)
+unfolding ones leadingZeros rightLayout rightPolicy rightLandings bitsFrom landingsOf instrOf routine bundlesFor wordOf shapeOf readOff bundleAt isCommand commandOf fetchOf plainOf installAnswer installMemory installMachine effectOf applyOf machineFrom machineRunOf begins begunFrom machineOn machineTaken machineRun machineAll
+machine-waits x = (record { running = refl; event = 0; third = refl }, refl)
+
+-- and neither uses a reading
+unread : (x : ℕ) → after layout policy code (memory x) (pausedRun x ∷ []) .used ≡ []
+unfolding ones leadingZeros rightLayout rightPolicy rightLandings bitsFrom landingsOf judgeOf judgeAt firstRefused instrOf routine bundlesFor plainOf installAnswer installMemory applyOf sendOf actOf nextFor movedOf effectOn runFrom refusalBy runOf runOn afterTaken afterRun afterRuns
+unread x = refl
+
+waits-with : (x : ℕ) → Beside layout policy code (memory x) 32 (pausedRun x ∷ []) (pausedRun x ∷ [])
+waits-with x =
+    record {
+      rewritten = beside-with x .rewritten;
+      machine = record { passed = machine-holds .served x .passed; installed = machine-holds .served x .installed; lends = (λ l i s. refl, tt) };
+      engine = record { taken = served-with x .taken; installed = served-with x .installed; lends = (λ l i s. refl, tt) };
+      readings = λ i m n. absurd (let z : i < length (after layout policy code (memory x) (pausedRun x ∷ []) .used) = n in omega (arith, ap (λ (us : List ℕ). length us) (unread x)));
+    }
+
 pub sample-holds : SampleHolds
 unfolding ones leadingZeros rightLayout rightPolicy rightLandings bitsFrom landingsOf judgeOf judgeAt firstRefused instrOf routine bundlesFor plainOf installAnswer installMemory applyOf sendOf actOf nextFor movedOf effectOn runFrom refusalBy runOf runOn afterTaken afterRun afterRuns runsOf rewriteAnswer placeAnswer
 sample-holds =
     record {
       served = served-with;
-      beside =
-          λ x y.
-          record {
-            rewritten = refl;
-            machine = machine-holds .served x;
-            engine = served-with x;
-            readings = λ i m n. absurd (let z : i < length (after layout policy code (memory x) (runs x) .used) = n in omega (arith, ap (λ (us : List ℕ). length us) (nothing-used x)));
-          };
+      beside = λ x y. beside-with x;
       answers = λ x. refl;
       counted = λ x. refl;
       recorded = λ x. refl;
       state = λ x. refl;
-      pausedBeside =
-          λ x.
-          record {
-            rewritten = refl;
-            machine = machine-holds .pausedServed x;
-            engine = record { taken = refl; installed = refl; lends = (λ l i s. refl, tt) };
-            readings = λ i m n. absurd (let z : i < length (after layout policy code (memory x) (pausedRun x ∷ []) .used) = n in let q : i < 0 = z in omega arith);
-          };
-      begun = λ x. machine-holds .waitingBegun x;
+      waits = waits-with;
+      third = λ x. machine-waits x .0;
+      behind = λ x. machine-waits x .1;
+      paused = λ x. refl;
       unknown = refl;
       landing = refl;
     }

@@ -9,6 +9,7 @@ use Rattle.rules.specs.Words.{packOf}
 use Rattle.rules.specs.Machines.{installMemory}
 use Rattle.rules.specs.Guests.{pairOf}
 use Rattle.rules.specs.Runs.{Given, after as machineAfter}
+use Rattle.rules.specs.Claims.{Waiting}
 use Rattle.samples.specs.Sample.{layout, policy, code, commands, memory, given, runs as machineRuns, pausedRun}
 use Rattle.engine_rules.specs.Engines.{refusalOf}
 use Rattle.engine_rules.specs.Claims.{atFirst, afterRun, after, Served, Beside, Run, allRuns, recordedIn}
@@ -38,9 +39,11 @@ pub record SampleHolds : Type 0 where
   pub counted : (x : ℕ) → countsIn (allRuns layout policy code (memory x) (runs x)) ≡ 2 ∷ 0 ∷ 2 ∷ []
   pub recorded : (x : ℕ) → recordedIn (allRuns layout policy code (memory x) (runs x)) ≡ pairOf 0 70 ∷ pairOf 2 70 ∷ []
   pub state : (x : ℕ) → getD (after layout policy code (memory x) (runs x) .memory) (layout .cell) 0 ≡ 1
-  -- without a log both wait for the first event: of the bundles that the machine began that one is not done
-  pub pausedBeside : (x : ℕ) → Beside layout policy code (memory x) 32 (pausedRun x ∷ []) (pausedRun x ∷ [])
-  pub begun : (x : ℕ) → machineAfter layout policy commands (memory x) (pausedRun x ∷ []) .begun ≡ after layout policy code (memory x) (pausedRun x ∷ []) .counted + 1
+  -- given no log both wait for the first event: the machine on the third command of its bundle, the engine before it, which is behind by that bundle
+  pub waits : (x : ℕ) → Beside layout policy code (memory x) 32 (pausedRun x ∷ []) (pausedRun x ∷ [])
+  pub third : (x : ℕ) → Waiting layout commands (machineAfter layout policy commands (memory x) (pausedRun x ∷ []) .machine)
+  pub behind : (x : ℕ) → machineAfter layout policy commands (memory x) (pausedRun x ∷ []) .begun ≡ after layout policy code (memory x) (pausedRun x ∷ []) .counted + 1
+  pub paused : (x : ℕ) → answersIn (allRuns layout policy code (memory x) (pausedRun x ∷ [])) ≡ answer 23 0 ∷ []
   -- a kind above 12 in the second word, and a landing beyond
   pub unknown : refusalOf layout (packOf 1 0 0 0 0 70 ∷ packOf 13 0 0 0 0 0 ∷ []) (memory 0) ≡ answer 3 1
   pub landing : refusalOf layout (packOf 10 0 0 0 0 2 ∷ []) (memory 0) ≡ answer 8 0
