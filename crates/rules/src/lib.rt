@@ -1,7 +1,10 @@
-// The types that the sandbox's parts share, their named numbers, and the constructors of layout and machine.
+// The types that the sandbox's parts share, their named numbers, and the constructors of layout, machine, answer and outcome.
 ghost use mathlib.Core.Path.{_≡_};
+ghost use Rattle.rules.specs.declared.Ending.the-variants.{Refused};
+ghost use Rattle.rules.specs.declared.Refusal.the-variants.{Taken};
+ghost use Rattle.rules.specs.Names.{numberOf, endingNumber, answer};
 ghost use Rattle.rules.specs.Layouts.{layoutOf};
-ghost use Rattle.rules.specs.Machines.{machineAt, machineRefused};
+ghost use Rattle.rules.specs.Machines.{machineAt, machineRefused, endingOf, outcomeOf};
 
 // The layout of one drum: U, SL, SH, M, P, S, B and Q, and the ceilings of events 0 to 7.
 pub struct Layout {
@@ -322,6 +325,32 @@ pub struct Answer {
     pub place: usize,
 }
 
+impl Answer {
+    // A refusal that has no place.
+    pub fn refused(number: u8) -> Answer
+        ensures { λ r. ⌜ r ≡ answer number 0 ⌝ }
+    {
+        Answer { number, place: 0 }
+    }
+
+    // A refusal at a place: of an instruction or of a bundle.
+    pub fn refused_at(number: u8, place: usize) -> Answer
+        ensures { λ r. ⌜ r ≡ answer number place ⌝ }
+    {
+        Answer { number, place }
+    }
+
+    // No refusal; the place is what was written, or 0.
+    pub fn taken(place: usize) -> Answer
+        ensures { λ r. ⌜ r ≡ answer (numberOf Taken) place ⌝ }
+    {
+        Answer {
+            number: Refusal::TAKEN,
+            place,
+        }
+    }
+}
+
 // One instruction read: its word and the bytes that it took, or the refusal's number.
 pub enum One {
     Word(u64, usize),
@@ -340,6 +369,37 @@ pub enum Ending {
     Refused,
 }
 
+impl Ending {
+    // What a run answers that ends with this status and no pause.
+    pub fn of(status: Status) -> Ending
+        ensures { λ r. ⌜ r ≡ endingOf status ⌝ }
+    {
+        match status {
+            Status::Running => Ending::Spent,
+            Status::Ended => Ending::Done,
+            Status::Stopped => Ending::NoArrow,
+            Status::Faulted => Ending::Fault,
+            Status::Strayed => Ending::NoLanding,
+        }
+    }
+
+    // Document 01's number of an ending.
+    pub fn number(self) -> u8
+        ensures { λ r. ⌜ r ≡ endingNumber self ⌝ }
+    {
+        match self {
+            Ending::Done => 20,
+            Ending::NoArrow => 21,
+            Ending::Fault => 22,
+            Ending::LogFull => 23,
+            Ending::Silent => 24,
+            Ending::Spent => 25,
+            Ending::NoLanding => 26,
+            Ending::Refused => Refusal::BAD_LAYOUT,
+        }
+    }
+}
+
 // What a run answers: its ending, the steps taken, the pairs recorded and the readings used.
 pub struct RunAnswer {
     pub ending: Ending,
@@ -352,6 +412,23 @@ pub struct RunAnswer {
 pub struct Outcome {
     pub machine: Machine,
     pub answer: RunAnswer,
+}
+
+impl Outcome {
+    // A refused run: the record that was given, 7 and three zeros.
+    pub fn refused(machine: Machine) -> Outcome
+        ensures { λ r. ⌜ r ≡ outcomeOf machine Refused 0 0 0 ⌝ }
+    {
+        Outcome {
+            machine,
+            answer: RunAnswer {
+                ending: Ending::Refused,
+                steps: 0,
+                pairs: 0,
+                used: 0,
+            },
+        }
+    }
 }
 
 // Installing's answer and the record that it yields.
