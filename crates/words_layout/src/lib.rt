@@ -2,6 +2,8 @@
 use rules::Layout;
 use rules::Policy;
 ghost use mathlib.Core.Path.{_≡_};
+ghost use mathlib.Core.Bool.{_&&_};
+ghost use lib.Dec.{eqb};
 ghost use Rattle.rules.specs.Layouts.{rightLayout, maskOf, widthOf};
 
 // Whether a layout is right. SH < U is tested before SH − SL + 1 is formed, which could wrap otherwise.
@@ -42,6 +44,13 @@ pub fn right(l: Layout) -> bool
         & ((high < landings) | (landings_end <= low as u64))
         & ((end <= landings as u64) | (landings_end <= table as u64));
     in_range & (aligned & (in_memory & apart))
+}
+
+// Whether a layout is right and a memory of so many cells has its size: what 7 does not refuse.
+pub fn fits(l: Layout, cells: usize) -> bool
+    ensures { λ r. ⌜ r ≡ (rightLayout l && eqb cells (l .size)) ⌝ }
+{
+    right(l) & (cells == l.size as usize)
 }
 
 // The mask of an address, for data and code alike.
