@@ -41,7 +41,7 @@ fn next(states: usize, arrows: &[u16], x: u16, n: usize) -> u16
     let mut k: usize = 0;
     while k < states {
         set = set | part(x, k, arrows[EVENTS * k + n]);
-        k = k + 1;
+        k += 1;
     }
     set
 }
@@ -63,7 +63,7 @@ fn maps_right(states: usize, arrows: &[u16]) -> bool
     let mut i: usize = 0;
     while i < arrows.len() {
         ok = ok & below(arrows[i], states);
-        i = i + 1;
+        i += 1;
     }
     ok
 }
@@ -102,7 +102,7 @@ fn explore(states: usize, starts: u16, arrows: &[u16]) -> Found
                 k % EVENTS,
             ),
         );
-        k = k + 1;
+        k += 1;
     }
     found
 }

@@ -4,13 +4,21 @@ use mathlib.Core.Bool.{Bool, _&&_, _||_, not, cond}
 use mathlib.Core.List.{List, [], _∷_}
 use lib.ListN.{length, getD, replicate}
 use lib.Dec.{eqb, ltb}
+use Rattle.rules.specs.declared.Policy.{Policy as Numbers}
 use Rattle.rules.specs.declared.Refusal.the-variants.{BadPolicy}
 use Rattle.rules.specs.Names.{mostStates, events, orders, noArrow, refusal, ifTaken, first}
-use Rattle.rules.specs.Policies.{Policy, arrow, entriesRight, statesRight}
+use Rattle.rules.specs.Policies.{Policy, policyOf, arrow, entriesRight, statesRight}
 use Rattle.policy_maps.specs.Maps.{build}
 use Rattle.policy_exploration.specs.Reach.{policyFrom, madeWith, reachOf, reachTable}
 use Rattle.policy_exploration.specs.declared.Made.{Made}
 use Rattle.policy_merge.specs.declared.Merged.{Merged}
+
+-- a lent table with its policy's numbers, and one with none, of which only the arrows are asked; merging knows no landings
+abbrev pub sideOf : Numbers → List ℕ → Policy
+sideOf p t = policyOf (p .states) (p .start) t []
+
+abbrev pub arrowsOf : List ℕ → Policy
+arrowsOf t = policyOf 0 0 t []
 
 -- the node of a pair of states, above 0, and the two states of a node
 abbrev pub pair : ℕ → ℕ → ℕ

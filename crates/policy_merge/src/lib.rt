@@ -5,14 +5,13 @@ use rules::Answer;
 use rules::Layout;
 use rules::Policy;
 use rules::Refusal;
+use words_cells::index_of;
 ghost use mathlib.Core.Path.{_≡_};
-ghost use mathlib.Core.List.{[]};
 ghost use Prim.Native.Nat.{_+_, _*_, _^_, _<_, min};
 ghost use lib.ListN.{length, getD};
 ghost use Rattle.rules.specs.Names.{events, noArrow};
-ghost use Rattle.rules.specs.Policies.{policyOf};
 ghost use Rattle.policy_exploration.specs.Founds.{Explored};
-ghost use Rattle.policy_merge.specs.Pairs.{pair as pairOf, both as bothOf, pairAfter, sideRight, smaller as smallerOf, pairsOf, withCeilings, mergeOf, mergeTable};
+ghost use Rattle.policy_merge.specs.Pairs.{sideOf, arrowsOf, pair as pairOf, both as bothOf, pairAfter, sideRight, smaller as smallerOf, pairsOf, withCeilings, mergeOf, mergeTable};
 
 // The most states of a policy.
 const MOST: usize = Layout::MOST_STATES as usize;
@@ -41,18 +40,12 @@ pub struct Merged {
 
 // Whether 10 does not refuse a policy.
 fn side_right(policy: Policy, table: &[u8]) -> bool
-    ensures { λ r. ⌜ r ≡ sideRight (policyOf (policy .states) (policy .start) (now (table .entry)) []) ⌝ }
+    ensures { λ r. ⌜ r ≡ sideRight (sideOf policy (now (table .entry))) ⌝ }
 {
     let states = policy.states;
     let known = installer_words::states_right(states);
     let entries = installer_tables::entries_right(states, table);
     known & (table.len() == EVENTS * states as usize) & (policy.start < states) & entries
-}
-
-fn index(x: u8) -> usize
-    ensures { λ r. ⌜ (r ≡ x) × (r < 256) ⌝ }
-{
-    x as usize
 }
 
 // The state after an event in a state, or no arrow; there is none where the table has no entry.
@@ -62,7 +55,7 @@ fn arrow(table: &[u8], s: usize, n: usize) -> usize
 {
     let at = EVENTS * s + n;
     if at < table.len() {
-        index(table[at])
+        index_of(table[at])
     } else {
         NO_ARROW
     }
@@ -93,7 +86,7 @@ fn both(s: usize, t: usize) -> u16
 // The pair after an event in a pair: of the policies, the tables say it alone.
 fn next(left: &[u8], right: &[u8], x: u16, n: usize) -> u16
     requires { ⌜ n < events ⌝ }
-    ensures { λ r. ⌜ r ≡ pairAfter (policyOf 0 0 (now (left .entry)) []) (policyOf 0 0 (now (right .entry)) []) x n ⌝ }
+    ensures { λ r. ⌜ r ≡ pairAfter (arrowsOf (now (left .entry))) (arrowsOf (now (right .entry))) x n ⌝ }
 {
     if x == 0 {
         return 0;
@@ -105,7 +98,7 @@ fn next(left: &[u8], right: &[u8], x: u16, n: usize) -> u16
 // The pairs that events lead to from a pair.
 fn explore(left: &[u8], right: &[u8], start: u16) -> Found
     requires { ⌜ 0 < start ⌝ }
-    ensures { λ r. ⌜ Explored (pairAfter (policyOf 0 0 (now (left .entry)) []) (policyOf 0 0 (now (right .entry)) [])) start r ⌝ }
+    ensures { λ r. ⌜ Explored (pairAfter (arrowsOf (now (left .entry))) (arrowsOf (now (right .entry)))) start r ⌝ }
 {
     let mut found = policy_exploration::begin(start);
     let mut k: usize = 0;
@@ -115,7 +108,7 @@ fn explore(left: &[u8], right: &[u8], start: u16) -> Found
             k,
             next(left, right, policy_exploration::node(found, k), k % EVENTS),
         );
-        k = k + 1;
+        k += 1;
     }
     found
 }
@@ -134,7 +127,7 @@ fn smaller(c: [u32; 8], d: [u32; 8]) -> [u32; 8]
     let mut i: usize = 0;
     while i < ORDERS {
         out[i] = least(c[i], d[i]);
-        i = i + 1;
+        i += 1;
     }
     out
 }
@@ -161,8 +154,8 @@ fn with_ceilings(made: Made, ceilings: [u32; 8]) -> Merged
 
 // The policy of two policies' pairs, or their refusal.
 fn made_of(a: Policy, left: &[u8], b: Policy, right: &[u8], table: &mut [u8]) -> Made
-    ensures made { λ r. ⌜ r ≡ pairsOf (policyOf (a .states) (a .start) (now (left .entry)) []) (policyOf (b .states) (b .start) (now (right .entry)) []) (length (now (table .entry))) ⌝ }
-    ensures table { λ _. ⌜ now (table .exit) ≡ mergeTable (policyOf (a .states) (a .start) (now (left .entry)) []) (policyOf (b .states) (b .start) (now (right .entry)) []) (now (table .entry)) ⌝ }
+    ensures made { λ r. ⌜ r ≡ pairsOf (sideOf a (now (left .entry))) (sideOf b (now (right .entry))) (length (now (table .entry))) ⌝ }
+    ensures table { λ _. ⌜ now (table .exit) ≡ mergeTable (sideOf a (now (left .entry))) (sideOf b (now (right .entry))) (now (table .entry)) ⌝ }
 {
     let ok = side_right(a, left) & side_right(b, right);
     if !ok {
@@ -175,8 +168,8 @@ fn made_of(a: Policy, left: &[u8], b: Policy, right: &[u8], table: &mut [u8]) ->
 // Merges two policies, `left` the table of one and `right` that of the other: the table from the start of the one lent, the state count
 // and start, and the ceilings.
 pub fn merge(one: Side, left: &[u8], other: Side, right: &[u8], table: &mut [u8]) -> Merged
-    ensures merged { λ r. ⌜ r ≡ mergeOf (policyOf (one .policy .states) (one .policy .start) (now (left .entry)) []) (one .ceilings) (policyOf (other .policy .states) (other .policy .start) (now (right .entry)) []) (other .ceilings) (length (now (table .entry))) ⌝ }
-    ensures table { λ _. ⌜ now (table .exit) ≡ mergeTable (policyOf (one .policy .states) (one .policy .start) (now (left .entry)) []) (policyOf (other .policy .states) (other .policy .start) (now (right .entry)) []) (now (table .entry)) ⌝ }
+    ensures merged { λ r. ⌜ r ≡ mergeOf (sideOf (one .policy) (now (left .entry))) (one .ceilings) (sideOf (other .policy) (now (right .entry))) (other .ceilings) (length (now (table .entry))) ⌝ }
+    ensures table { λ _. ⌜ now (table .exit) ≡ mergeTable (sideOf (one .policy) (now (left .entry))) (sideOf (other .policy) (now (right .entry))) (now (table .entry)) ⌝ }
 {
     let made = made_of(one.policy, left, other.policy, right, table);
     let c = one.ceilings;

@@ -12,6 +12,7 @@ use lib.ListN.{length, getD, drop}
 use borrow.Author.Tests.{ltb-true, eq-eqb, ne-eqb, lt-ltb, le-ltb, leb-true}
 use lib.Pow.{pow-lt, pow-pos, pow-mono}
 use Rattle.rules.specs.declared.Refusal.the-variants.{SmallOutput, BadPair}
+use Rattle.rules.specs.declared.Answer.{Answer}
 use Rattle.rules.specs.Names.{events, noArrow, answer, refusal}
 use Rattle.rules.proofs.Bools.{both}
 use Rattle.policy_precedence.specs.declared.Made.{Made}
@@ -282,8 +283,8 @@ states-fit ps m s fit e = omega (arith, states-most ps m fit)
 pub never-fits : (p : ℕ → Bool) (x : ℕ) → x ≡ mapOf p events → x < 2 ^ 16
 never-fits p x e = rw e (map-lt p events)
 
-pub taken-is : (ps : List ℕ) (b s r x : ℕ) → s ≡ statesOf ps → r ≡ fullOf ps → x ≡ mapOf (stuck ps r) events → madeWith (answer 0 b) s x ≡ madeWith (answer 0 b) (statesOf ps) (neverOf ps)
-taken-is ps b s r x e f g = let h : x ≡ neverOf ps = g ∙ ap (λ (y : ℕ). mapOf (stuck ps y) events) f in rw (e, h)
+pub taken-is : (ps : List ℕ) (b s r x : ℕ) → s ≡ statesOf ps → r ≡ fullOf ps → x ≡ mapOf (stuck ps r) events → (a : Answer) → a ≡ answer 0 b → madeWith a s x ≡ madeWith (answer 0 b) (statesOf ps) (neverOf ps)
+taken-is ps b s r x e f g a ea = let h : x ≡ neverOf ps = g ∙ ap (λ (y : ℕ). mapOf (stuck ps y) events) f in rw (ea, e, h)
 
 pub bytes-are : (ps : List ℕ) (s : ℕ) → s ≡ statesOf ps → events * s ≡ bytesOf ps
 bytes-are ps s e = rw e

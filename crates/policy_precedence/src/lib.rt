@@ -2,6 +2,7 @@
 use rules::Answer;
 use rules::Policy;
 use rules::Refusal;
+use words_cells::index_of;
 ghost use mathlib.Core.Path.{_≡_};
 ghost use mathlib.Core.Bool.{true, cond};
 ghost use mathlib.Core.List.{_++_};
@@ -30,12 +31,6 @@ pub struct Made {
     pub never: u16,
 }
 
-fn index(x: u8) -> usize
-    ensures { λ r. ⌜ (r ≡ x) × (r < 256) ⌝ }
-{
-    x as usize
-}
-
 // Whether no event of the pairs is above 15.
 fn events_known(pairs: &[u8]) -> bool
     ensures { λ r. ⌜ r ≡ known (now (pairs .entry)) ⌝ }
@@ -43,8 +38,8 @@ fn events_known(pairs: &[u8]) -> bool
     let mut ok = true;
     let mut i: usize = 0;
     while i < pairs.len() {
-        ok = ok & (index(pairs[i]) < EVENTS);
-        i = i + 1;
+        ok = ok & (index_of(pairs[i]) < EVENTS);
+        i += 1;
     }
     ok
 }
@@ -63,8 +58,8 @@ fn names(pairs: &[u8]) -> usize
     let mut map: usize = 0;
     let mut i: usize = 0;
     while i < pairs.len() {
-        map = map | one(index(pairs[i]));
-        i = i + 1;
+        map = map | one(index_of(pairs[i]));
+        i += 1;
     }
     map
 }
@@ -86,9 +81,9 @@ fn firsts_recorded(names: usize, pairs: &[u8], s: usize, e: usize) -> bool
     let mut i: usize = 0;
     while i < pairs.len() / 2 {
         ok = ok
-            & ((index(pairs[2 * i + 1]) != e)
-                | policy_maps::bit_set(s, place(names, index(pairs[2 * i]))));
-        i = i + 1;
+            & ((index_of(pairs[2 * i + 1]) != e)
+                | policy_maps::bit_set(s, place(names, index_of(pairs[2 * i]))));
+        i += 1;
     }
     ok
 }
@@ -116,7 +111,7 @@ fn fill(names: usize, pairs: &[u8], table: &mut [u8], bytes: usize)
     let mut i: usize = 0;
     while i < bytes {
         table[i] = arrow(names, pairs, i / EVENTS, i % EVENTS) as u8;
-        i = i + 1;
+        i += 1;
     }
 }
 
@@ -138,7 +133,7 @@ fn full(names: usize, pairs: &[u8]) -> usize
     let mut i: usize = 0;
     while i < MOST_NAMED * EVENTS {
         s = on(names, pairs, s, i % EVENTS);
-        i = i + 1;
+        i += 1;
     }
     s
 }
@@ -164,7 +159,7 @@ fn stuck_all(names: usize, pairs: &[u8], s: usize) -> usize
     let mut e: usize = 0;
     while e < EVENTS {
         map = map + stuck_one(names, pairs, s, e);
-        e = e + 1;
+        e += 1;
     }
     map
 }
@@ -189,7 +184,7 @@ fn refused(number: u8) -> Made
     ensures { λ r. ⌜ r ≡ madeWith (answer number 0) 0 0 ⌝ }
 {
     Made {
-        answer: Answer { number, place: 0 },
+        answer: Answer::refused(number),
         policy: Policy {
             states: 0,
             start: 0,
@@ -204,10 +199,7 @@ fn taken(names: usize, pairs: &[u8], states: usize, bytes: usize) -> Made
 {
     let never = stuck_all(names, pairs, full(names, pairs));
     Made {
-        answer: Answer {
-            number: Refusal::TAKEN,
-            place: bytes,
-        },
+        answer: Answer::taken(bytes),
         policy: Policy {
             states: states as u32,
             start: 0,

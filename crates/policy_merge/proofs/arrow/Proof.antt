@@ -5,7 +5,7 @@ use Rattle.policy_merge.proofs.arrow.Statement.{statement}
 use Rattle.policy_merge.proofs.arrow.Tie as tie
 
 returns : tie.Need-returns
-returns c = arrow-there (now (c .before .before .before .before .args .table)) _ _ (c .before .before .if1 .taken) (c .index .ensures)
+returns c = arrow-there (now (c .before .before .before .before .args .table)) _ _ (c .before .before .if1 .taken) (c .index-of .ensures)
 
 returns-2 : tie.Need-returns-2
 returns-2 c = arrow-out (now (c .before .before .args .table)) _ (c .if1 .left)

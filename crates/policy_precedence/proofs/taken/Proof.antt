@@ -10,8 +10,9 @@ taken-spec =
     (tie.spec
     (λ c κs. search needs)
     (λ c κs. search needs)
-    (λ c. let start = c .before .before .before in record { fits = states-fit (now (start .args .pairs)) _ _ (start .pre .0) (start .pre .1) })
-    (λ c. record { fits = never-fits _ _ (c .stuck-all .ensures) })
+    (λ c κs. search needs)
+    (λ c. let start = c .before .before .before .before in record { fits = states-fit (now (start .args .pairs)) _ _ (start .pre .0) (start .pre .1) })
+    (λ c. record { fits = never-fits _ _ (c .before .stuck-all .ensures) })
     (λ c.
-    let start = c .before .before .before in
-    taken-is (now (start .args .pairs)) (start .args .bytes) _ _ _ (start .pre .1) (c .before .full .ensures .0) (c .stuck-all .ensures)))
+    let start = c .before .before .before .before in
+    taken-is (now (start .args .pairs)) (start .args .bytes) _ _ _ (start .pre .1) (c .before .before .full .ensures .0) (c .before .stuck-all .ensures) _ (c .taken .ensures)))
