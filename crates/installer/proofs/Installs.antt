@@ -1,75 +1,76 @@
 -- What installing answers and leaves.
-use Prim.Native.Nat.{ℕ, suc, _+_, _<_, _≤_}
+use Prim.Native.Nat.{ℕ, _+_, _≤_}
 use mathlib.Core.Path.{_≡_, refl, sym, ap, _∙_}
-use mathlib.Core.Bool.{Bool, true, false, _&&_}
-use mathlib.Core.List.{List}
+use mathlib.Core.Bool.{Bool, true, false}
+use mathlib.Core.List.{List, []}
 use native.Mathlib.Omega.{arith}
-use lib.Dec.{eqb}
-use lib.ListN.{length, getD, set, drop, drop-of-length-le}
-use lib.Seq.{sets, drop-cons}
+use lib.ListN.{length, set}
+use lib.Seq.{sets}
 use borrow.Author.Tests.{eqb-true}
 use Rattle.rules.specs.declared.Layout.{Layout}
+use Rattle.rules.specs.declared.Answer.{Answer}
 use Rattle.rules.specs.declared.Installed.{Installed}
 use Rattle.rules.specs.declared.Machine.{Machine}
 use Rattle.rules.specs.declared.Refusal.{Refusal}
 use Rattle.rules.specs.declared.Refusal.the-variants.{Taken, BadLayout, BadPolicy, BadLandings}
-use Rattle.rules.specs.Names.{landingCells, numberOf, answer, refusal}
+use Rattle.rules.specs.Names.{numberOf, answer, refusal}
 use Rattle.rules.specs.Layouts.{rightLayout}
 use Rattle.rules.specs.Policies.{Policy, policyOf, rightPolicy}
 use Rattle.rules.specs.Landings.{rightLandings, landingsOf}
-use Rattle.rules.specs.Machines.{machineAt, machineRefused, installAnswer, installMachine, installMemory, installOf}
+use Rattle.rules.specs.Machines.{fits, machineAt, machineRefused, installAnswer, installMachine, installMemory, installOf}
 use Rattle.rules.proofs.Bools.{both}
-use Rattle.rules.proofs.Layouts.{layout-facts}
+use Rattle.rules.proofs.Layouts.{LayoutFacts, layout-facts}
+use Rattle.rules.proofs.Landings.{length-landings}
 use Rattle.rules.proofs.Conditions.{policy-facts}
-
-pub stored : (mem t : List ℕ) (at i : ℕ) → i < length t → sets mem (at + i) (drop i t) ≡ sets (set mem (at + i) (getD t i 0)) (at + (i + 1)) (drop (i + 1) t)
-stored mem t at i h =
-    let n : i + 1 ≡ suc i = omega arith in
-    let k : at + suc i ≡ suc (at + i) = omega arith in
-    rw (n, k, drop-cons t i 0 h)
-
-module _ (mem t : List ℕ) (at i : ℕ) (z : List ℕ) (e : sets mem (at + i) (drop i t) ≡ z) where
-  pub store-more : i < length t → sets (set mem (at + i) (getD t i 0)) (at + (i + 1)) (drop (i + 1) t) ≡ z
-  store-more h = sym (stored mem t at i h) ∙ e
-
-  pub store-done : length t ≤ i → mem ≡ z
-  store-done h = sym (ap (sets mem (at + i)) (drop-of-length-le t h)) ∙ e
 
 -- what installing answers and leaves: refused 7, refused 10, refused 14, taken
 abbrev pub refusedWith : Refusal → Installed
 refusedWith x = record { machine = machineRefused; answer = refusal x 0 }
 
--- the policy's test looks at no landing
-pub any-landings : (l : Layout) (s q : ℕ) (t ls ms : List ℕ) → rightPolicy l (policyOf s q t ls) ≡ rightPolicy l (policyOf s q t ms)
-unfolding rightPolicy
-any-landings l s q t ls ms = refl
+-- l and the policy that is laid into mem, and b whether they fit
+module _ (l : Layout) (s q : ℕ) (t ls mem : List ℕ) (b : Bool) (e : b ≡ fits l mem) where
+  abbrev pol : Policy
+  pol = policyOf s q t ls
 
-module _ (l : Layout) (p : Policy) (mem : List ℕ) (r : Bool) (e : r ≡ rightLayout l) where
-  pub no-layout : (r && eqb (length mem) (l .size)) ≡ false → (refusedWith BadLayout ≡ installOf l p mem) × (mem ≡ installMemory l p mem)
+  -- what a caller learns of record, answer and memory
+  abbrev Leaves : Installed → List ℕ → Type 0
+  Leaves i mem′ = (i ≡ installOf l pol mem) × (mem′ ≡ installMemory l pol mem)
+
+  pub no-layout : b ≡ false → (i : Installed) → i ≡ refusedWith BadLayout → Leaves i mem
   unfolding installMachine installMemory installAnswer
-  no-layout h = rw (← e, h) (refl, refl)
+  no-layout h i ei = rw (← e, h) (ei, refl)
 
-  module _ (h : (r && eqb (length mem) (l .size)) ≡ true) (q : Bool) (g : q ≡ rightPolicy l p) where
-    pub landings-fit : (mem₁ : List ℕ) → length mem₁ ≡ length mem → (cells : List ℕ) → length cells ≡ landingCells → l .landings + length cells ≤ length mem₁
-    landings-fit mem₁ k cells n =
-        let b = both r (eqb (length mem) (l .size)) h in
-        omega (arith, layout-facts l (sym e ∙ b .0) .landings, eqb-true (length mem) (l .size) (b .1))
+  -- the policy's test looks at no landing
+  module _ (h : b ≡ true) (r : Bool) (g : r ≡ rightPolicy l (policyOf s q t [])) where
+    right-is : r ≡ rightPolicy l pol
+    unfolding rightPolicy
+    right-is = g
 
-    pub no-policy : q ≡ false → (refusedWith BadPolicy ≡ installOf l p mem) × (mem ≡ installMemory l p mem)
+    size-is : length mem ≡ l .size
+    size-is = eqb-true (length mem) (l .size) (both (rightLayout l) _ (sym e ∙ h) .1)
+
+    facts : LayoutFacts l
+    facts = layout-facts l (both (rightLayout l) _ (sym e ∙ h) .0)
+
+    pub landings-fit : (mem₁ mem₂ : List ℕ) → length mem₁ ≡ length mem → length mem₂ ≡ length mem₁ → (cells : List ℕ) → cells ≡ landingsOf ls → l .landings + length cells ≤ length mem₂
+    landings-fit mem₁ mem₂ k m cells n = omega (arith, facts .landings, size-is, ap length n ∙ length-landings ls)
+
+    pub no-policy : r ≡ false → (i : Installed) → i ≡ refusedWith BadPolicy → Leaves i mem
     unfolding installMachine installMemory installAnswer
-    no-policy f = rw (← e, h, ← g, f) (refl, refl)
+    no-policy f i ei = rw (← e, h, ← right-is, f) (ei, refl)
 
-    pub table-fits : q ≡ true → (mem₁ : List ℕ) → length mem₁ ≡ length mem → l .table + length (p .table) ≤ length mem₁
+    pub table-fits : r ≡ true → (mem₁ : List ℕ) → length mem₁ ≡ length mem → l .table + length t ≤ length mem₁
     table-fits f mem₁ k =
-        let b = both r (eqb (length mem) (l .size)) h in
-        omega (arith, layout-facts l (sym e ∙ b .0) .table, eqb-true (length mem) (l .size) (b .1), policy-facts l p (sym g ∙ f) .states, policy-facts l p (sym g ∙ f) .size)
+        let p = policy-facts l pol (sym right-is ∙ f) in
+        omega (arith, facts .table, size-is, p .states, p .size)
 
-    module _ (f : q ≡ true) (t : Bool) (u : t ≡ rightLandings (p .landings)) where
-      pub no-landings : t ≡ false → (refusedWith BadLandings ≡ installOf l p mem) × (mem ≡ installMemory l p mem)
+    module _ (f : r ≡ true) (x : Bool) (u : x ≡ rightLandings ls) where
+      pub no-landings : x ≡ false → (i : Installed) → i ≡ refusedWith BadLandings → Leaves i mem
       unfolding installMachine installMemory installAnswer
-      no-landings v = rw (← e, h, ← g, f, ← u, v) (refl, refl)
+      no-landings v i ei = rw (← e, h, ← right-is, f, ← u, v) (ei, refl)
 
-      pub laid : (m : Machine) (cells mem₁ mem₂ mem₃ : List ℕ) → t ≡ true → m ≡ machineAt (l .base) → cells ≡ landingsOf (p .landings) → mem₁ ≡ set mem (l .cell) (p .start) → mem₂ ≡ sets mem₁ (l .table) (p .table)
-          → mem₃ ≡ sets mem₂ (l .landings) cells → (_≡_ {A = Installed} (record { machine = m; answer = answer (numberOf Taken) 0 }) (installOf l p mem)) × (mem₃ ≡ installMemory l p mem)
+      pub laid : x ≡ true → (m : Machine) → m ≡ machineAt (l .base) → (a : Answer) → a ≡ answer (numberOf Taken) 0 → (cells : List ℕ) → cells ≡ landingsOf ls
+          → (mem₁ : List ℕ) → mem₁ ≡ set mem (l .cell) q → (mem₂ : List ℕ) → mem₂ ≡ sets mem₁ (l .table) t → (mem₃ : List ℕ) → mem₃ ≡ sets mem₂ (l .landings) cells
+          → Leaves (record { machine = m; answer = a }) mem₃
       unfolding installMachine installMemory installAnswer
-      laid m cells mem₁ mem₂ mem₃ v a k b c d = rw (a, d, c, b, k, ← e, h, ← g, f, ← u, v) (refl, refl)
+      laid v m em a ea cells ec mem₁ e₁ mem₂ e₂ mem₃ e₃ = rw (em, ea, e₃, e₂, e₁, ec, ← e, h, ← right-is, f, ← u, v) (refl, refl)

@@ -9,41 +9,15 @@ use rules::Layout;
 use rules::Machine;
 use rules::Policy;
 use rules::Refusal;
-use words::layout;
+use words::layout::fits;
+use words_cells::poke;
+use words_cells::store_bytes;
+use words_cells::store_cells;
 ghost use mathlib.Core.Path.{_≡_};
-ghost use Prim.Native.Nat.{_+_, _≤_};
 ghost use mathlib.Core.List.{[]};
-ghost use lib.ListN.{length};
-ghost use lib.Seq.{sets};
 ghost use Rattle.rules.specs.Names.{answer};
 ghost use Rattle.rules.specs.Policies.{policyOf, rightPolicy};
 ghost use Rattle.rules.specs.Machines.{machineRefused, installOf, installMemory};
-
-// The table's bytes into the cells from an address on.
-fn store_table(memory: &mut [u32], at: u32, table: &[u8])
-    requires { ⌜ at + length (now table) ≤ length (now memory) ⌝ }
-    ensures { λ _. ⌜ now (memory .exit) ≡ sets (now (memory .entry)) at (now (table .entry)) ⌝ }
-{
-    let first = at as usize;
-    let mut i: usize = 0;
-    while i < table.len() {
-        memory[first + i] = table[i] as u32;
-        i = i + 1;
-    }
-}
-
-// Cells into those from an address on.
-fn store_cells(memory: &mut [u32], at: u32, cells: &[u32])
-    requires { ⌜ at + length (now cells) ≤ length (now memory) ⌝ }
-    ensures { λ _. ⌜ now (memory .exit) ≡ sets (now (memory .entry)) at (now (cells .entry)) ⌝ }
-{
-    let first = at as usize;
-    let mut i: usize = 0;
-    while i < cells.len() {
-        memory[first + i] = cells[i];
-        i = i + 1;
-    }
-}
 
 // Whether a policy can be installed under a layout: 10's four conditions.
 fn policy_right(layout: Layout, policy: Policy, table: &[u8]) -> bool
@@ -60,10 +34,9 @@ fn policy_right(layout: Layout, policy: Policy, table: &[u8]) -> bool
 fn refused(number: u8) -> Installed
     ensures { λ r. ⌜ r ≡ record { machine = machineRefused; answer = answer number 0 } ⌝ }
 {
-    let machine = Machine::refused();
     Installed {
-        machine,
-        answer: Answer { number, place: 0 },
+        machine: Machine::refused(),
+        answer: Answer::refused(number),
     }
 }
 
@@ -78,8 +51,7 @@ pub fn install(
     ensures { λ r. ⌜ r ≡ installOf layout (policyOf (policy .states) (policy .start) (now (table .entry)) (now (landings .entry))) (now (memory .entry)) ⌝ }
     ensures leaves { λ _. ⌜ now (memory .exit) ≡ installMemory layout (policyOf (policy .states) (policy .start) (now (table .entry)) (now (landings .entry))) (now (memory .entry)) ⌝ }
 {
-    let fits = layout::right(layout) & (memory.len() == layout.size as usize);
-    if !fits {
+    if !fits(layout, memory.len()) {
         return refused(Refusal::BAD_LAYOUT);
     }
     if !policy_right(layout, policy, table) {
@@ -89,15 +61,11 @@ pub fn install(
         return refused(Refusal::BAD_LANDINGS);
     }
     let marks = landing_cells(landings);
-    words_arith::poke(memory, layout.cell as usize, policy.start);
-    store_table(memory, layout.table, table);
-    store_cells(memory, layout.landings, &marks);
-    let machine = Machine::new(layout.base);
+    poke(memory, layout.cell as usize, policy.start);
+    store_bytes(memory, layout.table as usize, table);
+    store_cells(memory, layout.landings as usize, &marks);
     Installed {
-        machine,
-        answer: Answer {
-            number: Refusal::TAKEN,
-            place: 0,
-        },
+        machine: Machine::new(layout.base),
+        answer: Answer::taken(0),
     }
 }

@@ -27,7 +27,7 @@ pub fn landings_right(landings: &[u32]) -> bool
             return false;
         }
         low = x + 1;
-        i = i + 1;
+        i += 1;
     }
     true
 }
@@ -50,7 +50,7 @@ pub fn landing_cells(landings: &[u32]) -> [u32; 32]
     let mut i: usize = 0;
     while i < landings.len() {
         mark(&mut cells, landings[i]);
-        i = i + 1;
+        i += 1;
     }
     cells
 }

@@ -22,7 +22,7 @@ fn words_right(states: u32, table: &[u8], words: usize) -> bool
     let mut i: usize = 0;
     while i < words {
         ok = ok & word_right(states, word_at(table, WORD * i));
-        i = i + 1;
+        i += 1;
     }
     ok
 }
@@ -37,7 +37,7 @@ fn bytes_right(states: u32, table: &[u8], from: usize) -> bool
     while i < table.len() {
         let b = table[i] as u32;
         ok = ok & ((b < states) | (b == Policy::NO_ARROW));
-        i = i + 1;
+        i += 1;
     }
     ok
 }

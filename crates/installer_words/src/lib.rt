@@ -1,5 +1,6 @@
 // Four bytes of a policy's table as one word, tested at once.
 use rules::Layout;
+use words_cells::cell_of;
 ghost use mathlib.Core.Path.{_≡_};
 ghost use Prim.Native.Nat.{_+_, _≤_, _<_};
 ghost use lib.ListN.{length, take, drop};
@@ -35,19 +36,13 @@ pub fn word_right(states: u32, w: u32) -> bool
     over == full
 }
 
-fn wide(b: u8) -> u32
-    ensures { λ r. ⌜ (r ≡ b) × (r < 256) ⌝ }
-{
-    b as u32
-}
-
 // The word whose bytes, low first, are four of a table.
 pub fn word_at(table: &[u8], at: usize) -> u32
     requires { ⌜ at + wordBytes ≤ length (now table) ⌝ }
     ensures { λ r. ⌜ lowBytes wordBytes r ≡ take wordBytes (drop at (now (table .entry))) ⌝ }
 {
-    wide(table[at])
-        + (wide(table[at + 1]) << 8)
-        + (wide(table[at + 2]) << 16)
-        + (wide(table[at + 3]) << 24)
+    cell_of(table[at])
+        + (cell_of(table[at + 1]) << 8)
+        + (cell_of(table[at + 2]) << 16)
+        + (cell_of(table[at + 3]) << 24)
 }

@@ -2,11 +2,10 @@ use borrow.Author.Needs.{needs}
 use Rattle.installer.proofs.refused.Statement.{statement}
 use Rattle.installer.proofs.refused.Tie as tie
 
-refused-requires : tie.Need-refused-requires
-refused-requires c κs = search needs
-
-returns : tie.Need-returns
-returns c = rw (c .refused .ensures)
-
 pub refused-spec : {M : Type 1} → statement M
-refused-spec = tie.close (tie.spec refused-requires returns)
+refused-spec =
+    tie.close
+    (tie.spec
+    (λ c κs. search needs)
+    (λ c κs. search needs)
+    (λ c. rw (c .before .refused .ensures, c .refused2 .ensures)))
