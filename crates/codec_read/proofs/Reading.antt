@@ -5,8 +5,8 @@ use Prim.Native.Nat.{ℕ, suc, _+_, _-_, _≤_, _<_}
 use native.Mathlib.Omega.{arith}
 use native.Mathlib.Nat.{le-of-eq}
 use native.Mathlib.Numerals.{add-one}
-use lib.ListN.{length, getD, take, drop, set, length-drop}
-use lib.Seq.{sets as stores, sets-eq, length-sets, take-all, drop-cons, take-at}
+use lib.ListN.{length, take, drop, set, length-drop}
+use lib.Seq.{sets as stores, sets-eq, length-sets, take-all, take-at, length-take-le}
 use borrow.Author.Tests.{eq-eqb, ne-eqb}
 use Rattle.rules.specs.declared.Answer.{Answer}
 use Rattle.rules.specs.declared.One.{One}
@@ -35,9 +35,9 @@ module _ (n i : ℕ) (t : List ℕ) (o : One) (e : o ≡ oneOf t) (h : i < n) wh
   unfolding scanOf
   scan-more w u eo z ez = ez ∙ rw (rest u t (used t o w u eo e), left, ← e, eo)
 
-  pub scan-stop : (x : ℕ) → o ≡ Bad x → (z : Answer) → z ≡ scanOf (n - i) i t → answer x i ≡ z
+  pub scan-stop : (x : ℕ) → o ≡ Bad x → (z : Answer) → z ≡ scanOf (n - i) i t → (r : Answer) → r ≡ answer x i → r ≡ z
   unfolding scanOf
-  scan-stop x eo z ez = sym (ez ∙ rw (left, ← e, eo))
+  scan-stop x eo z ez r er = er ∙ sym (ez ∙ rw (left, ← e, eo))
 
   pub fill-more : (w u : ℕ) → o ≡ Word w u → (out z : List ℕ) → z ≡ stores out i (wordsOf (n - i) t)
       → z ≡ stores (set out i w) (i + 1) (wordsOf (n - (i + 1)) (take (length t - u) (drop u t)))
@@ -52,27 +52,19 @@ module _ (n i : ℕ) (t : List ℕ) (h : n ≤ i) where
   none-left : n - i ≡ 0
   none-left = omega arith
 
-  pub scan-done : i ≤ n → length t ≡ 0 → (z : Answer) → z ≡ scanOf (n - i) i t → answer (numberOf Taken) n ≡ z
+  pub scan-done : i ≤ n → length t ≡ 0 → (z : Answer) → z ≡ scanOf (n - i) i t → (r : Answer) → r ≡ answer (numberOf Taken) n → r ≡ z
   unfolding scanOf
-  scan-done g l z ez =
+  scan-done g l z ez r er =
       let d : i ≡ n = omega arith in
-      sym (ez ∙ rw (none-left, eq-eqb _ _ l, d))
+      er ∙ sym (ez ∙ rw (none-left, eq-eqb _ _ l, d))
 
-  pub scan-over : (length t ≡ 0 → ⊥) → (z : Answer) → z ≡ scanOf (n - i) i t → refusal Trailing 0 ≡ z
+  pub scan-over : (length t ≡ 0 → ⊥) → (z : Answer) → z ≡ scanOf (n - i) i t → (r : Answer) → r ≡ refusal Trailing 0 → r ≡ z
   unfolding scanOf
-  scan-over l z ez = sym (ez ∙ rw (none-left, ne-eqb _ _ l))
+  scan-over l z ez r er = er ∙ sym (ez ∙ rw (none-left, ne-eqb _ _ l))
 
   pub fill-done : (out z : List ℕ) → z ≡ stores out i (wordsOf (n - i) t) → out ≡ z
   unfolding wordsOf
   fill-done out z ez = sym (ez ∙ rw none-left)
-
--- the words read aside, one by one
-module _ (n i : ℕ) (from out z : List ℕ) (ez : z ≡ stores out i (take (n - i) (drop i from))) where
-  pub copy-more : i < n → n ≤ length from → z ≡ stores (set out i (getD from i 0)) (i + 1) (take (n - (i + 1)) (drop (i + 1) from))
-  copy-more h l = let left : n - i ≡ suc (n - (i + 1)) = omega arith in let g : i < length from = omega arith in ez ∙ rw (left, drop-cons from i 0 g, add-one)
-
-  pub copy-done : n ≤ i → out ≡ z
-  copy-done h = let none : n - i ≡ 0 = omega arith in sym (ez ∙ rw none)
 
 -- ---- the whole
 
@@ -91,8 +83,8 @@ module _ (s : List ℕ) (room : ℕ) (a : Answer) (e : a ≡ readAnswer s room) 
   pub ok-few : (y : List ℕ) → length y ≡ mostInstructions → a .place ≤ length y
   ok-few y h = omega (arith, ok .count, ok .few)
 
-  pub ok-fits : a .place ≤ room
-  ok-fits = ok .fits
+  pub ok-fits : (y : List ℕ) → length y ≡ mostInstructions → 0 + length (take (a .place) y) ≤ room
+  ok-fits y h = omega (arith, ok .fits, length-take-le (a .place) y (ok-few y h))
 
 module _ (s out : List ℕ) (a : Answer) (e : a ≡ readAnswer s (length out)) where
   pub refused : (a .number ≡ 0 → ⊥) → out ≡ readOutput s out

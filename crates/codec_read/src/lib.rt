@@ -4,18 +4,14 @@ use rules::Answer;
 use rules::Instr;
 use rules::One;
 use rules::Refusal;
+use words_cells::index_of;
+use words_cells::store_words;
 ghost use mathlib.Core.Path.{_≡_};
-ghost use Prim.Native.Nat.{_≤_, _<_};
-ghost use lib.ListN.{length, take};
+ghost use Prim.Native.Nat.{_≤_};
+ghost use lib.ListN.{length};
 ghost use lib.Seq.{sets as stores};
 ghost use Rattle.rules.specs.Names.{mostInstructions};
 ghost use Rattle.rules.specs.Bytes.{scanOf, wordsOf, countOf, wordsIn, readAnswer, readOutput};
-
-fn index(x: u8) -> usize
-    ensures { λ r. ⌜ (r ≡ x) × (r < 256) ⌝ }
-{
-    x as usize
-}
 
 // What n instructions from s on answer; their words are stored, up to the first that is refused.
 fn scan(s: &[u8], n: usize, words: &mut [u64]) -> Answer
@@ -33,36 +29,15 @@ fn scan(s: &[u8], n: usize, words: &mut [u64]) -> Answer
                 t = &t[used..];
                 i += 1;
             }
-            One::Bad(x) => {
-                return Answer {
-                    number: x,
-                    place: i,
-                };
+            One::Bad(refused) => {
+                return Answer::refused_at(refused, i);
             }
         }
     }
     if t.len() == 0 {
-        Answer {
-            number: Refusal::TAKEN,
-            place: n,
-        }
+        Answer::taken(n)
     } else {
-        Answer {
-            number: Refusal::TRAILING,
-            place: 0,
-        }
-    }
-}
-
-// Stores the first n of some words.
-fn copy(from: &[u64], n: usize, words: &mut [u64])
-    requires { ⌜ (n ≤ length (now from)) × (n ≤ length (now words)) ⌝ }
-    ensures { λ _. ⌜ now (words .exit) ≡ stores (now (words .entry)) 0 (take n (now (from .entry))) ⌝ }
-{
-    let mut i: usize = 0;
-    while i < n {
-        words[i] = from[i];
-        i += 1;
+        Answer::refused(Refusal::TRAILING)
     }
 }
 
@@ -71,7 +46,7 @@ fn count(s: &[u8]) -> usize
     requires { ⌜ 2 ≤ length (now s) ⌝ }
     ensures { λ r. ⌜ r ≡ countOf (now (s .entry)) ⌝ }
 {
-    index(s[0]) + 256 * index(s[1])
+    index_of(s[0]) + 256 * index_of(s[1])
 }
 
 // What reading answers; the words are stored aside.
@@ -81,23 +56,14 @@ fn read_check(bytes: &[u8], room: usize, aside: &mut [u64]) -> Answer
     ensures content { λ r. ⌜ (r .number ≡ 0 → now (aside .exit) ≡ stores (now (aside .entry)) 0 (wordsIn (now (bytes .entry)))) ⌝ }
 {
     if bytes.len() < 2 {
-        return Answer {
-            number: Refusal::SHORT,
-            place: 0,
-        };
+        return Answer::refused(Refusal::SHORT);
     }
     let n = count(bytes);
     if n > Instr::MOST {
-        return Answer {
-            number: Refusal::OVERSIZE,
-            place: 0,
-        };
+        return Answer::refused(Refusal::OVERSIZE);
     }
     if room < n {
-        return Answer {
-            number: Refusal::SMALL_OUTPUT,
-            place: 0,
-        };
+        return Answer::refused(Refusal::SMALL_OUTPUT);
     }
     scan(&bytes[2..], n, aside)
 }
@@ -112,7 +78,8 @@ pub fn read(bytes: &[u8], words: &mut [u64]) -> Answer
     let a = read_check(bytes, words.len(), &mut aside);
     let refused = a.number;
     if refused == Refusal::TAKEN {
-        copy(&aside, a.place, words);
+        let n = a.place;
+        store_words(words, 0, &aside[..n]);
     }
     a
 }

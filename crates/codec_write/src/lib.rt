@@ -31,20 +31,14 @@ fn weigh(words: &[u64]) -> Answer
     let mut z: usize = 2;
     while i < words.len() {
         let w = words[i];
-        let x = judge_word(w);
-        if x != Refusal::TAKEN {
-            return Answer {
-                number: x,
-                place: i,
-            };
+        let refused = judge_word(w);
+        if refused != Refusal::TAKEN {
+            return Answer::refused_at(refused, i);
         }
         z += weight_word(w);
         i += 1;
     }
-    Answer {
-        number: Refusal::TAKEN,
-        place: z,
-    }
+    Answer::taken(z)
 }
 
 fn emit(words: &[u64], bytes: &mut [u8], at: usize)
@@ -74,22 +68,16 @@ fn write_check(words: &[u64], room: usize) -> Answer
     ensures { λ r. ⌜ r ≡ writeAnswer (now (words .entry)) room ⌝ }
 {
     if words.len() > Instr::MOST {
-        return Answer {
-            number: Refusal::OVERSIZE,
-            place: 0,
-        };
+        return Answer::refused(Refusal::OVERSIZE);
     }
     let a = weigh(words);
-    let x = a.number;
-    if x != Refusal::TAKEN {
+    let refused = a.number;
+    if refused != Refusal::TAKEN {
         return a;
     }
     let z = a.place;
     if room < z {
-        return Answer {
-            number: Refusal::SMALL_OUTPUT,
-            place: 0,
-        };
+        return Answer::refused(Refusal::SMALL_OUTPUT);
     }
     a
 }
@@ -100,8 +88,8 @@ pub fn write(words: &[u64], bytes: &mut [u8]) -> Answer
     ensures content { λ _. ⌜ now (bytes .exit) ≡ writeOutput (now (words .entry)) (now (bytes .entry)) ⌝ }
 {
     let a = write_check(words, bytes.len());
-    let number = a.number;
-    if number == Refusal::TAKEN {
+    let refused = a.number;
+    if refused == Refusal::TAKEN {
         put_all(words, bytes);
     }
     a

@@ -2,7 +2,7 @@ use borrow.Author.Needs.{needs}
 use Rattle.rules.proofs.Bytes.{length-routine}
 use Rattle.rules.proofs.Refusals.{refused-more, refused-stop}
 use Rattle.codec_write.proofs.Writing.{weigh-done, weigh-more}
-use mathlib.Core.Path.{_≡_}
+use mathlib.Core.Path.{_≡_, _∙_}
 use Prim.Native.Nat.{_≤_, _-_, _+_, _*_}
 use lib.ListN.{length, drop}
 use Rattle.rules.specs.Names.{answer}
@@ -35,8 +35,11 @@ shared-slice-read-w c = search needs
 judge-word-requires : tie.Need-judge-word-requires Inv-loop μ-loop
 judge-word-requires c κs = search needs
 
+refused-at-requires : tie.Need-refused-at-requires Inv-loop μ-loop
+refused-at-requires c κs = search needs
+
 returns : tie.Need-returns Inv-loop μ-loop
-returns c = search (refused-stop, needs)
+returns c = c .refused-at .ensures ∙ search (refused-stop, needs)
 
 weight-word-requires : tie.Need-weight-word-requires Inv-loop μ-loop
 weight-word-requires c κs = search needs
@@ -53,8 +56,11 @@ loop-less c = search needs
 loop-again : tie.Need-loop-again Inv-loop μ-loop
 loop-again c = search (weigh-more, refused-more, needs)
 
+taken-requires : tie.Need-taken-requires Inv-loop μ-loop
+taken-requires c κs = search needs
+
 returns-2 : tie.Need-returns-2 Inv-loop μ-loop
-returns-2 c = search (weigh-done, needs)
+returns-2 c = c .taken .ensures ∙ search (weigh-done, needs)
 
 pub weigh-spec : {M : Type 1} → statement M
 weigh-spec =
@@ -66,10 +72,12 @@ weigh-spec =
     mul-w
     shared-slice-read-w
     judge-word-requires
+    refused-at-requires
     returns
     weight-word-requires
     add-z
     add-i
     loop-less
     loop-again
+    taken-requires
     returns-2)
