@@ -37,43 +37,28 @@ fn scan(l: Layout, n: usize, commands: &[u64]) -> Answer
     let mut h: usize = 0;
     while h < n {
         if !passes(l, n, commands, h) {
-            return Answer {
-                number: Refusal::BAD_BUNDLE,
-                place: h,
-            };
+            return Answer::refused_at(Refusal::BAD_BUNDLE, h);
         }
         h += 1;
     }
-    Answer {
-        number: Refusal::TAKEN,
-        place: 0,
-    }
+    Answer::taken(0)
 }
 
 pub fn check(layout: Layout, commands: &[u64]) -> Answer
     ensures { λ r. ⌜ r ≡ checkAnswer layout (now (commands .entry)) ⌝ }
 {
     if !right(layout) {
-        return Answer {
-            number: Refusal::BAD_LAYOUT,
-            place: 0,
-        };
+        return Answer::refused(Refusal::BAD_LAYOUT);
     }
     let count = commands.len();
     let n = count / Bundle::LENGTH;
     let counted = count_right(count);
     let based = base_right(layout, n);
     if !counted {
-        return Answer {
-            number: Refusal::BAD_COUNT,
-            place: 0,
-        };
+        return Answer::refused(Refusal::BAD_COUNT);
     }
     if !based {
-        return Answer {
-            number: Refusal::BAD_BASE,
-            place: 0,
-        };
+        return Answer::refused(Refusal::BAD_BASE);
     }
     scan(layout, n, commands)
 }

@@ -31,38 +31,23 @@ fn place(layout: Layout, n: usize, room: usize) -> Answer
     let based = base_right(layout, count);
     let length = Bundle::LENGTH * count;
     if !based {
-        return Answer {
-            number: Refusal::BAD_BASE,
-            place: 0,
-        };
+        return Answer::refused(Refusal::BAD_BASE);
     }
     if room < length {
-        return Answer {
-            number: Refusal::SMALL_OUTPUT,
-            place: 0,
-        };
+        return Answer::refused(Refusal::SMALL_OUTPUT);
     }
-    Answer {
-        number: Refusal::TAKEN,
-        place: length,
-    }
+    Answer::taken(length)
 }
 
 fn judge(layout: Layout, words: &[u64], room: usize) -> Answer
     ensures { λ r. ⌜ r ≡ rewriteAnswer layout (now (words .entry)) room ⌝ }
 {
     if !right(layout) {
-        return Answer {
-            number: Refusal::BAD_LAYOUT,
-            place: 0,
-        };
+        return Answer::refused(Refusal::BAD_LAYOUT);
     }
     let n = words.len();
     if n > Instr::MOST {
-        return Answer {
-            number: Refusal::OVERSIZE,
-            place: 0,
-        };
+        return Answer::refused(Refusal::OVERSIZE);
     }
     judge_all(words, place(layout, n, room))
 }
@@ -121,8 +106,8 @@ pub fn rewrite(layout: Layout, words: &[u64], commands: &mut [u64]) -> Answer
     ensures content { λ _. ⌜ now (commands .exit) ≡ rewriteOutput layout (now (words .entry)) (now (commands .entry)) ⌝ }
 {
     let answer = judge(layout, words, commands.len());
-    let number = answer.number;
-    if number == 0 {
+    let refused = answer.number;
+    if refused == Refusal::TAKEN {
         fill(layout, bundles(words.len() as u32), words, commands);
     }
     answer

@@ -1,3 +1,4 @@
+use mathlib.Core.Path.{_∙_}
 use borrow.Author.Tests.{not-true, not-false}
 use borrow.Author.Needs.{needs}
 use Rattle.checker.proofs.Passing.{bad-layout, bad-count, bad-base, count-some, count-most, count-all, base-room, checked}
@@ -9,10 +10,13 @@ check-spec =
     tie.close
     (tie.spec
     (λ c κs. search needs)
-    (λ c. search (bad-layout, not-true, needs))
+    (λ c κs. search needs)
+    (λ c. c .refused .ensures ∙ search (bad-layout, not-true, needs))
     (λ c κs. search needs)
     (λ c κs. search needs)
-    (λ c. search (bad-count, not-true, not-false, needs))
-    (λ c. search (bad-base, not-true, not-false, needs))
+    (λ c κs. search needs)
+    (λ c. c .refused2 .ensures ∙ search (bad-count, not-true, not-false, needs))
+    (λ c κs. search needs)
+    (λ c. c .refused3 .ensures ∙ search (bad-base, not-true, not-false, needs))
     (λ c κs. search (count-some, count-most, count-all, base-room, not-false, needs))
     (λ c. search (checked, not-false, needs)))

@@ -1,5 +1,5 @@
 use Prim.Native.Nat.{_≤_, _-_}
-use mathlib.Core.Path.{_≡_}
+use mathlib.Core.Path.{_≡_, _∙_}
 use native.Mathlib.Omega.{arith}
 use native.Mathlib.Nat.{sub-zero}
 use borrow.Author.Needs.{needs}
@@ -23,8 +23,10 @@ scan-spec =
     μ-loop
     (λ c. (omega arith, rw sub-zero))
     (λ c κs. search needs)
-    (λ c. search (check-stop, not-true, needs))
+    (λ c κs. search needs)
+    (λ c. c .refused-at .ensures ∙ search (check-stop, not-true, needs))
     (λ c. search needs)
     (λ c. search needs)
     (λ c. search (check-more, not-false, needs))
-    (λ c. search (check-done, needs)))
+    (λ c κs. search needs)
+    (λ c. c .taken .ensures ∙ search (check-done, needs)))

@@ -1,3 +1,4 @@
+use mathlib.Core.Path.{_∙_}
 use borrow.Author.Tests.{not-true, not-false}
 use borrow.Author.Needs.{needs}
 use Rattle.rewriter.proofs.Judged.{length-fits, place-base, place-small, place-taken}
@@ -12,6 +13,9 @@ place-spec =
     (λ c κs. search needs)
     (λ c κs. search needs)
     (λ c. search (length-fits, needs))
-    (λ c. search (place-base, not-true, needs))
-    (λ c. search (place-small, not-false, needs))
-    (λ c. search (place-taken, not-false, needs)))
+    (λ c κs. search needs)
+    (λ c. c .refused .ensures ∙ search (place-base, not-true, needs))
+    (λ c κs. search needs)
+    (λ c. c .refused2 .ensures ∙ search (place-small, not-false, needs))
+    (λ c κs. search needs)
+    (λ c. c .taken .ensures ∙ search (place-taken, not-false, needs)))
