@@ -1,6 +1,5 @@
 // The engine of request 5: it runs guest words directly under the guest rule.
 use engine_apply::Point;
-use engine_loop::ending_of;
 use engine_loop::turns;
 use engine_rules::Engine;
 use engine_rules::EngineOutcome;
@@ -14,25 +13,20 @@ ghost use mathlib.Core.Path.{_≡_};
 ghost use Prim.Native.Nat.{_+_, _≤_};
 ghost use lib.ListN.{length};
 ghost use Rattle.rules.specs.declared.Status.the-variants.{Running};
-ghost use Rattle.rules.specs.Names.{mostInstructions, endingNumber};
+ghost use Rattle.rules.specs.Names.{mostInstructions};
 ghost use Rattle.rules.specs.Words.{bundlesFor};
 ghost use Rattle.rules.specs.Machines.{stateOf};
 ghost use Rattle.engine_rules.specs.Engines.{engineOf, Sound, Judged, outcomeOf, endAnswer, ranOf, runFrom, startOf, runOf};
 
 // ---- what a run answers
 
-fn number_of(ending: Ending) -> u8
-    ensures { λ r. ⌜ r ≡ endingNumber ending ⌝ }
+// An ending's number, which has no place.
+fn end_answer(ending: Ending) -> Answer
+    ensures { λ r. ⌜ r ≡ endAnswer ending ⌝ }
 {
-    match ending {
-        Ending::Done => 20,
-        Ending::NoArrow => 21,
-        Ending::Fault => 22,
-        Ending::LogFull => 23,
-        Ending::Silent => 24,
-        Ending::Spent => 25,
-        Ending::NoLanding => 26,
-        Ending::Refused => Refusal::BAD_LAYOUT,
+    Answer {
+        number: ending.number(),
+        place: 0,
     }
 }
 
@@ -40,14 +34,13 @@ fn finish(regs: [u32; Engine::REGISTERS], at: Point, ending: Ending, steps: u32)
     ensures { λ r. ⌜ r ≡ outcomeOf (engineOf regs (at .at) (at .status)) (endAnswer ending) steps (at .pairs) (at .used) ⌝ }
 {
     let status = at.status;
-    let number = number_of(ending);
     EngineOutcome {
         engine: Engine {
             regs,
             at: at.at,
             status,
         },
-        answer: Answer { number, place: 0 },
+        answer: end_answer(ending),
         steps,
         pairs: at.pairs,
         used: at.used,
@@ -112,11 +105,9 @@ fn run_on(
         let top = last_index(words.len());
         return go(layout, words, top, engine, memory, budget, readings, log);
     }
-    let ending = ending_of(status);
-    let number = number_of(ending);
     EngineOutcome {
         engine,
-        answer: Answer { number, place: 0 },
+        answer: end_answer(Ending::of(status)),
         steps: 0,
         pairs: 0,
         used: 0,
@@ -136,8 +127,8 @@ pub fn run(
     ensures { λ r. ⌜ ranOf r (now (memory .exit)) (now (log .exit)) ≡ runOf layout (now (words .entry)) engine (now (memory .entry)) budget (now (readings .entry)) (now (log .entry)) ⌝ }
 {
     let answer = engine_judge::judge(layout, words, memory.len());
-    let number = answer.number;
-    if number == 0 {
+    let refused = answer.number;
+    if refused == Refusal::TAKEN {
         return run_on(layout, words, engine, memory, budget, readings, log);
     }
     EngineOutcome {

@@ -1,3 +1,4 @@
+use mathlib.Core.Path.{_∙_}
 use borrow.Author.Tests.{not-true, not-false}
 use borrow.Author.Needs.{needs}
 use Rattle.engine_judge.proofs.Judging.{bad-layout, oversize, judged}
@@ -9,7 +10,10 @@ judge-spec =
     tie.close
     (tie.spec
     (λ c κs. search needs)
-    (λ c. search (bad-layout, not-true, needs))
-    (λ c. search (oversize, not-false, needs))
+    (λ c κs. search needs)
+    (λ c. c .refused .ensures ∙ search (bad-layout, not-true, needs))
+    (λ c κs. search needs)
+    (λ c. c .refused2 .ensures ∙ search (oversize, not-false, needs))
+    (λ c κs. search needs)
     (λ c κs. search needs)
     (λ c. search (judged, not-false, needs)))
