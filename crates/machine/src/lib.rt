@@ -1,27 +1,10 @@
 // The stepping machine: runs and steps, the record by value.
-use rules::Ending;
 use rules::Layout;
 use rules::Machine;
 use rules::Outcome;
-use rules::RunAnswer;
-use words::layout;
+use words::layout::fits;
 ghost use mathlib.Core.Path.{_≡_};
-ghost use Rattle.rules.specs.declared.Ending.the-variants.{Refused};
-ghost use Rattle.rules.specs.Machines.{outcomeOf, ranOf, runOf};
-
-fn refused(machine: Machine) -> Outcome
-    ensures { λ r. ⌜ r ≡ outcomeOf machine Refused 0 0 0 ⌝ }
-{
-    Outcome {
-        machine,
-        answer: RunAnswer {
-            ending: Ending::Refused,
-            steps: 0,
-            pairs: 0,
-            used: 0,
-        },
-    }
-}
+ghost use Rattle.rules.specs.Machines.{ranOf, runOf};
 
 // A run, the record by value.
 pub fn run_value(
@@ -35,8 +18,8 @@ pub fn run_value(
 ) -> Outcome
     ensures { λ r. ⌜ ranOf r (now (memory .exit)) (now (log .exit)) ≡ runOf layout (now (commands .entry)) machine (now (memory .entry)) budget (now (readings .entry)) (now (log .entry)) ⌝ }
 {
-    if !(layout::right(layout) & (memory.len() == layout.size as usize)) {
-        return refused(machine);
+    if !fits(layout, memory.len()) {
+        return Outcome::refused(machine);
     }
     machine_loop::run_on(layout, commands, machine, memory, budget, readings, log)
 }

@@ -9,7 +9,6 @@ run-value-spec =
     tie.close
     (tie.spec
     (λ c κs. search needs)
-    (λ c. search needs)
     (λ c κs. search needs)
     (λ c. search (refused-run, not-true, needs))
     (λ c κs. search needs)

@@ -1,7 +1,9 @@
 -- `machine_preview::preview` meets its contract: what is run is the memory's copy, as long as the memory.
-use mathlib.Core.Path.{sym}
+use mathlib.Core.Path.{sym, _∙_}
+use native.Mathlib.Omega.{arith}
 use lib.Seq.{length-take-le}
 use borrow.Author.Needs.{needs}
+use Rattle.words_cells.proofs.Storing.{store-all}
 use Rattle.machine_preview.proofs.Laws.{refused-long, ran-copy}
 use Rattle.machine_preview.proofs.preview.Statement.{statement}
 use Rattle.machine_preview.proofs.preview.Tie as tie
@@ -21,8 +23,8 @@ array-borrow-prefix-copied c = search needs
 slice-aggregate-cells : tie.Need-slice-aggregate-cells
 slice-aggregate-cells c = sym (length-take-le _ _ (array-borrow-prefix-copied (c .before)))
 
-copy-requires : tie.Need-copy-requires
-copy-requires c κs = length-take-le _ _ (array-borrow-prefix-copied (c .before .before))
+store-cells-requires : tie.Need-store-cells-requires
+store-cells-requires c κs = omega (arith, slice-aggregate-cells (c .before))
 
 run-value-requires : tie.Need-run-value-requires
 run-value-requires c κs = search needs
@@ -33,7 +35,7 @@ same-length c = search needs
 returns-2 : tie.Need-returns-2
 returns-2 c =
     let r = c .before .before .before in
-    ran-copy _ _ _ _ _ _ _ _ (r .before .before .before .before .copy .ensures) _ _ _ (r .run-value .ensures)
+    ran-copy _ _ _ _ _ _ _ _ (r .before .before .before .before .store-cells .ensures ∙ store-all _ _ (length-take-le _ _ (search needs))) _ _ _ (r .run-value .ensures)
 
 pub preview-spec : {M : Type 1} → statement M
 preview-spec =
@@ -44,7 +46,7 @@ preview-spec =
     returns
     array-borrow-prefix-copied
     slice-aggregate-cells
-    copy-requires
+    store-cells-requires
     run-value-requires
     same-length
     returns-2)
