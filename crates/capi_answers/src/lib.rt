@@ -19,6 +19,5 @@ pub fn run_answer_of(a: RunAnswer) -> [u32; RUN_ANSWER]
     ensures { λ r. ⌜ r ≡ runAnswerTo a ⌝ }
 {
     let e = a.ending;
-    let ending = sandbox_endings::ending_number(e);
-    [ending, a.steps, a.pairs as u32, a.used as u32]
+    [e.number() as u32, a.steps, a.pairs as u32, a.used as u32]
 }

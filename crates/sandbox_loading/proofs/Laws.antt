@@ -4,7 +4,7 @@ use mathlib.Core.Path.{_≡_, refl, sym, ap, _∙_}
 use mathlib.Core.List.{List, _++_}
 use native.Mathlib.Omega.{arith}
 use lib.ListN.{length, take, drop, length-append}
-use lib.Seq.{length-take-le}
+use lib.Seq.{sets, length-take-le}
 use borrow.Author.Tests.{eq-eqb, ne-eqb}
 use Rattle.rules.specs.declared.Layout.{Layout}
 use Rattle.rules.specs.declared.Machine.{Machine}
@@ -17,6 +17,7 @@ use Rattle.rules.specs.Bundles.{commandsOf, commandCount, rewriteAnswer, checkA
 use Rattle.rules.specs.Machines.{machineRefused, installAnswer, installMemory, installMachine, installOf}
 use Rattle.sandbox_rules.specs.Loading.{loadAnswer, loadCommands, loadMemory, loadMachine, loadOf}
 use Rattle.sandbox_translating.specs.Translating.{translateAnswer, Listed}
+use Rattle.words_cells.proofs.Storing.{store-front}
 use Rattle.rules.proofs.Refusals.{else-next, else-kept}
 use Rattle.sandbox_translating.proofs.Elses.{else-three, else-twice}
 
@@ -61,10 +62,12 @@ module _ (lay : Layout) (pol : Policy) (s out mem : List ℕ) where
           let same : loads ≡ installs = loads-are a e ∙ else-next a _ z ∙ else-kept installs a n in
           rw (same, ne-eqb _ _ n) (ei ∙ rw (ne-eqb _ _ n), (refl, (em ∙ rw (ne-eqb _ _ n), λ y. absurd (h y))))
 
-      pub loaded : i .answer .number ≡ 0 → (list : List ℕ) → (a .number ≡ 0 → Listed lay s (length out) list a) → (out′ : List ℕ) → out′ ≡ take (a .place) list ++ drop (length (take (a .place) list)) out → Loaded (record { machine = i .machine; answer = a }) out′ mem′
+      pub loaded : i .answer .number ≡ 0 → (list : List ℕ) → (a .number ≡ 0 → Listed lay s (length out) list a) → (out′ : List ℕ) → out′ ≡ sets out 0 (take (a .place) list) → Loaded (record { machine = i .machine; answer = a }) out′ mem′
       unfolding loadCommands loadMemory loadMachine
-      loaded y list l out′ eo =
+      loaded y list l out′ es =
+          let t : length (take (a .place) list) ≡ a .place = length-take-le (a .place) list (l z .within) in
+          let eo : out′ ≡ take (a .place) list ++ drop (length (take (a .place) list)) out = es ∙ store-front out (take (a .place) list) (omega (arith, t, l z .fits)) in
           let same : loads ≡ a = loads-are a e ∙ else-next a _ z ∙ else-next installs a (rw same-answer at y) in
-          let n : a .place ≤ length out′ = omega (arith, length-take-le (a .place) list (l z .within), length-append (take (a .place) list) (drop (length (take (a .place) list)) out), ap length eo) in
+          let n : a .place ≤ length out′ = omega (arith, t, length-append (take (a .place) list) (drop (length (take (a .place) list)) out), ap length eo) in
           rw (same, eq-eqb _ _ z)
           (ap (λ (x : Installed). record { machine = x .machine; answer = a }) ei, (eo ∙ rw (l z .commands), (em, λ _. n)))

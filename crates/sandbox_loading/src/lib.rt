@@ -1,30 +1,22 @@
 // Loading: from a routine's bytes to an installed machine and its commands: reading, rewriting,
 // checking and installing in one call. Whatever refuses, lent memory stays as it was, so the parts
 // work on a list of this crate's own and only a loaded routine's commands are copied out.
+use rules::Bundle;
 use rules::Installed;
 use rules::Layout;
 use rules::Machine;
 use rules::Policy;
 use rules::Refusal;
 use sandbox_translating::translate;
+use words_cells::store_words;
 ghost use Prim.Native.Nat.{_≤_};
 ghost use mathlib.Core.Path.{_≡_};
-ghost use mathlib.Core.List.{_++_};
-ghost use lib.ListN.{length, drop};
+ghost use lib.ListN.{length};
 ghost use Rattle.rules.specs.Policies.{policyOf};
 ghost use Rattle.sandbox_rules.specs.Loading.{loadOf, loadCommands, loadMemory};
 
-// Copies all of `from` to the start of `to`.
-fn copy(from: &[u64], to: &mut [u64])
-    requires { ⌜ length (now from) ≤ length (now to) ⌝ }
-    ensures { λ _. ⌜ now (to .exit) ≡ now (from .entry) ++ drop (length (now (from .entry))) (now (to .entry)) ⌝ }
-{
-    let mut i = 0;
-    while i < from.len() {
-        to[i] = from[i];
-        i += 1;
-    }
-}
+// The most commands of a list.
+const MOST_COMMANDS: usize = Bundle::LENGTH * Bundle::MOST;
 
 // Loads a routine: its first refusal by reading, rewriting, checking or installing; or 0 and the
 // count of its commands, which then stand at the start of `commands`, and the machine's record.
@@ -42,7 +34,7 @@ pub fn load(
     ensures memory { λ _. ⌜ now (memory .exit) ≡ loadMemory layout (policyOf (policy .states) (policy .start) (now (table .entry)) (now (landings .entry))) (now (bytes .entry)) (length (now (commands .entry))) (now (memory .entry)) ⌝ }
     ensures within { λ r. ⌜ (r .answer .number ≡ 0 → r .answer .place ≤ length (now (commands .exit))) ⌝ }
 {
-    let mut list = [0u64; 4096];
+    let mut list = [0u64; MOST_COMMANDS];
     let a = translate(layout, bytes, commands.len(), &mut list);
     let refused = a.number;
     if refused != Refusal::TAKEN {
@@ -58,7 +50,7 @@ pub fn load(
         return i;
     }
     let n = a.place;
-    copy(&list[..n], commands);
+    store_words(commands, 0, &list[..n]);
     let m = i.machine;
     Installed {
         machine: m,

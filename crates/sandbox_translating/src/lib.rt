@@ -1,6 +1,7 @@
 // From a routine's bytes to commands that passed: reading, rewriting and checking, on lists of this crate's own and of the
 // caller's, so that whatever refuses, nothing lent by a host is touched.
 use rules::Answer;
+use rules::Instr;
 use rules::Layout;
 use rules::Refusal;
 ghost use Prim.Native.Nat.{_≤_};
@@ -14,7 +15,7 @@ fn write_commands(layout: Layout, bytes: &[u8], list: &mut [u64]) -> Answer
     ensures answer { λ r. ⌜ r ≡ writtenAnswer layout (now (bytes .entry)) (length (now (list .entry))) ⌝ }
     ensures content { λ _. ⌜ now (list .exit) ≡ writtenOutput layout (now (bytes .entry)) (now (list .entry)) ⌝ }
 {
-    let mut words = [0u64; 1023];
+    let mut words = [0u64; Instr::MOST];
     let a = codec::read(bytes, &mut words);
     let refused = a.number;
     if refused != Refusal::TAKEN {
@@ -34,10 +35,7 @@ fn in_room(a: Answer, room: usize) -> Answer
     }
     let n = a.place;
     if room < n {
-        return Answer {
-            number: Refusal::SMALL_OUTPUT,
-            place: 0,
-        };
+        return Answer::refused(Refusal::SMALL_OUTPUT);
     }
     a
 }

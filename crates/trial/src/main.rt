@@ -31,7 +31,7 @@ fn print_events(log: &[u32], pairs: usize)
     }
 }
 
-fn print_end(ending: u32, steps: u32, state: u32) {
+fn print_end(ending: u8, steps: u32, state: u32) {
     print(b"end ", ending as u64);
     print(b" steps ", steps as u64);
     print(b" state ", state as u64);
@@ -46,7 +46,7 @@ fn run(layout: Layout, commands: &[u64], start: Machine, memory: &mut [u32; 1024
     let a = out.answer;
     print_events(&log, a.pairs);
     let e = a.ending;
-    print_end(sandbox::ending_number(e), a.steps, memory[0]);
+    print_end(e.number(), a.steps, memory[0]);
 }
 
 // Landings 0 to 1,023.

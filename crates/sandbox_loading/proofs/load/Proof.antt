@@ -45,15 +45,15 @@ listed c =
     t .translate .ensures .1 (c .before .before .if1 .left)
 
 array-share-prefix-list : tie.Need-array-share-prefix-list
-array-share-prefix-list c = listed (c .before .before .before .before) .within
+array-share-prefix-list c = listed (c .before .before .before .before .before) .within
 
-slice-aggregate-copy : tie.Need-slice-aggregate-copy
-slice-aggregate-copy c = sym (length-take-le _ _ (array-share-prefix-list (c .before)))
+slice-aggregate-store-words : tie.Need-slice-aggregate-store-words
+slice-aggregate-store-words c = sym (length-take-le _ _ (array-share-prefix-list (c .before)))
 
-copy-requires : tie.Need-copy-requires
-copy-requires c κs =
+store-words-requires : tie.Need-store-words-requires
+store-words-requires c κs =
     let l = listed (c .before .before .before .before .before .before) in
-    omega (arith, l .fits, slice-aggregate-copy (c .before))
+    omega (arith, l .fits, slice-aggregate-store-words c)
 
 same-length-2 : tie.Need-same-length-2
 same-length-2 c = search needs
@@ -68,7 +68,7 @@ returns-3 c =
     let i = n .before .before .before .before in
     let t = i .before .before .before .before in
     let x = t .before .before .before .before .before .before .before .args in
-    loaded (x .layout) (policyOf (x .policy .states) (x .policy .start) (x .table .now) (x .landings .now)) (x .bytes .now) (x .commands .now) (x .memory .now) _ (t .translate .ensures .0) (i .before .before .if1 .left) _ (i .install .ensures .0) _ (i .install .ensures .1) (n .if2 .left) _ (t .translate .ensures .1) _ (w .copy .ensures)
+    loaded (x .layout) (policyOf (x .policy .states) (x .policy .start) (x .table .now) (x .landings .now)) (x .bytes .now) (x .commands .now) (x .memory .now) _ (t .translate .ensures .0) (i .before .before .if1 .left) _ (i .install .ensures .0) _ (i .install .ensures .1) (n .if2 .left) _ (t .translate .ensures .1) _ (w .store-words .ensures)
 
 pub load-spec : {M : Type 1} → statement M
 load-spec =
@@ -82,8 +82,8 @@ load-spec =
     same-length
     returns-2
     array-share-prefix-list
-    slice-aggregate-copy
-    copy-requires
+    slice-aggregate-store-words
+    store-words-requires
     same-length-2
     same-length-3
     returns-3)

@@ -1,4 +1,5 @@
 -- `sandbox_translating::in_room` meets its contract: a law for each way out.
+use mathlib.Core.Path.{_∙_}
 use borrow.Author.Needs.{needs}
 use Rattle.sandbox_translating.proofs.Laws.{roomed, roomless, roomy}
 use Rattle.sandbox_translating.proofs.in_room.Statement.{statement}
@@ -7,11 +8,14 @@ use Rattle.sandbox_translating.proofs.in_room.Tie as tie
 returns : tie.Need-returns
 returns c = search (roomed, needs)
 
+refused-requires : tie.Need-refused-requires
+refused-requires c κs = search needs
+
 returns-2 : tie.Need-returns-2
-returns-2 c = search (roomless, needs)
+returns-2 c = c .refused .ensures ∙ search (roomless, needs)
 
 returns-3 : tie.Need-returns-3
 returns-3 c = search (roomy, needs)
 
 pub in-room-spec : {M : Type 1} → statement M
-in-room-spec = tie.close (tie.spec returns returns-2 returns-3)
+in-room-spec = tie.close (tie.spec returns refused-requires returns-2 returns-3)

@@ -13,7 +13,6 @@ use Rattle.trial.proofs.run.Tie as tie
 use Rattle.trial.proofs.run.Reads as reads
 use Rattle.trial.proofs.run.Lts as lts
 use Rattle.sandbox.proofs.run.Reads as run-reads
-use Rattle.sandbox.proofs.ending_number.Reads as ending-number-reads
 use Rattle.trial.proofs.print_end.Reads as print-end-reads
 use Rattle.trial.proofs.print_events.Reads as print-events-reads
 
@@ -36,8 +35,8 @@ within o mem log r g rd n e k = let c : RunCounts g rd n (ranOf o mem log) = rw 
 print-events-requires : tie.Need-print-events-requires
 print-events-requires c κs = within _ _ _ _ _ _ _ (c .before .before .before .run .ensures) (run-counts _ _ _ _ _ _ _)
 
-ending-number-requires : tie.Need-ending-number-requires
-ending-number-requires c κs = search needs
+number-requires : tie.Need-number-requires
+number-requires c κs = search needs
 
 element-copy-out-print-end : tie.Need-element-copy-out-print-end
 element-copy-out-print-end c = search needs
@@ -57,7 +56,7 @@ run-spec =
     run-requires
     slice-aggregate-print-events
     print-events-requires
-    ending-number-requires
+    number-requires
     element-copy-out-print-end
     print-end-requires
     returns)
