@@ -1,1 +1,3 @@
 pub mod Hosting
+pub mod Calls
+pub mod Proved

@@ -1,1 +1,3 @@
 pub mod Records
+pub mod Claims
+pub mod Proved

@@ -13,7 +13,7 @@ use Rattle.rules.specs.Policies.{Policy}
 use Rattle.rules.specs.Bundles.{checkAnswer}
 use Rattle.rules.specs.Machines.{State, nextOf, stepOf, applyOf, Ran, startOf, fits, runFrom, runOf, installAnswer, installMachine, installMemory}
 use Rattle.rules.specs.Runs.{Given, Carried, carriedOf, atFirst, runOn, afterTaken, afterRun, Run, runsOf, Lends}
-use Rattle.rules.proofs.Endings.{run-ind}
+use Rattle.rules.proofs.Endings.{over-ind, wait-ind}
 use Rattle.rules.proofs.Conditions.{machine-of}
 use Rattle.rules.proofs.Isolation.{isolation}
 use Rattle.sandbox_rules.proofs.Loading.{loads}
@@ -30,7 +30,7 @@ pub untouched : Untouched
 untouched xs r n e = ap (λ (m : Machine). numbersAfter registers xs (machineTo m)) e ∙ untouched-by registers xs n
 
 -- ---- a run keeps the count of registers
-apply-regs : (caps rd : List ℕ) (e : Effect) (s : State) → length (applyOf caps rd e s .regs) ≡ length (s .regs)
+pub apply-regs : (caps rd : List ℕ) (e : Effect) (s : State) → length (applyOf caps rd e s .regs) ≡ length (s .regs)
 unfolding applyOf
 apply-regs caps rd (Go to) s = refl
 apply-regs caps rd (Put d x) s = length-set (s .regs) d x
@@ -44,8 +44,10 @@ from-regs : (lay : Layout) (ws rd : List ℕ) (n k : ℕ) (s : State) → length
 unfolding runFrom
 from-regs lay ws rd zero k s = refl
 from-regs lay ws rd (suc n) k s =
-    run-ind lay ws rd n k s (λ (r : Ran). length (r .outcome .machine .regs) ≡ length (s .regs)) (λ _. refl) (λ _ w z. refl)
-    (λ _ _. from-regs lay ws rd n (k + 1) (stepOf lay ws rd s) ∙ apply-regs (lay .ceilings) rd (nextOf lay ws rd s) s)
+    let P : Ran → Type 0 = λ r. length (r .outcome .machine .regs) ≡ length (s .regs) in
+    let e = nextOf lay ws rd s in
+    over-ind P (s .status) (λ _. refl)
+    (λ _. wait-ind P e (λ w z. refl) (λ _. from-regs lay ws rd n (k + 1) (stepOf lay ws rd s) ∙ apply-regs (lay .ceilings) rd e s))
 
 -- ---- what is carried on is the record that the run left
 carries : (lay : Layout) (ws : List ℕ) (c : Carried) (g : Given) (t : Bool) → fits lay (g .memory) ≡ t → (afterRun lay ws c g .machine ≡ runOn lay ws c g .outcome .machine) × (length (afterRun lay ws c g .machine .regs) ≡ length (c .machine .regs))

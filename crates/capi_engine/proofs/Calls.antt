@@ -1,0 +1,93 @@
+-- A list of calls of the engine is a list of its runs.
+use Prim.Native.Nat.{ℕ, zero, suc, _+_}
+use mathlib.Core.Path.{_≡_, refl, sym, _∙_, ap, subst}
+use mathlib.Core.Bool.{Bool, true, false}
+use mathlib.Core.List.{List, [], _∷_, map}
+use lib.Dec.{eqb}
+use lib.ListN.{length}
+use Rattle.rules.specs.declared.Layout.{Layout}
+use Rattle.rules.specs.Names.{guestRegisters}
+use Rattle.rules.specs.Policies.{Policy}
+use Rattle.rules.specs.Machines.{State, installAnswer, installMemory}
+use Rattle.rules.specs.Runs.{Given, Carried as MachineCarried}
+use Rattle.rules.proofs.Conditions.{installs}
+use Rattle.rules.proofs.Endings.{over-ind, wait-ind}
+use Rattle.rules.proofs.Loading.{loads}
+use Rattle.capi_numbers.specs.Numbers.{layoutFrom, numbersAfter}
+use Rattle.capi_numbers.specs.Hosts.{installFor, loadFor, HostRan}
+use Rattle.capi_numbers.proofs.Numbers.{regs-again, at-again, status-of-record, after-known, untouched-by}
+use Rattle.capi_numbers.proofs.Calls.{apply-regs}
+use Rattle.engine_rules.specs.declared.Engine.{Engine}
+use Rattle.engine_rules.specs.Engines.{engineFirst, nextOf, effectOn, stepOf, withMemory, movedOf, Ran, runFrom, startOf, refusalOf, refusalBy, runOf}
+use Rattle.engine_rules.specs.Claims.{Carried, carriedOf, atFirst, runOn, afterTaken, afterRun, Run, runsOf, Lends}
+use Rattle.engine_rules.proofs.Isolation.{engine-isolation}
+use Rattle.capi_engine.specs.Records.{engineTo, engineFor}
+use Rattle.capi_engine.specs.Claims.{RecordBack, Untouched, callsOf, ranTo, Laid, installed, loaded, HostEngineIsolation}
+
+pub record-back : RecordBack
+record-back m n =
+    rw (regs-again guestRegisters (m .regs) (m .at) (m .status) n, at-again guestRegisters (m .regs) (m .at) (m .status) n, status-of-record guestRegisters (m .regs) (m .at) (m .status) n)
+
+pub untouched : Untouched
+untouched xs r n e = ap (λ (m : Engine). numbersAfter guestRegisters xs (engineTo m)) e ∙ untouched-by guestRegisters xs n
+
+-- ---- a run keeps the count of registers
+from-regs : (lay : Layout) (ws rd : List ℕ) (n k : ℕ) (s : State) → length (runFrom lay ws rd n k s .outcome .engine .regs) ≡ length (s .regs)
+unfolding runFrom effectOn
+from-regs lay ws rd zero k s = refl
+from-regs lay ws rd (suc n) k s =
+    let P : Ran → Type 0 = λ r. length (r .outcome .engine .regs) ≡ length (s .regs) in
+    let e = nextOf lay ws rd s in
+    over-ind P (s .status) (λ _. refl)
+    (λ _. wait-ind P e (λ w z. refl)
+    (λ _. from-regs lay ws rd n (k + 1) (stepOf lay ws rd s) ∙ apply-regs (lay .ceilings) rd e (withMemory s (movedOf lay e (s .mem)))))
+
+-- ---- what is carried on is the record that the run left
+carries : (lay : Layout) (ws : List ℕ) (c : Carried) (g : Given) (t : Bool) → eqb (refusalOf lay ws (g .memory) .number) 0 ≡ t → (afterRun lay ws c g .engine ≡ runOn lay ws c g .outcome .engine) × (length (afterRun lay ws c g .engine .regs) ≡ length (c .engine .regs))
+unfolding afterRun afterTaken runOn runOf
+carries lay ws c g true e = rw e (refl, from-regs lay ws (g .readings) (g .budget) 0 (startOf (c .engine) (g .memory) (g .log)))
+carries lay ws c g false e = rw e (refl, refl)
+
+-- a call is given the numbers of what is carried: it leaves those of the run
+call : (lay ws : List ℕ) (c : Carried) (g : Given) → length (c .engine .regs) ≡ guestRegisters
+    → engineFor lay ws (engineTo (c .engine)) (g .memory) (g .budget) (g .readings) (g .log) ≡ ranTo (runOn (layoutFrom lay) ws c g)
+unfolding engineFor runOn
+call lay ws c g n = rw (record-back (c .engine) n, after-known guestRegisters (c .engine .regs) (c .engine .at) (c .engine .status) n)
+
+calls-from : (lay ws : List ℕ) (c : Carried) (gs : List Given) → length (c .engine .regs) ≡ guestRegisters → callsOf lay ws (engineTo (c .engine)) gs ≡ map (λ (r : Run). ranTo (r .ran)) (runsOf (layoutFrom lay) ws c gs)
+unfolding callsOf runsOf
+calls-from lay ws c [] n = refl
+calls-from lay ws c (g ∷ gs) n =
+    let l = layoutFrom lay in
+    let q = carries l ws c g _ refl in
+    rw (call lay ws c g n)
+    (ap (λ (rs : List HostRan). ranTo (runOn l ws c g) ∷ rs)
+    (ap (λ (m : Engine). callsOf lay ws (engineTo m) gs) (sym (q .0)) ∙ calls-from lay ws (afterRun l ws c g) gs (q .1 ∙ n)))
+
+-- ---- the memory that was laid out is an installation's
+record Stands (l : Layout) (pol : Policy) (mem left : List ℕ) : Type 0 where
+  taken : installAnswer l pol mem .number ≡ 0
+  memory : left ≡ installMemory l pol mem
+
+stands : {lay : List ℕ} {pol : Policy} {mem left : List ℕ} → Laid lay pol mem left → Stands (layoutFrom lay) pol mem left
+unfolding installFor loadFor
+stands (installed i) = record { taken = i; memory = refl }
+stands {lay} {pol} {mem} (loaded bytes out z) =
+    let d = loads (layoutFrom lay) pol bytes out mem z in
+    record { taken = d .installed; memory = ap (λ (c : MachineCarried). c .memory) (d .first) }
+
+pub host-engine-isolation : HostEngineIsolation
+host-engine-isolation lay pol mem ws left gs laid take lends =
+    let l = layoutFrom lay in
+    let s = stands laid in
+    let size : length left ≡ length mem = ap length (s .memory) ∙ installs l pol mem (s .taken) .size in
+    record {
+      calls = calls-from lay ws (atFirst l pol mem) gs refl;
+      isolated =
+          engine-isolation l pol ws mem gs
+          (record {
+            taken = ap (λ (k : ℕ). refusalBy l ws k .number) (sym size) ∙ take;
+            installed = s .taken;
+            lends = subst (λ (x : List ℕ). Lends l ws (carriedOf engineFirst x [] [] 0) gs) (s .memory) lends;
+          });
+    }
