@@ -18,7 +18,7 @@ use Rattle.capi_numbers.specs.Hosts.{installFor, loadFor, HostRan}
 use Rattle.capi_numbers.proofs.Numbers.{regs-again, at-again, status-of-record, after-known, untouched-by}
 use Rattle.capi_numbers.proofs.Calls.{apply-regs}
 use Rattle.engine_rules.specs.declared.Engine.{Engine}
-use Rattle.engine_rules.specs.Engines.{engineFirst, nextOf, effectOn, stepOf, withMemory, movedOf, Ran, runFrom, startOf, refusalOf, refusalBy, runOf}
+use Rattle.engine_rules.specs.Engines.{engineOf, engineFirst, nextOf, effectOn, stepOf, withMemory, movedOf, Ran, runFrom, startOf, refusalOf, refusalBy, runOf}
 use Rattle.engine_rules.specs.Claims.{Carried, carriedOf, atFirst, runOn, afterTaken, afterRun, Run, runsOf, Lends}
 use Rattle.engine_rules.proofs.Isolation.{engine-isolation}
 use Rattle.capi_engine.specs.Records.{engineTo, engineFor}
@@ -26,7 +26,7 @@ use Rattle.capi_engine.specs.Claims.{RecordBack, Untouched, callsOf, ran
 
 pub record-back : RecordBack
 record-back m n =
-    rw (regs-again guestRegisters (m .regs) (m .at) (m .status) n, at-again guestRegisters (m .regs) (m .at) (m .status) n, status-of-record guestRegisters (m .regs) (m .at) (m .status) n)
+    λ i. engineOf (regs-again guestRegisters (m .regs) (m .at) (m .status) n i) (at-again guestRegisters (m .regs) (m .at) (m .status) n i) (status-of-record guestRegisters (m .regs) (m .at) (m .status) n i)
 
 pub untouched : Untouched
 untouched xs r n e = ap (λ (m : Engine). numbersAfter guestRegisters xs (engineTo m)) e ∙ untouched-by guestRegisters xs n

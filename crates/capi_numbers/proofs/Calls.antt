@@ -11,7 +11,7 @@ use Rattle.rules.specs.declared.Effect.the-variants.{Go, Put, Cell, Order, Prob
 use Rattle.rules.specs.Names.{registers}
 use Rattle.rules.specs.Policies.{Policy}
 use Rattle.rules.specs.Bundles.{checkAnswer}
-use Rattle.rules.specs.Machines.{State, nextOf, stepOf, applyOf, Ran, startOf, fits, runFrom, runOf, installAnswer, installMachine, installMemory}
+use Rattle.rules.specs.Machines.{machineOf, State, nextOf, stepOf, applyOf, Ran, startOf, fits, runFrom, runOf, installAnswer, installMachine, installMemory}
 use Rattle.rules.specs.Runs.{Given, Carried, carriedOf, atFirst, runOn, afterTaken, afterRun, Run, runsOf, Lends}
 use Rattle.rules.proofs.Endings.{over-ind, wait-ind}
 use Rattle.rules.proofs.Conditions.{machine-of}
@@ -24,7 +24,7 @@ use Rattle.capi_numbers.proofs.Numbers.{regs-again, at-again, status-of
 
 pub record-back : RecordBack
 record-back m n =
-    rw (regs-again registers (m .regs) (m .pc) (m .status) n, at-again registers (m .regs) (m .pc) (m .status) n, status-of-record registers (m .regs) (m .pc) (m .status) n)
+    λ i. machineOf (regs-again registers (m .regs) (m .pc) (m .status) n i) (at-again registers (m .regs) (m .pc) (m .status) n i) (status-of-record registers (m .regs) (m .pc) (m .status) n i)
 
 pub untouched : Untouched
 untouched xs r n e = ap (λ (m : Machine). numbersAfter registers xs (machineTo m)) e ∙ untouched-by registers xs n

@@ -1,38 +1,57 @@
--- A sample on the premises of HostIsolation: document 01's trial as a C host calls it, in two runs.
+-- A sample on the premise of HostIsolation: document 01's routine on a small drum, loaded, run in two calls with a refused one between, and run
+-- again under another policy that is installed over the first.
 use Prim.Native.Nat.{ℕ}
 use mathlib.Core.Path.{_≡_}
-use mathlib.Core.List.{List, [], _∷_, map}
-use lib.ListN.{replicate}
-use Rattle.rules.specs.Names.{mostCommands}
-use Rattle.rules.specs.Layouts.{noLimits}
-use Rattle.rules.specs.Runs.{Given, carriedOf, Lends}
-use Rattle.samples.specs.Trial.{policy, input, memory}
+use mathlib.Core.List.{List, [], _∷_, _++_, map}
+use lib.ListN.{set, replicate}
+use Rattle.rules.specs.Policies.{Policy, policyOf}
+use Rattle.rules.specs.Runs.{Given, Carried, carriedOf, afterRun, Lends}
 use Rattle.capi_numbers.specs.Numbers.{layoutFrom, machineFrom}
-use Rattle.capi_numbers.specs.Hosts.{HostLoaded, loadFor, runFor}
+use Rattle.capi_numbers.specs.Hosts.{HostInstalled, installFor, HostLoaded, loadFor}
 use Rattle.capi_numbers.specs.Claims.{callsOf, counted, Ready}
 
--- U 1,024, SL 256, SH 511, M 0, P 16, S 2, B 4,096, Q 64, and ceilings that limit nothing
+-- U 128, SL 96, SH 127, M 0, P 16, S 2, B 32, Q 64, no limits
 abbrev pub layout : List ℕ
-layout = 1024 ∷ 256 ∷ 511 ∷ 0 ∷ 16 ∷ 2 ∷ 4096 ∷ 64 ∷ noLimits
+layout = 128 ∷ 96 ∷ 127 ∷ 0 ∷ 16 ∷ 2 ∷ 32 ∷ 64 ∷ replicate 8 4294967295
 
-abbrev pub load : HostLoaded
-load = loadFor layout policy input (replicate mostCommands 0) memory
+-- the door's event 2 goes to state 1, which has no arrow for event 0, gas; and a policy that allows everything
+abbrev pub policy : Policy
+policy = policyOf 2 0 (0 ∷ 0 ∷ 1 ∷ replicate 13 0 ++ 255 ∷ replicate 15 1) []
+
+abbrev pub other : Policy
+other = policyOf 2 1 (replicate 32 0) (3 ∷ [])
+
+-- SET r0, 70; EVENT 0; EVENT 2; EVENT 0
+abbrev pub bytes : List ℕ
+bytes = 4 ∷ 0 ∷ 33 ∷ 1 ∷ 70 ∷ 0 ∷ 0 ∷ 0 ∷ 1 ∷ 12 ∷ 33 ∷ 12 ∷ 2 ∷ 0 ∷ 0 ∷ 0 ∷ 1 ∷ 12 ∷ []
+
+abbrev pub lot : HostLoaded
+lot = loadFor layout policy bytes (replicate 40 0) (replicate 128 0)
 
 abbrev pub given : List ℕ → ℕ → Given
-given mem budget = record { memory = mem; budget = budget; readings = 1800 ∷ 1950 ∷ 2100 ∷ []; log = replicate 64 0 }
+given mem budget = record { memory = mem; budget = budget; readings = []; log = replicate 8 0 }
 
--- six steps, and what is left
-abbrev pub firstRun : Given
-firstRun = given (load .memory) 6
+-- what is carried into the first call; six steps; a memory too short; a thousand steps, before which the host wrote to the free cell 8
+abbrev pub first : Carried
+first = carriedOf (machineFrom (lot .machine)) (lot .memory) [] [] 0
+
+abbrev pub firstCall : Given
+firstCall = given (lot .memory) 6
 
 abbrev pub left : List ℕ
-left = runFor layout (counted load) (load .machine) (load .memory) 6 (firstRun .readings) (firstRun .log) .memory
+left = afterRun (layoutFrom layout) (counted lot) first firstCall .memory
 
-abbrev pub runs : List Given
-runs = firstRun ∷ given left 1000 ∷ []
+abbrev pub calls : List Given
+calls = firstCall ∷ given [] 6 ∷ given (set left 8 5) 1000 ∷ []
 
--- a load stands ready and the runs are lent what was left; the first spends its budget, the second stops after eight steps, with two pairs
+-- the next lot: the other policy installed in what was left
+abbrev pub next : HostInstalled
+next = installFor layout other left
+
 pub record SampleHolds : Type 0 where
-  pub ready : Ready layout policy memory (counted load) (load .machine) (load .memory)
-  pub lends : Lends (layoutFrom layout) (counted load) (carriedOf (machineFrom (load .machine)) (load .memory) [] [] 0) runs
-  pub answers : map (λ r. r .answer) (callsOf layout (counted load) (load .machine) runs) ≡ (25 ∷ 6 ∷ 0 ∷ 0 ∷ []) ∷ (21 ∷ 8 ∷ 2 ∷ 0 ∷ []) ∷ []
+  pub loaded : lot .answer ≡ 0 ∷ 32 ∷ []
+  pub ready : Ready layout policy (replicate 128 0) (counted lot) (lot .machine) (lot .memory)
+  pub lends : Lends (layoutFrom layout) (counted lot) first calls
+  pub answers : map (λ r. r .answer) (callsOf layout (counted lot) (lot .machine) calls) ≡ (25 ∷ 6 ∷ 0 ∷ 0 ∷ []) ∷ (7 ∷ 0 ∷ 0 ∷ 0 ∷ []) ∷ (21 ∷ 8 ∷ 2 ∷ 0 ∷ []) ∷ []
+  pub again : Ready layout other left (counted lot) (next .machine) (next .memory)
+  pub ended : map (λ r. r .answer) (callsOf layout (counted lot) (next .machine) (given (next .memory) 1000 ∷ [])) ≡ (20 ∷ 17 ∷ 3 ∷ 0 ∷ []) ∷ []
