@@ -1,5 +1,5 @@
 -- A list of calls of the engine is a list of its runs.
-use Prim.Native.Nat.{ℕ, zero, suc, _+_}
+use Prim.Native.Nat.{ℕ}
 use mathlib.Core.Path.{_≡_, refl, sym, _∙_, ap, subst}
 use mathlib.Core.Bool.{Bool, true, false}
 use mathlib.Core.List.{List, [], _∷_, map}
@@ -8,18 +8,18 @@ use lib.ListN.{length}
 use Rattle.rules.specs.declared.Layout.{Layout}
 use Rattle.rules.specs.Names.{guestRegisters}
 use Rattle.rules.specs.Policies.{Policy}
-use Rattle.rules.specs.Machines.{State, installAnswer, installMemory}
+use Rattle.rules.specs.Machines.{installAnswer, installMemory}
 use Rattle.rules.specs.Runs.{Given, Carried as MachineCarried}
 use Rattle.rules.proofs.Conditions.{installs}
-use Rattle.rules.proofs.Endings.{over-ind, wait-ind}
 use Rattle.rules.proofs.Loading.{loads}
 use Rattle.capi_numbers.specs.Numbers.{layoutFrom, numbersAfter}
 use Rattle.capi_numbers.specs.Hosts.{installFor, loadFor, HostRan}
 use Rattle.capi_numbers.proofs.Numbers.{regs-again, at-again, status-of-record, after-known, untouched-by}
-use Rattle.capi_numbers.proofs.Calls.{apply-regs}
+use Rattle.capi_numbers.proofs.Calls.{apply-regs, keeps-regs}
 use Rattle.engine_rules.specs.declared.Engine.{Engine}
-use Rattle.engine_rules.specs.Engines.{engineOf, engineFirst, nextOf, effectOn, stepOf, withMemory, movedOf, Ran, runFrom, startOf, refusalOf, refusalBy, runOf}
+use Rattle.engine_rules.specs.Engines.{engineOf, engineFirst, effectOn, withMemory, movedOf, startOf, refusalOf, refusalBy, runOf}
 use Rattle.engine_rules.specs.Claims.{Carried, carriedOf, atFirst, runOn, afterTaken, afterRun, Run, runsOf, Lends}
+use Rattle.engine_rules.proofs.Runs.{engineLoop}
 use Rattle.engine_rules.proofs.Isolation.{engine-isolation}
 use Rattle.capi_engine.specs.Records.{engineTo, engineFor}
 use Rattle.capi_engine.specs.Claims.{RecordBack, Untouched, callsOf, ranTo, Laid, installed, loaded, HostEngineIsolation}
@@ -31,21 +31,15 @@ record-back m n =
 pub untouched : Untouched
 untouched xs r n e = ap (λ (m : Engine). numbersAfter guestRegisters xs (engineTo m)) e ∙ untouched-by guestRegisters xs n
 
--- ---- a run keeps the count of registers
-from-regs : (lay : Layout) (ws rd : List ℕ) (n k : ℕ) (s : State) → length (runFrom lay ws rd n k s .outcome .engine .regs) ≡ length (s .regs)
-unfolding runFrom effectOn
-from-regs lay ws rd zero k s = refl
-from-regs lay ws rd (suc n) k s =
-    let P : Ran → Type 0 = λ r. length (r .outcome .engine .regs) ≡ length (s .regs) in
-    let e = nextOf lay ws rd s in
-    over-ind P (s .status) (λ _. refl)
-    (λ _. wait-ind P e (λ w z. refl)
-    (λ _. from-regs lay ws rd n (k + 1) (stepOf lay ws rd s) ∙ apply-regs (lay .ceilings) rd e (withMemory s (movedOf lay e (s .mem)))))
-
 -- ---- what is carried on is the record that the run left
 carries : (lay : Layout) (ws : List ℕ) (c : Carried) (g : Given) (t : Bool) → eqb (refusalOf lay ws (g .memory) .number) 0 ≡ t → (afterRun lay ws c g .engine ≡ runOn lay ws c g .outcome .engine) × (length (afterRun lay ws c g .engine .regs) ≡ length (c .engine .regs))
-unfolding afterRun afterTaken runOn runOf
-carries lay ws c g true e = rw e (refl, from-regs lay ws (g .readings) (g .budget) 0 (startOf (c .engine) (g .memory) (g .log)))
+unfolding afterRun afterTaken runOn runOf effectOn
+carries lay ws c g true e =
+    rw e (
+      refl,
+      keeps-regs (engineLoop lay ws (g .readings)) (λ r. r .outcome .engine .regs) (λ _ _ _. refl)
+          (λ x s. apply-regs (lay .ceilings) (g .readings) x (withMemory s (movedOf lay x (s .mem)))) (g .budget) 0 (startOf (c .engine) (g .memory) (g .log)),
+    )
 carries lay ws c g false e = rw e (refl, refl)
 
 -- a call is given the numbers of what is carried: it leaves those of the run

@@ -1,19 +1,20 @@
 -- A list of calls is a list of runs.
-use Prim.Native.Nat.{ℕ, zero, suc, _+_}
+use Prim.Native.Nat.{ℕ}
 use mathlib.Core.Path.{_≡_, refl, sym, _∙_, ap, subst}
 use mathlib.Core.Bool.{Bool, true, false}
 use mathlib.Core.List.{List, [], _∷_, map}
 use lib.ListN.{length, length-set}
 use Rattle.rules.specs.declared.Layout.{Layout}
 use Rattle.rules.specs.declared.Machine.{Machine}
+use Rattle.rules.specs.declared.Ending.{Ending}
 use Rattle.rules.specs.declared.Effect.{Effect}
 use Rattle.rules.specs.declared.Effect.the-variants.{Go, Put, Cell, Order, Probe, End, Wait}
 use Rattle.rules.specs.Names.{registers}
 use Rattle.rules.specs.Policies.{Policy}
 use Rattle.rules.specs.Bundles.{checkAnswer}
-use Rattle.rules.specs.Machines.{machineOf, State, nextOf, stepOf, applyOf, Ran, startOf, fits, runFrom, runOf, installAnswer, installMachine, installMemory}
+use Rattle.rules.specs.Machines.{machineOf, State, applyOf, Ran, startOf, fits, runOf, installAnswer, installMachine, installMemory}
 use Rattle.rules.specs.Runs.{Given, Carried, carriedOf, atFirst, runOn, afterTaken, afterRun, Run, runsOf, Lends}
-use Rattle.rules.proofs.Endings.{over-ind, wait-ind}
+use Rattle.rules.proofs.Loops.{Loop, keeps, machineLoop}
 use Rattle.rules.proofs.Conditions.{machine-of}
 use Rattle.rules.proofs.Isolation.{isolation}
 use Rattle.sandbox_rules.proofs.Loading.{loads}
@@ -40,19 +41,18 @@ apply-regs caps rd (Probe v) s = length-set (s .regs) 0 _
 apply-regs caps rd (End t) s = refl
 apply-regs caps rd (Wait e) s = refl
 
-from-regs : (lay : Layout) (ws rd : List ℕ) (n k : ℕ) (s : State) → length (runFrom lay ws rd n k s .outcome .machine .regs) ≡ length (s .regs)
-unfolding runFrom
-from-regs lay ws rd zero k s = refl
-from-regs lay ws rd (suc n) k s =
-    let P : Ran → Type 0 = λ r. length (r .outcome .machine .regs) ≡ length (s .regs) in
-    let e = nextOf lay ws rd s in
-    over-ind P (s .status) (λ _. refl)
-    (λ _. wait-ind P e (λ w z. refl) (λ _. from-regs lay ws rd n (k + 1) (stepOf lay ws rd s) ∙ apply-regs (lay .ceilings) rd e s))
+-- of a loop, the machine's or the engine's
+pub keeps-regs : {R : Type 0} (l : Loop ℕ R) (regs : R → List ℕ) → ((e : Ending) (k : ℕ) (s : State) → regs (l .ends e k s) ≡ s .regs)
+    → ((e : Effect) (s : State) → length (l .act e s .regs) ≡ length (s .regs)) → (n k : ℕ) (s : State) → length (regs (l .from n k s)) ≡ length (s .regs)
+keeps-regs l regs ends acts n k s =
+    keeps l (λ _ _ t. length (t .regs) ≡ length (s .regs)) (λ r. length (regs r) ≡ length (s .regs))
+    (λ _ j t i _. ap length (ends _ j t) ∙ i) (λ _ j t i _ w _. ap length (ends w j t) ∙ i) (λ _ j t i _ _. acts _ t ∙ i) n k s refl
 
 -- ---- what is carried on is the record that the run left
 carries : (lay : Layout) (ws : List ℕ) (c : Carried) (g : Given) (t : Bool) → fits lay (g .memory) ≡ t → (afterRun lay ws c g .machine ≡ runOn lay ws c g .outcome .machine) × (length (afterRun lay ws c g .machine .regs) ≡ length (c .machine .regs))
 unfolding afterRun afterTaken runOn runOf
-carries lay ws c g true e = rw e (refl, from-regs lay ws (g .readings) (g .budget) 0 (startOf (c .machine) (g .memory) (g .log)))
+carries lay ws c g true e =
+    rw e (refl, keeps-regs (machineLoop lay ws (g .readings)) (λ r. r .outcome .machine .regs) (λ _ _ _. refl) (apply-regs (lay .ceilings) (g .readings)) (g .budget) 0 (startOf (c .machine) (g .memory) (g .log)))
 carries lay ws c g false e = rw e (refl, refl)
 
 -- a call is given the numbers of what is carried: it leaves those of the run

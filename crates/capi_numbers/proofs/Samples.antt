@@ -15,7 +15,7 @@ use Rattle.rules.specs.Bytes.{byteAt, quadAt, fieldsAt, oneFields, oneMap, oneO
 use Rattle.rules.specs.Commands.{isCommand, commandOf, wordOf, fetchOf, plainOf}
 use Rattle.rules.specs.Bundles.{shapeOf, placeAnswer, rewriteAnswer, valid, readOff, bundleAt, isBundle, shapedAt, passesAt, checkFrom, checkAnswer}
 use Rattle.rules.specs.Machines.{installAnswer, installMemory, installMachine, effectOf, applyOf, runFrom, runOf}
-use Rattle.rules.specs.Loading.{loadAnswer, loadCommands, loadMemory, loadMachine}
+use Rattle.sandbox_rules.specs.Loading.{loadAnswer, loadCommands, loadMemory, loadMachine}
 use Rattle.rules.specs.Runs.{runOn, afterTaken, afterRun, Matches}
 use Rattle.rules.proofs.Bools.{no}
 use Rattle.capi_numbers.specs.Numbers.{layoutFrom}
