@@ -11,7 +11,7 @@ use Rattle.rules.specs.Policies.{Policy}
 use Rattle.rules.specs.Machines.{installAnswer, installMemory}
 use Rattle.rules.specs.Runs.{Given, Carried as MachineCarried}
 use Rattle.rules.proofs.Conditions.{installs}
-use Rattle.rules.proofs.Loading.{loads}
+use Rattle.sandbox_rules.proofs.Loading.{loads}
 use Rattle.capi_numbers.specs.Numbers.{layoutFrom, numbersAfter}
 use Rattle.capi_numbers.specs.Hosts.{installFor, loadFor, HostRan}
 use Rattle.capi_numbers.proofs.Numbers.{regs-again, at-again, status-of-record, after-known, untouched-by}

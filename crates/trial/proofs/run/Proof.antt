@@ -1,6 +1,6 @@
 -- `trial::run` meets its contract.
 use Prim.Native.Nat.{ℕ, _*_, _≤_}
-use mathlib.Core.Path.{_≡_}
+use mathlib.Core.Path.{_≡_, sym, subst}
 use mathlib.Core.List.{List}
 use native.Mathlib.Omega.{arith}
 use lib.ListN.{length}
@@ -30,7 +30,9 @@ slice-aggregate-print-events c = search needs
 
 -- a run's pairs lie within its log
 within : (o : Outcome) (mem log : List ℕ) (r : Ran) (g rd : List ℕ) (n : ℕ) → ranOf o mem log ≡ r → RunCounts g rd n r → 2 * o .answer .pairs ≤ length log
-within o mem log r g rd n e k = let c : RunCounts g rd n (ranOf o mem log) = rw e k in omega (arith, c .room, c .log)
+within o mem log r g rd n e k =
+    let c : RunCounts g rd n (ranOf o mem log) = subst (λ (x : Ran). RunCounts g rd n x) (sym e) k in
+    omega (arith, c .room, c .log)
 
 print-events-requires : tie.Need-print-events-requires
 print-events-requires c κs = within _ _ _ _ _ _ _ (c .before .before .before .run .ensures) (run-counts _ _ _ _ _ _ _)
