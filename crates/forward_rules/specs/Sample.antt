@@ -6,7 +6,8 @@ use lib.ListN.{set, replicate}
 use Rattle.rules.specs.declared.Layout.{Layout}
 use Rattle.rules.specs.declared.Ending.the-variants.{Done, LogFull}
 use Rattle.rules.specs.Names.{answer}
-use Rattle.rules.specs.Layouts.{layoutOf, noLimits}
+use Rattle.rules.specs.Layouts.{layoutOf}
+use Rattle.samples.specs.Tray.{noLimits}
 use Rattle.rules.specs.Policies.{Policy, policyOf}
 use Rattle.rules.specs.Words.{packOf}
 use Rattle.rules.specs.Bundles.{commandsOf}

@@ -7,7 +7,7 @@ use lib.ListN.{getD, set, replicate}
 use Rattle.rules.specs.declared.Layout.{Layout}
 use Rattle.rules.specs.declared.Ending.the-variants.{NoArrow, LogFull, Spent, Refused}
 use Rattle.rules.specs.declared.RunAnswer.{RunAnswer}
-use Rattle.rules.specs.Layouts.{layoutOf, noLimits}
+use Rattle.rules.specs.Layouts.{layoutOf}
 use Rattle.rules.specs.Policies.{Policy, policyOf}
 use Rattle.rules.specs.Words.{packOf, routine}
 use Rattle.rules.specs.Bundles.{commandsOf}
@@ -15,6 +15,7 @@ use Rattle.rules.specs.Machines.{installMemory, runAnswer}
 use Rattle.rules.specs.Guests.{pairOf, guestAfter, guestStart}
 use Rattle.rules.specs.Runs.{Given, atFirst, afterRun, Run, recordedIn, Matches, Served, allRuns, after, pendingAt}
 use Rattle.rules.specs.Claims.{Each, Alike, Same, Waiting}
+use Rattle.samples.specs.Tray.{noLimits}
 
 abbrev pub layout : Layout
 layout = layoutOf 1024 256 511 0 16 2 4096 64 noLimits

@@ -9,8 +9,8 @@ use Rattle.rules.specs.declared.Layout.{Layout}
 use Rattle.rules.specs.declared.Answer.{Answer}
 use Rattle.rules.specs.declared.Outcome.{Outcome}
 use Rattle.rules.specs.declared.Status.the-variants.{Running}
-use Rattle.rules.specs.Names.{mostInstructions, bundleLength, registers, events, endingNumber}
-use Rattle.rules.specs.Layouts.{layoutOf, noLimits, rightLayout, maskOf}
+use Rattle.rules.specs.Names.{mostInstructions, bundleLength, registers, events, orders, topWord, endingNumber}
+use Rattle.rules.specs.Layouts.{layoutOf, rightLayout, maskOf}
 use Rattle.rules.specs.Policies.{policyOf}
 use Rattle.rules.specs.Words.{packOf, bundlesFor}
 use Rattle.rules.specs.Bytes.{readAnswer, writeOutput}
@@ -38,6 +38,10 @@ sameList (x ∷ xs) (y ∷ ys) = eqb x y && sameList xs ys
 
 abbrev pub answersAs : Answer → ℕ → ℕ → Bool
 answersAs a r place = eqb (a .number) r && eqb (a .place) place
+
+-- ceilings that limit nothing: '4,294,967,295 for all eight'
+abbrev pub noLimits : List ℕ
+noLimits = replicate orders topWord
 
 -- U 64, SL 8, SH 15, M 0, P 16, S 1, Q 32 and a base
 abbrev pub smallLayout : ℕ → Layout
