@@ -1,14 +1,6 @@
 -- The numbers of document 01, each named once, and the numbers of its refusals and endings.
-use Prim.Native.Nat.{ℕ, _+_, _-_, _*_, _^_}
-use mathlib.Core.Bool.{Bool, cond}
-use mathlib.Core.List.{List, [], _∷_, _++_}
-use lib.ListN.{length, drop}
-use lib.Dec.{eqb, ltb}
-use Rattle.rules.specs.declared.Refusal.{Refusal}
-use Rattle.rules.specs.declared.Refusal.the-variants.{Taken, Short, Foreign, UnknownKind, OffRange, Oversize, Trailing, BadLayout, BadLanding, SmallOutput, BadPolicy, BadBundle, BadCount, BadBase, BadLandings, TooManyStates, BadDrawing, BadPair, NotForward}
-use Rattle.rules.specs.declared.Ending.{Ending}
-use Rattle.rules.specs.declared.Ending.the-variants.{Done, NoArrow, Fault, LogFull, Silent, Spent, NoLanding, Refused}
-use Rattle.rules.specs.declared.Answer.{Answer}
+use Rattle.rules.specs.Kit.{ℕ, _+_, _-_, _*_, _^_, Bool, cond, List, [], _∷_, _++_, length, drop, eqb, ltb}
+use Rattle.rules.specs.Types.{Refusal, Taken, Short, Foreign, UnknownKind, OffRange, Oversize, Trailing, BadLayout, BadLanding, SmallOutput, BadPolicy, BadBundle, BadCount, BadBase, BadLandings, TooManyStates, BadDrawing, BadPair, NotForward, Ending, Done, NoArrow, Fault, LogFull, Silent, Spent, NoLanding, Refused, Answer}
 
 -- U is from 1 to 4,096, S from 1 to 16, B has 32 bits
 abbrev pub mostCells : ℕ

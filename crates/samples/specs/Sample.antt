@@ -7,6 +7,7 @@ use lib.ListN.{getD, set, replicate}
 use Rattle.rules.specs.declared.Layout.{Layout}
 use Rattle.rules.specs.declared.Ending.the-variants.{NoArrow, LogFull, Spent, Refused}
 use Rattle.rules.specs.declared.RunAnswer.{RunAnswer}
+use Rattle.rules.specs.Names.{guest}
 use Rattle.rules.specs.Layouts.{layoutOf}
 use Rattle.rules.specs.Policies.{Policy, policyOf}
 use Rattle.rules.specs.Words.{packOf, routine}
@@ -26,14 +27,14 @@ policy = policyOf 2 0 (0 ∷ 0 ∷ 1 ∷ replicate 13 0 ++ 255 ∷ replicate 15 
 
 -- SET r0, 70; EVENT 0; EVENT 2; EVENT 0
 abbrev pub code : List ℕ
-code = packOf 1 0 0 0 0 70 ∷ packOf 12 0 0 0 0 0 ∷ packOf 12 0 0 0 0 2 ∷ packOf 12 0 0 0 0 0 ∷ []
+code = packOf (guest .set) 0 0 0 0 70 ∷ packOf (guest .event) 0 0 0 0 0 ∷ packOf (guest .event) 0 0 0 0 2 ∷ packOf (guest .event) 0 0 0 0 0 ∷ []
 
 abbrev pub commands : List ℕ
 commands = commandsOf layout code
 
 -- a routine that reads a probe: EVENT 9
 abbrev pub probing : List ℕ
-probing = commandsOf layout (packOf 12 0 0 0 0 9 ∷ [])
+probing = commandsOf layout (packOf (guest .event) 0 0 0 0 9 ∷ [])
 
 -- cell 700 is free
 abbrev pub memory : ℕ → List ℕ

@@ -9,7 +9,7 @@ use Rattle.rules.specs.declared.Layout.{Layout}
 use Rattle.rules.specs.declared.Answer.{Answer}
 use Rattle.rules.specs.declared.Outcome.{Outcome}
 use Rattle.rules.specs.declared.Status.the-variants.{Running}
-use Rattle.rules.specs.Names.{mostInstructions, bundleLength, registers, events, orders, topWord, endingNumber}
+use Rattle.rules.specs.Names.{mostInstructions, bundleLength, registers, events, orders, topWord, guest, command, endingNumber}
 use Rattle.rules.specs.Layouts.{layoutOf, rightLayout, maskOf}
 use Rattle.rules.specs.Policies.{policyOf}
 use Rattle.rules.specs.Words.{packOf, bundlesFor}
@@ -49,7 +49,7 @@ smallLayout b = layoutOf 64 8 15 0 16 1 b 32 noLimits
 
 -- GOX r0, always; then HALTs to seven instructions
 abbrev pub goxRoutine : List ℕ
-goxRoutine = packOf 11 0 0 0 0 0 ∷ replicate 6 0
+goxRoutine = packOf (guest .gox) 0 0 0 0 0 ∷ replicate 6 0
 
 -- on the memory that installing leaves, with landing 3 alone
 abbrev pub reached : Layout → ℕ → Outcome
@@ -91,12 +91,12 @@ rows =
     ∷ reaches (smallLayout 32) 4 26 35
     ∷ rewrites (smallLayout 16) goxRoutine 32 13 0
     ∷ checks (smallLayout 16) (commandsOf (smallLayout 32) goxRoutine) 13 0
-    ∷ computes 8 (2 ^ 32 - 7) 1 (2 ^ 32 - 4)
-    ∷ computes 8 (2 ^ 31) 31 (2 ^ 32 - 1)
+    ∷ computes (command .sar) (2 ^ 32 - 7) 1 (2 ^ 32 - 4)
+    ∷ computes (command .sar) (2 ^ 31) 31 (2 ^ 32 - 1)
     ∷ holds 3 (2 ^ 32 - 1) 0 true
     ∷ holds 2 (2 ^ 32 - 1) 0 false
-    ∷ writes (packOf 1 1 0 0 0 200) (0x23 ∷ 0x01 ∷ 0x01 ∷ 0xC8 ∷ 0x00 ∷ 0x00 ∷ 0x00 ∷ [])
-    ∷ writes (packOf 1 0 0 0 0 0) (0x01 ∷ 0x01 ∷ [])
+    ∷ writes (packOf (guest .set) 1 0 0 0 200) (0x23 ∷ 0x01 ∷ 0x01 ∷ 0xC8 ∷ 0x00 ∷ 0x00 ∷ 0x00 ∷ [])
+    ∷ writes (packOf (guest .set) 0 0 0 0 0) (0x01 ∷ 0x01 ∷ [])
     ∷ reads (1 ∷ 0 ∷ 0x23 ∷ 0x01 ∷ 0x01 ∷ 0x00 ∷ 0x00 ∷ 0x00 ∷ 0x00 ∷ []) 2 0
     ∷ sizes 0 1
     ∷ rewrites (smallLayout 32) [] 4 0 4
