@@ -18,7 +18,26 @@ pub struct World<'a> {
     pub used: usize,
 }
 
-impl World<'_> {
+impl<'a> World<'a> {
+    /// A machine that was installed, before its first run.
+    pub fn new(
+        run: Run,
+        layout: &'a Layout,
+        commands: &'a [u64],
+        machine: Machine,
+        memory: Vec<u32>,
+    ) -> Self {
+        World {
+            run,
+            layout,
+            commands,
+            machine,
+            memory,
+            records: Vec::new(),
+            used: 0,
+        }
+    }
+
     /// On to the next first command of a bundle, to a pause or to the end. Each
     /// step is lent those of the readings that are left, and a log of so many
     /// cells.

@@ -276,15 +276,7 @@ fn the_engine_beside_the_machine() {
         let mut cells = rng.cells(layout.size as usize);
         let (answer, machine) = native::install(&layout, &policy.lend(), &landings, &mut cells);
         assert_eq!(answer, Answer::Taken(0));
-        let mut world = World {
-            run: native::run,
-            layout: &layout,
-            commands: &commands,
-            machine,
-            memory: cells.clone(),
-            records: Vec::new(),
-            used: 0,
-        };
+        let mut world = World::new(native::run, &layout, &commands, machine, cells.clone());
         let (mut engine, mut records, mut used) = (Engine::FIRST, Vec::new(), 0);
         for _ in 0..300 {
             // Now and then no reading, or too little room in the log.

@@ -28,15 +28,7 @@ fn the_machine_follows_the_guest_rule() {
         let mut guest = Guest::new(&layout, &words, &policy, &landings, &readings, cells);
         let (answer, machine) = install(&layout, &policy, &landings, &mut memory);
         assert_eq!(answer, Answer::Taken(0));
-        let mut world = World {
-            run,
-            layout: &layout,
-            commands: &commands,
-            machine,
-            memory,
-            records: Vec::new(),
-            used: 0,
-        };
+        let mut world = World::new(run, &layout, &commands, machine, memory);
         for _ in 0..300 {
             let status = guest.step();
             world.bundle(&readings, 2);

@@ -85,15 +85,7 @@ fn honest_routines_are_not_disturbed() {
         let mut raw = Guest::new(&layout, &words, &policy, &landings, &readings, own).raw();
         let (answer, machine) = native::install(&layout, &policy, &landings, &mut cells);
         assert_eq!(answer, Answer::Taken(0));
-        let mut world = World {
-            run: native::run,
-            layout: &layout,
-            commands: &commands,
-            machine,
-            memory: cells.clone(),
-            records: Vec::new(),
-            used: 0,
-        };
+        let mut world = World::new(native::run, &layout, &commands, machine, cells.clone());
         let mut engine = Engine::FIRST;
         for _ in 0..200 {
             if !raw.behaves() {
