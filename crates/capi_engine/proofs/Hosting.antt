@@ -1,23 +1,17 @@
 -- The engine's record and answer, said of the numbers of a C host.
-use Prim.Native.Nat.{ℕ, _+_, _^_, _<_}
+use Prim.Native.Nat.{ℕ, _^_, _<_}
 use mathlib.Core.Path.{_≡_, sym, ap, subst}
 use mathlib.Core.List.{List}
 use native.Mathlib.Omega.{arith}
-use lib.ListN.{length, getD}
 use Rattle.rules.specs.declared.Layout.{Layout}
-use Rattle.rules.specs.declared.Status.{Status}
 use Rattle.rules.specs.Names.{guestRegisters}
-use Rattle.capi_numbers.specs.Numbers.{numbersFrom, layoutFrom, statusFrom, statusIn, numbersAfter}
+use Rattle.capi_numbers.specs.Numbers.{layoutFrom, numbersAfter}
 use Rattle.capi_numbers.specs.Hosts.{HostRan, hostRan}
-use Rattle.capi_numbers.proofs.Numbers.{registers-of}
 use Rattle.engine_rules.specs.declared.Engine.{Engine}
 use Rattle.engine_rules.specs.declared.EngineOutcome.{EngineOutcome}
-use Rattle.engine_rules.specs.Engines.{engineOf, Ran, ranOf, runOf}
+use Rattle.engine_rules.specs.Engines.{Ran, ranOf, runOf}
 use Rattle.engine_rules.proofs.Isolation.{RunCounts, run-counts, run-place}
 use Rattle.capi_engine.specs.Records.{engineFrom, engineTo, recordAfter, answerTo, engineFor}
-
-pub engine-of : (xs : List ℕ) (t : Status) → length xs ≡ guestRegisters + 2 → t ≡ statusFrom (statusIn guestRegisters xs) → engineOf (numbersFrom guestRegisters 0 xs) (getD xs guestRegisters 0) t ≡ engineFrom xs
-engine-of xs t h e = rw (registers-of guestRegisters xs (omega arith), e)
 
 -- place, pairs and readings have 32 bits
 pub narrow : (l : Layout) (ws mem rd log mem′ log′ : List ℕ) (budget : ℕ) (m : Engine) (o : EngineOutcome) → ranOf o mem′ log′ ≡ runOf l ws m mem budget rd log → budget < 2 ^ 32

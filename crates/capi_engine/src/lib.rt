@@ -6,6 +6,7 @@ use capi_numbers::status_number;
 use capi_numbers::status_of;
 use engine_rules::Engine;
 use rules::Answer;
+use words_cells::store_cells;
 ghost use mathlib.Core.Path.{_≡_};
 ghost use mathlib.Core.List.{[], _∷_};
 ghost use Prim.Native.Nat.{_<_, _^_};
@@ -27,23 +28,8 @@ pub const ANSWER: usize = 5;
 fn engine_of(xs: [u32; RECORD]) -> Engine
     ensures { λ r. ⌜ r ≡ engineFrom xs ⌝ }
 {
-    let regs = [
-        xs[0],
-        xs[1],
-        xs[2],
-        xs[3],
-        xs[4],
-        xs[5],
-        xs[6],
-        xs[7],
-        xs[8],
-        xs[9],
-        xs[10],
-        xs[11],
-        xs[12],
-        xs[13],
-        xs[14],
-    ];
+    let mut regs = [0u32; Engine::REGISTERS];
+    store_cells(&mut regs, 0, &xs[..Engine::REGISTERS]);
     let status = status_of(xs[STATUS]);
     Engine {
         regs,
@@ -56,28 +42,13 @@ fn engine_of(xs: [u32; RECORD]) -> Engine
 fn record_of(m: Engine) -> [u32; RECORD]
     ensures { λ r. ⌜ r ≡ engineTo m ⌝ }
 {
-    let r = m.regs;
+    let regs = m.regs;
     let t = m.status;
-    let status = status_number(t);
-    [
-        r[0],
-        r[1],
-        r[2],
-        r[3],
-        r[4],
-        r[5],
-        r[6],
-        r[7],
-        r[8],
-        r[9],
-        r[10],
-        r[11],
-        r[12],
-        r[13],
-        r[14],
-        m.at,
-        status,
-    ]
+    let mut xs = [0u32; RECORD];
+    store_cells(&mut xs, 0, &regs);
+    xs[INDEX] = m.at;
+    xs[STATUS] = status_number(t);
+    xs
 }
 
 // The record after a run. One whose status number is no status was not run, and comes back as it was.

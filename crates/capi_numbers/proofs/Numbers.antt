@@ -2,19 +2,18 @@
 use Prim.Native.Nat.{ℕ, zero, suc, _+_, _≤_, _<_}
 use mathlib.Core.Path.{_≡_, refl, sym, _∙_, ap}
 use mathlib.Core.Bool.{Bool, true, cond}
-use mathlib.Core.List.{List, [], _∷_, _++_}
+use mathlib.Core.List.{List, [], _∷_, _++_, append-assoc}
 use native.Mathlib.Numerals.{add-one}
 use native.Mathlib.Omega.{arith}
 use borrow.Author.Tests.{lt-ltb, le-ltb, ltb-true}
 use lib.Dec.{ltb}
-use lib.ListN.{length, getD, take, drop, take-append-drop, length-drop}
-use lib.Seq.{drop-cons, take-all, take-at, getD-at, getD-append-add}
+use lib.ListN.{length, getD, set, take, drop, replicate, take-append-drop, length-append, length-drop, length-replicate, replicate-append-replicate}
+use lib.Seq.{sets, drop-cons, length-take-le, take-all, take-at, drop-at, set-at, getD-at, getD-append-add}
 use Rattle.rules.specs.declared.Status.{Status}
 use Rattle.rules.specs.declared.Status.the-variants.{Running, Ended, Stopped, Faulted, Strayed}
-use Rattle.rules.specs.Names.{registers}
-use Rattle.rules.specs.Machines.{machineOf}
 use Rattle.rules.proofs.Bools.{cond-ind}
-use Rattle.capi_numbers.specs.Numbers.{numbersFrom, statuses, statusFrom, statusNumber, recordTo, statusIn, statusKnown, numbersAfter, machineFrom}
+use Rattle.words_cells.proofs.Storing.{store-front, store-all}
+use Rattle.capi_numbers.specs.Numbers.{numbersFrom, statuses, statusFrom, statusNumber, recordTo, statusIn, statusKnown, numbersAfter}
 
 -- ---- arrays
 
@@ -49,11 +48,19 @@ number-known Strayed = refl
 -- ---- records of n registers
 
 module _ (n : ℕ) where
-  pub registers-of : (xs : List ℕ) → n ≤ length xs → numbersFrom n 0 xs ≡ take n xs
-  registers-of xs h = sym (spelt n 0 xs (omega arith))
+  -- the first n of its numbers, stored over zeros
+  pub registers-of : (xs regs : List ℕ) → length xs ≡ n + 2 → regs ≡ sets (replicate n 0) 0 (take n xs) → regs ≡ take n xs
+  registers-of xs regs h e = e ∙ store-all (replicate n 0) (take n xs) (length-replicate n 0 ∙ sym (length-take-le n xs (omega arith)))
 
-  pub record-of : (regs : List ℕ) (at k : ℕ) (t : Status) → length regs ≡ n → k ≡ statusNumber t → numbersFrom n 0 regs ++ (at ∷ k ∷ []) ≡ recordTo regs at t
-  record-of regs at k t h e = rw (e, registers-of regs (omega arith), take-all n regs (omega arith))
+  -- registers stored over zeros, then the two others
+  pub record-of : (xs regs : List ℕ) (at k : ℕ) (t : Status) → length regs ≡ n → xs ≡ sets (replicate (n + 2) 0) 0 regs → k ≡ statusNumber t → set (set xs n at) (suc n) k ≡ recordTo regs at t
+  record-of xs regs at k t h e q =
+      let room : length regs ≤ length (replicate {A = ℕ} (n + 2) 0) = omega (arith, length-replicate {A = ℕ} (n + 2) 0) in
+      let rest : drop {A = ℕ} n (replicate (n + 2) 0) ≡ 0 ∷ 0 ∷ [] = ap (drop n) (sym (replicate-append-replicate n 2 0)) ∙ drop-at (replicate n 0) (0 ∷ 0 ∷ []) n (length-replicate n 0) in
+      let one : xs ≡ regs ++ 0 ∷ 0 ∷ [] = e ∙ store-front _ regs room ∙ ap (λ (ys : List ℕ). regs ++ ys) (ap (λ (m : ℕ). drop {A = ℕ} m (replicate (n + 2) 0)) h ∙ rest) in
+      let two : set xs n at ≡ (regs ++ at ∷ []) ++ 0 ∷ [] = ap (λ (ys : List ℕ). set ys n at) one ∙ set-at regs 0 (0 ∷ []) at n h ∙ sym (append-assoc regs (at ∷ []) (0 ∷ [])) in
+      ap (λ (ys : List ℕ). set ys (suc n) k) two ∙ set-at (regs ++ at ∷ []) 0 [] k (suc n) (simp length-append (omega arith))
+      ∙ append-assoc regs (at ∷ []) (k ∷ []) ∙ ap (λ (m : ℕ). regs ++ at ∷ m ∷ []) q
 
   module _ (xs : List ℕ) where
     pub is-status : (left r : List ℕ) → statusIn n xs < statuses → r ≡ left → r ≡ numbersAfter n xs left
@@ -89,8 +96,3 @@ module _ (n : ℕ) where
 
     pub after-known : (left : List ℕ) → numbersAfter n (recordTo regs at t) left ≡ left
     after-known left = rw (number-again, number-known t)
-
--- ---- the machine's
-
-pub machine-of : (xs : List ℕ) (t : Status) → length xs ≡ registers + 2 → t ≡ statusFrom (statusIn registers xs) → machineOf (numbersFrom registers 0 xs) (getD xs registers 0) t ≡ machineFrom xs
-machine-of xs t h e = rw (registers-of registers xs (omega arith), e)

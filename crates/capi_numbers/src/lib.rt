@@ -3,6 +3,7 @@ use rules::Layout;
 use rules::Machine;
 use rules::Policy;
 use rules::Status;
+use words_cells::store_cells;
 ghost use mathlib.Core.Path.{_≡_};
 ghost use Rattle.rules.specs.Names.{registers};
 ghost use Rattle.capi_numbers.specs.Numbers.{layoutFrom, statusFrom, statusNumber, machineFrom, machineTo, numbersAfter};
@@ -74,24 +75,8 @@ pub fn status_number(t: Status) -> u32
 pub fn machine_of(xs: [u32; RECORD]) -> Machine
     ensures { λ r. ⌜ r ≡ machineFrom xs ⌝ }
 {
-    let regs = [
-        xs[0],
-        xs[1],
-        xs[2],
-        xs[3],
-        xs[4],
-        xs[5],
-        xs[6],
-        xs[7],
-        xs[8],
-        xs[9],
-        xs[10],
-        xs[11],
-        xs[12],
-        xs[13],
-        xs[14],
-        xs[15],
-    ];
+    let mut regs = [0u32; Machine::REGISTERS];
+    store_cells(&mut regs, 0, &xs[..Machine::REGISTERS]);
     let status = status_of(xs[STATUS]);
     Machine {
         regs,
@@ -104,29 +89,13 @@ pub fn machine_of(xs: [u32; RECORD]) -> Machine
 pub fn record_of(m: Machine) -> [u32; RECORD]
     ensures { λ r. ⌜ r ≡ machineTo m ⌝ }
 {
-    let r = m.regs;
+    let regs = m.regs;
     let t = m.status;
-    let status = status_number(t);
-    [
-        r[0],
-        r[1],
-        r[2],
-        r[3],
-        r[4],
-        r[5],
-        r[6],
-        r[7],
-        r[8],
-        r[9],
-        r[10],
-        r[11],
-        r[12],
-        r[13],
-        r[14],
-        r[15],
-        m.pc,
-        status,
-    ]
+    let mut xs = [0u32; RECORD];
+    store_cells(&mut xs, 0, &regs);
+    xs[PC] = m.pc;
+    xs[STATUS] = status_number(t);
+    xs
 }
 
 // The record after a run. One whose status number is no status was not run, and comes back as it was.
