@@ -15,7 +15,8 @@ use Rattle.sandbox_rules.proofs.Loading.{loads}
 use Rattle.capi_numbers.specs.Numbers.{layoutFrom, numbersAfter}
 use Rattle.capi_numbers.specs.Hosts.{installFor, loadFor, HostRan}
 use Rattle.capi_numbers.proofs.Numbers.{regs-again, at-again, status-of-record, after-known, untouched-by}
-use Rattle.capi_numbers.proofs.Calls.{apply-regs, keeps-regs}
+use Rattle.rules.proofs.Counts.{apply-regs}
+use Rattle.capi_numbers.proofs.Calls.{keeps-regs}
 use Rattle.engine_rules.specs.declared.Engine.{Engine}
 use Rattle.engine_rules.specs.Engines.{engineOf, engineFirst, effectOn, withMemory, movedOf, startOf, refusalOf, refusalBy, runOf}
 use Rattle.engine_rules.specs.Claims.{Carried, carriedOf, atFirst, runOn, afterTaken, afterRun, Run, runsOf, Lends}

@@ -3,18 +3,18 @@ use Prim.Native.Nat.{ℕ}
 use mathlib.Core.Path.{_≡_, refl, sym, _∙_, ap, subst}
 use mathlib.Core.Bool.{Bool, true, false}
 use mathlib.Core.List.{List, [], _∷_, map}
-use lib.ListN.{length, length-set}
+use lib.ListN.{length}
 use Rattle.rules.specs.declared.Layout.{Layout}
 use Rattle.rules.specs.declared.Machine.{Machine}
 use Rattle.rules.specs.declared.Ending.{Ending}
 use Rattle.rules.specs.declared.Effect.{Effect}
-use Rattle.rules.specs.declared.Effect.the-variants.{Go, Put, Cell, Order, Probe, End, Wait}
 use Rattle.rules.specs.Names.{registers}
 use Rattle.rules.specs.Policies.{Policy}
 use Rattle.rules.specs.Bundles.{checkAnswer}
-use Rattle.rules.specs.Machines.{machineOf, State, applyOf, Ran, startOf, fits, runOf, installAnswer, installMachine, installMemory}
+use Rattle.rules.specs.Machines.{machineOf, State, startOf, fits, runOf, installAnswer, installMachine, installMemory}
 use Rattle.rules.specs.Runs.{Given, Carried, carriedOf, atFirst, runOn, afterTaken, afterRun, Run, runsOf, Lends}
 use Rattle.rules.proofs.Loops.{Loop, keeps, machineLoop}
+use Rattle.rules.proofs.Counts.{apply-regs}
 use Rattle.rules.proofs.Conditions.{machine-of}
 use Rattle.rules.proofs.Isolation.{isolation}
 use Rattle.sandbox_rules.proofs.Loading.{loads}
@@ -30,18 +30,7 @@ record-back m n =
 pub untouched : Untouched
 untouched xs r n e = ap (λ (m : Machine). numbersAfter registers xs (machineTo m)) e ∙ untouched-by registers xs n
 
--- ---- a run keeps the count of registers
-pub apply-regs : (caps rd : List ℕ) (e : Effect) (s : State) → length (applyOf caps rd e s .regs) ≡ length (s .regs)
-unfolding applyOf
-apply-regs caps rd (Go to) s = refl
-apply-regs caps rd (Put d x) s = length-set (s .regs) d x
-apply-regs caps rd (Cell i x) s = refl
-apply-regs caps rd (Order v) s = refl
-apply-regs caps rd (Probe v) s = length-set (s .regs) 0 _
-apply-regs caps rd (End t) s = refl
-apply-regs caps rd (Wait e) s = refl
-
--- of a loop, the machine's or the engine's
+-- ---- a loop, the machine's or the engine's, keeps the count of registers
 pub keeps-regs : {R : Type 0} (l : Loop ℕ R) (regs : R → List ℕ) → ((e : Ending) (k : ℕ) (s : State) → regs (l .ends e k s) ≡ s .regs)
     → ((e : Effect) (s : State) → length (l .act e s .regs) ≡ length (s .regs)) → (n k : ℕ) (s : State) → length (regs (l .from n k s)) ≡ length (s .regs)
 keeps-regs l regs ends acts n k s =

@@ -261,6 +261,23 @@ step-counts caps l p u rd (Probe v) s b r =
 step-counts caps l p u rd (End t) s b r = record { log = b .log; pairs = omega arith; used = omega arith; drawn = b .drawn; room = b .room; rest = b .rest }
 step-counts caps l p u rd (Wait e) s b r = record { log = b .log; pairs = omega arith; used = omega arith; drawn = b .drawn; room = b .room; rest = b .rest }
 
+-- a step keeps the pairs within the log and the readings within rd, and the count of registers
+pub apply-bounds : (caps rd : List ℕ) (e : Effect) (s : State) → Room (length (s .log) - 2 * s .pairs) (length rd - s .used) e → 2 * s .pairs ≤ length (s .log) → s .used ≤ length rd
+    → let t = applyOf caps rd e s in (2 * t .pairs ≤ length (t .log)) × (t .used ≤ length rd)
+apply-bounds caps rd e s r p u =
+    let c = step-counts caps (s .log) (s .pairs) (s .used) rd e s (record { log = refl; pairs = omega arith; used = omega arith; drawn = u; room = p; rest = λ i h. refl }) r in
+    (omega (arith, c .room, c .log), c .drawn)
+
+pub apply-regs : (caps rd : List ℕ) (e : Effect) (s : State) → length (applyOf caps rd e s .regs) ≡ length (s .regs)
+unfolding applyOf
+apply-regs caps rd (Go to) s = refl
+apply-regs caps rd (Put d x) s = length-set (s .regs) d x
+apply-regs caps rd (Cell i x) s = refl
+apply-regs caps rd (Order v) s = refl
+apply-regs caps rd (Probe v) s = length-set (s .regs) 0 (getD rd (s .used) 0)
+apply-regs caps rd (End t) s = refl
+apply-regs caps rd (Wait e) s = refl
+
 -- a run's counts: at most n steps, pairs and readings; the pairs within a log as long as l, and as l beyond them; the readings within rd
 pub record Tally (l rd : List ℕ) (n k p u : ℕ) (log′ : List ℕ) : Type 0 where
   pub steps : k ≤ n
