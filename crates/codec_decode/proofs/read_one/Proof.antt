@@ -1,5 +1,5 @@
 use borrow.Author.Needs.{needs}
-use Rattle.codec_decode.proofs.Reading.{sure-is}
+use Rattle.codec_sure.proofs.Reading.{sure-is}
 use Rattle.codec_decode.proofs.read_one.Statement.{statement}
 use Rattle.codec_decode.proofs.read_one.Tie as tie
 
