@@ -145,8 +145,8 @@ struct hemdroas_layout {
 };
 
 /* The record of commands that are run, as installing or the last run left it. A
- * status above 4: the run answers 22 with three zeros, and the record comes
- * back as it was. */
+ * status above 4: the run, if it is not refused with 7, answers 22 with three
+ * zeros, and the record comes back as it was. */
 struct hemdroas_machine {
     uint32_t r[16]; /* r15 is hidden from routines */
     uint32_t pc;

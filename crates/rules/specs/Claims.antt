@@ -214,7 +214,7 @@ pub record AgreesAt (lay : Layout) (p : ℕ) (g : Guest) (c : Carried) : Type 0 
 abbrev pub Agrees : Layout → Guest → Carried → Type 0
 Agrees lay g c = AgreesAt lay 0 g c
 
--- 'Guest rule and machine are compared from installation on, on demand 3's premise, at each first command of a bundle and at every end or stop':
+-- 'Guest rule (from instruction 0, registers 0) and machine are compared from installation on, on demand 3's premise, at each first command of a bundle and at every end or stop':
 -- the guest, given the readings that the runs used, after as many instructions as the runs began bundles.
 -- A list of runs may end anywhere and budgets are any, so this speaks of every moment
 abbrev pub GuestRule : Type 0

@@ -1,4 +1,4 @@
--- The numbers of document 01, each named once, and the numbers of its refusals and endings.
+-- The numbers of document 01 and of the requests, each named once, and the numbers of refusals and endings.
 use Rattle.rules.specs.Kit.{ℕ, _+_, _-_, _*_, _^_, Bool, cond, List, [], _∷_, _++_, length, drop, eqb, ltb}
 use Rattle.rules.specs.Types.{Refusal, Taken, Short, Foreign, UnknownKind, OffRange, Oversize, Trailing, BadLayout, BadLanding, SmallOutput, BadPolicy, BadBundle, BadCount, BadBase, BadLandings, TooManyStates, BadDrawing, BadPair, NotForward, Ending, Done, NoArrow, Fault, LogFull, Silent, Spent, NoLanding, Refused, Answer}
 

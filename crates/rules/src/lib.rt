@@ -256,7 +256,7 @@ impl Machine {
     }
 }
 
-// Document 01's rejects, in the order of their numbers.
+// The rejects of document 01, and 14 to 18 of the requests, in the order of their numbers.
 pub enum Refusal {
     Taken,
     Short,

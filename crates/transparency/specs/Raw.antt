@@ -10,7 +10,7 @@ use Rattle.rules.specs.declared.Status.{Status}
 use Rattle.rules.specs.declared.Status.the-variants.{Running, Ended}
 use Rattle.rules.specs.declared.Instr.{Instr}
 use Rattle.rules.specs.declared.Instr.the-variants.{HALT, PLAIN, LOAD, STORE, GOIF, GOX, EVENT}
-use Rattle.rules.specs.Names.{guestRegisters, orders, noArrow}
+use Rattle.rules.specs.Names.{guestRegisters, orders, noArrow, plainStep}
 use Rattle.rules.specs.Layouts.{limited, inBox}
 use Rattle.rules.specs.Policies.{Policy, arrow, stateOver}
 use Rattle.rules.specs.Landings.{listed}
@@ -50,7 +50,7 @@ rawSent lay reads e r =
 -- the table of instructions, 'with raw addresses and raw jump targets and no policy'
 unfoldable pub rawDo : Layout → List ℕ → Instr → Raw → Raw
 rawDo lay reads HALT r = rawOf (r .regs) (r .at) (r .mem) (r .records) (r .used) Ended
-rawDo lay reads (PLAIN k d a b v) r = rawOn r (set (r .regs) d (plainOf (k + 1) (rReg r a) (rReg r b) v)) (r .mem) (r .at + 1)
+rawDo lay reads (PLAIN k d a b v) r = rawOn r (set (r .regs) d (plainOf (k + plainStep) (rReg r a) (rReg r b) v)) (r .mem) (r .at + 1)
 rawDo lay reads (LOAD d a) r = rawOn r (set (r .regs) d (getD (r .mem) (rReg r a) 0)) (r .mem) (r .at + 1)
 rawDo lay reads (STORE a b) r = rawOn r (r .regs) (set (r .mem) (rReg r a) (rReg r b)) (r .at + 1)
 rawDo lay reads (GOIF a b c v) r = rawOn r (r .regs) (r .mem) (cond (holdsOf c (rReg r a) (rReg r b)) v (r .at + 1))

@@ -30,7 +30,7 @@ pub fn or(x: u32, y: u32) -> u32
     x | y
 }
 
-// A shift by more than a cell's bits loses them all.
+// A shift by a cell's bits or more loses them all.
 pub fn shl(x: u32, v: u32) -> u32
     ensures { λ r. ⌜ r ≡ shlOf x v ⌝ }
 {
