@@ -12,7 +12,7 @@ use Rattle.rules.specs.declared.Answer.{Answer}
 use Rattle.rules.specs.declared.Instr.{Instr}
 use Rattle.rules.specs.declared.Instr.the-variants.{HALT, PLAIN, LOAD, STORE, GOIF, GOX, EVENT}
 use Rattle.rules.specs.declared.Refusal.the-variants.{BadLayout, BadBundle, BadCount, BadBase}
-use Rattle.rules.specs.Names.{bundleLength, hidden, numberOf, answer}
+use Rattle.rules.specs.Names.{bundleLength, bundleShift, hidden, guest, command, plainStep, numberOf, answer}
 use Rattle.rules.specs.Layouts.{rightLayout}
 use Rattle.rules.specs.Words.{kindOf, dOf, packOf}
 use Rattle.rules.specs.Commands.{wordOf}
@@ -34,40 +34,40 @@ low-d k d a b c v h l = omega arith
 
 -- ANDI, SHL and LOOK begin the bundles that name the hidden register, and no others
 begins : ℕ → Bool
-begins k = eqb k 9 || eqb k 11 || eqb k 16
+begins k = eqb k (command .andi) || eqb k (command .shl) || eqb k (command .look)
 
-begins-plain : (k : ℕ) → 1 ≤ k → k ≤ 7 → begins (k + 1) ≡ false
+begins-plain : (k : ℕ) → guest .set ≤ k → k ≤ guest .sar → begins (k + plainStep) ≡ false
 unfolding begins
-begins-plain k l u = rw (ne-eqb (k + 1) 9 (λ e. omega arith), ne-eqb (k + 1) 11 (λ e. omega arith), ne-eqb (k + 1) 16 (λ e. omega arith))
+begins-plain k l u = rw (ne-eqb (k + plainStep) (command .andi) (λ e. omega arith), ne-eqb (k + plainStep) (command .shl) (λ e. omega arith), ne-eqb (k + plainStep) (command .look) (λ e. omega arith))
 
 module _ (lay : Layout) (n : ℕ) where
   first-kind : (r : ℕ) (i : Instr) → namesHidden i ≡ true → begins (kindOf (wordOf (shapeWith r lay n i 0))) ≡ true
   unfolding wordOf begins
   first-kind r HALT e = no e
   first-kind r (PLAIN k d a b v) e = no e
-  first-kind r (LOAD d a) e = rw (low-kind 9 r a 0 0 (lay .high) (lit< tt))
-  first-kind r (STORE a b) e = rw (low-kind 9 r a 0 0 (lay .high) (lit< tt))
+  first-kind r (LOAD d a) e = rw (low-kind (command .andi) r a 0 0 (lay .high) (lit< tt))
+  first-kind r (STORE a b) e = rw (low-kind (command .andi) r a 0 0 (lay .high) (lit< tt))
   first-kind r (GOIF a b c v) e = no e
-  first-kind r (GOX d a b c) e = rw (low-kind 11 r d 0 0 2 (lit< tt))
-  first-kind r (EVENT v) e = rw (low-kind 16 r 0 0 0 v (lit< tt))
+  first-kind r (GOX d a b c) e = rw (low-kind (command .shl) r d 0 0 bundleShift (lit< tt))
+  first-kind r (EVENT v) e = rw (low-kind (command .look) r 0 0 0 v (lit< tt))
 
   first-d : (r : ℕ) → r < 2 ^ 4 → (i : Instr) → namesHidden i ≡ true → dOf (wordOf (shapeWith r lay n i 0)) ≡ r
   unfolding wordOf
   first-d r h HALT e = no e
   first-d r h (PLAIN k d a b v) e = no e
-  first-d r h (LOAD d a) e = low-d 9 r a 0 0 (lay .high) (lit< tt) h
-  first-d r h (STORE a b) e = low-d 9 r a 0 0 (lay .high) (lit< tt) h
+  first-d r h (LOAD d a) e = low-d (command .andi) r a 0 0 (lay .high) (lit< tt) h
+  first-d r h (STORE a b) e = low-d (command .andi) r a 0 0 (lay .high) (lit< tt) h
   first-d r h (GOIF a b c v) e = no e
-  first-d r h (GOX d a b c) e = low-d 11 r d 0 0 2 (lit< tt) h
-  first-d r h (EVENT v) e = low-d 16 r 0 0 0 v (lit< tt) h
+  first-d r h (GOX d a b c) e = low-d (command .shl) r d 0 0 bundleShift (lit< tt) h
+  first-d r h (EVENT v) e = low-d (command .look) r 0 0 0 v (lit< tt) h
 
   named-by-kind : (r : ℕ) (i : Instr) → Valid n i → begins (kindOf (wordOf (shapeWith r lay n i 0))) ≡ namesHidden i
   unfolding wordOf begins
   named-by-kind r HALT g = refl
-  named-by-kind r (PLAIN k d a b v) g = rw (low-kind (k + 1) d a b 0 v (omega (arith, g .1))) (begins-plain k (g .0) (g .1))
+  named-by-kind r (PLAIN k d a b v) g = rw (low-kind (k + plainStep) d a b 0 v (omega (arith, g .1))) (begins-plain k (g .0) (g .1))
   named-by-kind r (LOAD d a) g = first-kind r (LOAD d a) refl
   named-by-kind r (STORE a b) g = first-kind r (STORE a b) refl
-  named-by-kind r (GOIF a b c v) g = rw (low-kind 14 0 a b c (lay .base + bundleLength * v) (lit< tt))
+  named-by-kind r (GOIF a b c v) g = rw (low-kind (command .goif) 0 a b c (lay .base + bundleLength * v) (lit< tt))
   named-by-kind r (GOX d a b c) g = first-kind r (GOX d a b c) refl
   named-by-kind r (EVENT v) g = first-kind r (EVENT v) refl
 

@@ -12,7 +12,7 @@ use Rattle.rules.specs.declared.Layout.{Layout}
 use Rattle.rules.specs.declared.Instr.{Instr}
 use Rattle.rules.specs.declared.Instr.the-variants.{EVENT}
 use Rattle.rules.specs.declared.Refusal.the-variants.{BadBundle}
-use Rattle.rules.specs.Names.{bundleLength, numberOf}
+use Rattle.rules.specs.Names.{bundleLength, numberOf, command}
 use Rattle.rules.specs.Words.{kindOf, vOf, packOf}
 use Rattle.rules.specs.Commands.{wordOf}
 use Rattle.rules.specs.Bundles.{shapeOf, readOff, bundleAt, shapedAt, passesAt, checkFrom, checkAnswer}
@@ -33,10 +33,10 @@ refused-at lay n ws j h (suc m) no-shape l k =
     (cases (passesAt lay n ws h))
 
 -- an event's bundle in the old order: the kind of its first word is LOOK's, that of its third KEEP's, where EVENT's is asked for
-look-kind : (r e : ℕ) → kindOf (packOf 16 r 0 0 0 e) ≡ 16
+look-kind : (r e : ℕ) → kindOf (packOf (command .look) r 0 0 0 e) ≡ command .look
 look-kind r e = omega arith
 
-keep-event : (r v : ℕ) → packOf 18 r 0 0 0 0 ≡ packOf 19 0 0 0 0 v → ⊥
+keep-event : (r v : ℕ) → packOf (command .keep) r 0 0 0 0 ≡ packOf (command .event) 0 0 0 0 v → ⊥
 keep-event r v q = omega arith
 
 module _ (lay : Layout) (n : ℕ) (ws : List ℕ) (h r e : ℕ) (old : take bundleLength (drop (bundleLength * h) ws) ≡ oldEvent r e) where
@@ -47,7 +47,7 @@ module _ (lay : Layout) (n : ℕ) (ws : List ℕ) (h r e : ℕ) (old : take bund
   unfolding bundleAt readOff wordOf
   old-look =
       let z : bundleLength * h + 0 ≡ bundleLength * h = omega arith in
-      let k : kindOf (getD ws (bundleLength * h) 0) ≡ 16 = ap (λ (i : ℕ). kindOf (getD ws i 0)) (sym z) ∙ ap kindOf (old-word 0 (lit< tt)) ∙ look-kind r e in
+      let k : kindOf (getD ws (bundleLength * h) 0) ≡ command .look = ap (λ (i : ℕ). kindOf (getD ws i 0)) (sym z) ∙ ap kindOf (old-word 0 (lit< tt)) ∙ look-kind r e in
       rw k
 
   old-fails : passesAt lay n ws h ≡ false

@@ -1,7 +1,7 @@
 -- Laws of the shapes, each of four words and the instruction whose bundle they can be.
 use mathlib.Core.Path.{_≡_, refl, sym, _∙_, ap, subst}
 use mathlib.Core.Bool.{Bool, true, false, _&&_, cond}
-use Prim.Native.Nat.{ℕ, zero, suc, _+_, _-_, _*_, _/_, _%_, _^_, _≤_, _<_}
+use Prim.Native.Nat.{ℕ, _+_, _-_, _*_, _/_, _%_, _^_, _≤_, _<_}
 use native.Mathlib.Omega.{arith}
 use native.Mathlib.Nat.{mod-eq-of-lt}
 use lib.Dec.{ltb, leb, eqb}
@@ -15,6 +15,7 @@ use Rattle.rules.specs.Words.{kindOf, dOf, aOf, bOf, cOf, vOf, zeroOf, fieldsOf
 use Rattle.rules.specs.Commands.{limitsOf, isCommand, wordOf}
 use Rattle.rules.specs.Bundles.{addressOf, lastAddress, shapeOf, valid, isBundle}
 use Rattle.rules.proofs.Bools.{both, join}
+use Rattle.rules.proofs.Tables.{all, raised}
 use Rattle.rules.proofs.Facts.{Valid}
 use Rattle.rules.proofs.Conditions.{valid-is}
 use Rattle.rules.proofs.WordLaws.{bits-pack, pack-fields}
@@ -126,17 +127,9 @@ module _ (l : Layout) (n w : ℕ) (fits : w < 2 ^ 64) (k : kindOf w ≡ command 
 
 -- ---- the plain kinds
 
-no-condition : (k : ℕ) → command .set ≤ k → k ≤ command .sar → limitsOf k .c ≡ 0
-no-condition zero lo hi = absurd (omega arith)
-no-condition (suc zero) lo hi = absurd (omega arith)
-no-condition (suc (suc zero)) lo hi = refl
-no-condition (suc (suc (suc zero))) lo hi = refl
-no-condition (suc (suc (suc (suc zero)))) lo hi = refl
-no-condition (suc (suc (suc (suc (suc zero))))) lo hi = refl
-no-condition (suc (suc (suc (suc (suc (suc zero)))))) lo hi = refl
-no-condition (suc (suc (suc (suc (suc (suc (suc zero))))))) lo hi = refl
-no-condition (suc (suc (suc (suc (suc (suc (suc (suc zero)))))))) lo hi = refl
-no-condition (suc (suc (suc (suc (suc (suc (suc (suc (suc k))))))))) lo hi = absurd (omega arith)
+no-condition : (k c : ℕ) → k ≤ command .sar → c ≤ limitsOf k .c → c ≤ 0
+unfolding all
+no-condition k c hi l = raised (λ k. limitsOf k .c) (λ _. 0) (command .andi) refl k c (omega arith) l
 
 module _ (n w : ℕ) (lo : command .set ≤ kindOf w) (hi : kindOf w ≤ command .sar) where
   abbrev pub plain-instr : Instr
@@ -156,8 +149,8 @@ module _ (n w : ℕ) (lo : command .set ≤ kindOf w) (hi : kindOf w ≤ command
       let i : Within (limitsOf (kindOf w - plainStep + plainStep)) w = subst (λ (j : ℕ). Within (limitsOf j) w) (sym next) i₀ in
       let gb = both (ltb (dOf w) guestRegisters && ltb (aOf w) guestRegisters) (ltb (bOf w) guestRegisters) (t₀ .1) in
       let ga = both (ltb (dOf w) guestRegisters) (ltb (aOf w) guestRegisters) (gb .0) in
-      let none = no-condition (kindOf w) lo hi in
-      let ec : cOf w ≡ 0 = omega (arith, i₀ .c, none) in
+      let none = no-condition (kindOf w) (cOf w) hi (i₀ .c) in
+      let ec : cOf w ≡ 0 = omega arith in
       let ew : w ≡ packFields plain-fields = rw next (sym (rw ec at (pack-fields w (i₀ .zero)))) in
       simp (le-leb (guest .set) (kindOf w - plainStep) (omega arith), le-leb (kindOf w - plainStep) (guest .sar) (omega arith), ga .0, ga .1, gb .1, le-leb _ _ (i .d), le-leb _ _ (i .a), le-leb _ _ (i .b), le-leb _ _ (i .v), eq-eqb w (packFields plain-fields) ew)
 

@@ -15,7 +15,7 @@ use Rattle.rules.specs.declared.Command.{Command}
 use Rattle.rules.specs.declared.Command.the-variants.{Nop, Halt, Plain, Load, Store, GoIf, GoReg, Look, StopIf, Keep, Event, Stray}
 use Rattle.rules.specs.declared.Effect.the-variants.{Go, Put, Cell, End}
 use Rattle.rules.specs.declared.Status.the-variants.{Ended, Stopped, Faulted, Strayed}
-use Rattle.rules.specs.Names.{mostBundles, bundleLength, cellBits, registers, events, noArrow, topWord}
+use Rattle.rules.specs.Names.{mostBundles, bundleLength, cellBits, registers, events, noArrow, topWord, command}
 use Rattle.rules.specs.Landings.{bitAt, marked}
 use Rattle.rules.specs.Words.{kindOf, dOf, aOf, bOf, vOf}
 use Rattle.rules.specs.Commands.{addOf, plainOf, holdsOf, isCommand, commandOf, fetchOf}
@@ -34,17 +34,17 @@ sound-command w l =
     let d : dOf w < registers = omega (arith, n .d) in
     let a : aOf w < registers = omega (arith, n .a) in
     let b : bOf w < registers = omega (arith, n .b) in
-    cond-ind Sound (eqb (kindOf w) 0) (λ _. tt)
-    (λ _. cond-ind Sound (eqb (kindOf w) 1) (λ _. tt)
-    (λ _. cond-ind Sound (ltb (kindOf w) 12) (λ _. (a, b, v))
-    (λ _. cond-ind Sound (eqb (kindOf w) 12) (λ _. a)
-    (λ _. cond-ind Sound (eqb (kindOf w) 13) (λ _. (a, b))
-    (λ _. cond-ind Sound (eqb (kindOf w) 14) (λ _. (a, b, v))
-    (λ _. cond-ind Sound (eqb (kindOf w) 15) (λ _. (d, a, b))
-    (λ _. cond-ind Sound (eqb (kindOf w) 16) (λ _. v)
-    (λ _. cond-ind Sound (eqb (kindOf w) 17) (λ _. d)
-    (λ _. cond-ind Sound (eqb (kindOf w) 18) (λ _. d)
-    (λ _. cond-ind Sound (eqb (kindOf w) 19) (λ _. v) (λ _. tt))))))))))))
+    cond-ind Sound (eqb (kindOf w) (command .nop)) (λ _. tt)
+    (λ _. cond-ind Sound (eqb (kindOf w) (command .halt)) (λ _. tt)
+    (λ _. cond-ind Sound (ltb (kindOf w) (command .load)) (λ _. (a, b, v))
+    (λ _. cond-ind Sound (eqb (kindOf w) (command .load)) (λ _. a)
+    (λ _. cond-ind Sound (eqb (kindOf w) (command .store)) (λ _. (a, b))
+    (λ _. cond-ind Sound (eqb (kindOf w) (command .goif)) (λ _. (a, b, v))
+    (λ _. cond-ind Sound (eqb (kindOf w) (command .goxr)) (λ _. (d, a, b))
+    (λ _. cond-ind Sound (eqb (kindOf w) (command .look)) (λ _. v)
+    (λ _. cond-ind Sound (eqb (kindOf w) (command .stopif)) (λ _. d)
+    (λ _. cond-ind Sound (eqb (kindOf w) (command .keep)) (λ _. d)
+    (λ _. cond-ind Sound (eqb (kindOf w) (command .event)) (λ _. v) (λ _. tt))))))))))))
     (λ _. tt)
 
 -- a word's effect is its command's
@@ -53,79 +53,51 @@ decoded w c s r e q = q ∙ ap (λ (x : Command). effectOf x s) e
 
 -- what the numbers of a sound command are
 module _ (c : Command) (s : Sound c) where
-  pub plain-a : (k d a b v : ℕ) → c ≡ Plain k d a b v → a < registers
+  pub sound-plain : (k d a b v : ℕ) → c ≡ Plain k d a b v → (a < registers) × (b < registers) × (v ≤ topWord)
   unfolding Sound
-  plain-a k d a b v e = subst Sound e s .0
+  sound-plain k d a b v e = subst Sound e s
 
-  pub plain-b : (k d a b v : ℕ) → c ≡ Plain k d a b v → b < registers
+  pub sound-load : (d a : ℕ) → c ≡ Load d a → a < registers
   unfolding Sound
-  plain-b k d a b v e = subst Sound e s .1
+  sound-load d a e = subst Sound e s
 
-  pub plain-v : (k d a b v : ℕ) → c ≡ Plain k d a b v → v ≤ topWord
+  pub sound-store : (a b : ℕ) → c ≡ Store a b → (a < registers) × (b < registers)
   unfolding Sound
-  plain-v k d a b v e = subst Sound e s .2
+  sound-store a b e = subst Sound e s
 
-  pub load-a : (d a : ℕ) → c ≡ Load d a → a < registers
+  pub sound-jump : (a b k v : ℕ) → c ≡ GoIf a b k v → (a < registers) × (b < registers) × (v ≤ topWord)
   unfolding Sound
-  load-a d a e = subst Sound e s
+  sound-jump a b k v e = subst Sound e s
 
-  pub store-a : (a b : ℕ) → c ≡ Store a b → a < registers
+  pub sound-turn : (d a b k : ℕ) → c ≡ GoReg d a b k → (d < registers) × (a < registers) × (b < registers)
   unfolding Sound
-  store-a a b e = subst Sound e s .0
+  sound-turn d a b k e = subst Sound e s
 
-  pub store-b : (a b : ℕ) → c ≡ Store a b → b < registers
+  pub sound-look : (d v : ℕ) → c ≡ Look d v → v ≤ topWord
   unfolding Sound
-  store-b a b e = subst Sound e s .1
+  sound-look d v e = subst Sound e s
 
-  pub jump-a : (a b k v : ℕ) → c ≡ GoIf a b k v → a < registers
+  pub sound-stop : (d : ℕ) → c ≡ StopIf d → d < registers
   unfolding Sound
-  jump-a a b k v e = subst Sound e s .0
+  sound-stop d e = subst Sound e s
 
-  pub jump-b : (a b k v : ℕ) → c ≡ GoIf a b k v → b < registers
+  pub sound-keep : (d : ℕ) → c ≡ Keep d → d < registers
   unfolding Sound
-  jump-b a b k v e = subst Sound e s .1
+  sound-keep d e = subst Sound e s
 
-  pub jump-v : (a b k v : ℕ) → c ≡ GoIf a b k v → v ≤ topWord
+  pub sound-event : (v : ℕ) → c ≡ Event v → v ≤ topWord
   unfolding Sound
-  jump-v a b k v e = subst Sound e s .2
-
-  pub turn-d : (d a b k : ℕ) → c ≡ GoReg d a b k → d < registers
-  unfolding Sound
-  turn-d d a b k e = subst Sound e s .0
-
-  pub turn-a : (d a b k : ℕ) → c ≡ GoReg d a b k → a < registers
-  unfolding Sound
-  turn-a d a b k e = subst Sound e s .1
-
-  pub turn-b : (d a b k : ℕ) → c ≡ GoReg d a b k → b < registers
-  unfolding Sound
-  turn-b d a b k e = subst Sound e s .2
-
-  pub look-v : (d v : ℕ) → c ≡ Look d v → v ≤ topWord
-  unfolding Sound
-  look-v d v e = subst Sound e s
-
-  pub stop-d : (d : ℕ) → c ≡ StopIf d → d < registers
-  unfolding Sound
-  stop-d d e = subst Sound e s
-
-  pub keep-d : (d : ℕ) → c ≡ Keep d → d < registers
-  unfolding Sound
-  keep-d d e = subst Sound e s
-
-  pub event-v : (v : ℕ) → c ≡ Event v → v ≤ topWord
-  unfolding Sound
-  event-v v e = subst Sound e s
+  sound-event v e = subst Sound e s
 
 pub word-fits : (v : ℕ) → v ≤ topWord → Held w32 v
 word-fits v h = record { fits = omega arith }
 
 -- a kind that is not plain puts nothing of its own
-pub other-kind : (k x y v : ℕ) → (k ≡ 2 → ⊥) → (k ≡ 3 → ⊥) → (k ≡ 4 → ⊥) → (k ≡ 5 → ⊥) → (k ≡ 6 → ⊥) → (k ≡ 7 → ⊥) → (k ≡ 8 → ⊥) → (k ≡ 9 → ⊥) → (k ≡ 10 → ⊥) → (k ≡ 11 → ⊥)
+pub other-kind : (k x y v : ℕ) → (k ≡ command .set → ⊥) → (k ≡ command .move → ⊥) → (k ≡ command .add → ⊥) → (k ≡ command .sub → ⊥) → (k ≡ command .and → ⊥) → (k ≡ command .or → ⊥) → (k ≡ command .sar → ⊥) → (k ≡ command .andi → ⊥) → (k ≡ command .ori → ⊥) → (k ≡ command .shl → ⊥)
     → 0 ≡ plainOf k x y v
 unfolding plainOf
 other-kind k x y v a b c d e f g h i j =
-    rw (ne-eqb k 2 a, ne-eqb k 3 b, ne-eqb k 4 c, ne-eqb k 5 d, ne-eqb k 6 e, ne-eqb k 7 f, ne-eqb k 8 g, ne-eqb k 9 h, ne-eqb k 10 i, ne-eqb k 11 j)
+    rw (ne-eqb k (command .set) a, ne-eqb k (command .move) b, ne-eqb k (command .add) c, ne-eqb k (command .sub) d, ne-eqb k (command .and) e, ne-eqb k (command .or) f, ne-eqb k (command .sar) g, ne-eqb k (command .andi) h, ne-eqb k (command .ori) i, ne-eqb k (command .shl) j)
 
 -- each command's effect
 module _ (regs : List ℕ) (pc : ℕ) (mem : List ℕ) (cell table base landings free left : ℕ) (c : Command) where

@@ -14,7 +14,7 @@ use Rattle.rules.specs.declared.Layout.{Layout}
 use Rattle.rules.specs.declared.Answer.{Answer}
 use Rattle.rules.specs.declared.Instr.{Instr}
 use Rattle.rules.specs.declared.Instr.the-variants.{HALT, PLAIN, LOAD, STORE, GOIF, GOX, EVENT}
-use Rattle.rules.specs.Names.{mostInstructions, mostBundles, mostCommands, bundleLength, events, noArrow}
+use Rattle.rules.specs.Names.{mostInstructions, mostBundles, mostCommands, bundleLength, events, command, noArrow}
 use Rattle.rules.specs.Layouts.{rightLayout, inTable, inLandings, protected, tableEnd, landingsEnd}
 use Rattle.rules.specs.Policies.{Policy, entryRight, entriesRight, rightPolicy}
 use Rattle.rules.specs.Landings.{rightLandings, landingsOf}
@@ -146,7 +146,7 @@ valid-is n (GOX d a b c) t =
 valid-is n (EVENT e) t = ltb-true e events t
 
 -- a bundle that no other follows
-last-halts : (h n : ℕ) (lay : Layout) (w y z : ℕ) → (ltb h n || eqb (kindOf w) 1) ≡ true → n ≤ h → readOff lay w y z ≡ HALT
+last-halts : (h n : ℕ) (lay : Layout) (w y z : ℕ) → (ltb h n || eqb (kindOf w) (command .halt)) ≡ true → n ≤ h → readOff lay w y z ≡ HALT
 unfolding readOff
 last-halts h n lay w y z t l = ⊎-elim (λ e. absurd (let u = ltb-true h n e in omega arith)) (λ e. rw e) (either _ _ t)
 

@@ -19,7 +19,7 @@ use Rattle.rules.specs.declared.Effect.{Effect}
 use Rattle.rules.specs.declared.Effect.the-variants.{Go, Put, Cell, Order, Probe, End, Wait}
 use Rattle.rules.specs.declared.Command.{Command}
 use Rattle.rules.specs.declared.Command.the-variants.{Nop, Halt, Plain, Load, Store, GoIf, GoReg, Look, StopIf, Keep, Event, Stray}
-use Rattle.rules.specs.Names.{mostInstructions, mostCommands, bundleLength, topKind, orders, noArrow, answer, orElse, roomFor}
+use Rattle.rules.specs.Names.{mostInstructions, mostCommands, bundleLength, guest, topKind, orders, noArrow, answer, orElse, roomFor}
 use Rattle.rules.specs.Words.{guestLimits, hasStray, hasHigh, judgeOf, judgeWord, judgeAt, firstRefused, kindOf, vOf, fieldsOf, routine, bundlesFor}
 use Rattle.rules.specs.Bytes.{sizeOf, mapOf, fieldsAt, oneFields, oneMap, oneOf, thenAnswer, scanOf, countOf, readAnswer, oneOut, bytesOf, writeAnswer}
 use Rattle.rules.specs.Layouts.{rightLayout}
@@ -142,7 +142,7 @@ pub judge-at-small : (n w : ℕ) → judgeAt n w < 2 ^ 8
 unfolding judgeAt
 judge-at-small n w =
     unless-ind (λ (x : ℕ). x < 2 ^ 8) (eqb (judgeWord w) 0) (λ _. judge-small _ _)
-    (λ _. cond-ind (λ (x : ℕ). x < 2 ^ 8) (eqb (kindOf w) 10 && ltb n (vOf w)) (λ _. lit< tt) (λ _. lit< tt))
+    (λ _. cond-ind (λ (x : ℕ). x < 2 ^ 8) (eqb (kindOf w) (guest .goif) && ltb n (vOf w)) (λ _. lit< tt) (λ _. lit< tt))
 
 -- at most 1,024 bundles
 pub count-bound : (n : ℕ) → n ≤ mostInstructions → commandCount n ≤ mostCommands

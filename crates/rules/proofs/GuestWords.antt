@@ -1,56 +1,52 @@
 -- The guest words that rewriting takes: their instructions are valid, and every valid instruction has one.
 use mathlib.Core.Path.{_≡_, refl, _∙_}
-use mathlib.Core.Bool.{false, _&&_, cond}
-use Prim.Native.Nat.{ℕ, zero, suc, _+_, _<_, _≤_}
+use mathlib.Core.Bool.{true, false, _&&_, _||_, cond}
+use mathlib.Core.Logic.{⊎-elim}
+use Prim.Native.Nat.{ℕ, zero-le, _+_, _<_, _≤_}
 use native.Mathlib.Omega.{arith}
-use borrow.Author.Tests.{ltb-true, ltb-false, eqb-true, eqb-false, lt-ltb, eq-eqb, ne-eqb}
-use lib.Dec.{eqb, ltb, lit<, lit≤}
+use borrow.Author.Tests.{ltb-true, ltb-false, eqb-true, eqb-false, leb-true, lt-ltb, eq-eqb, ne-eqb}
+use lib.Dec.{eqb, leb, ltb, lit<, lit≤}
 use Rattle.rules.specs.declared.Fields.{Fields}
+use Rattle.rules.specs.declared.Limits.{Limits}
 use Rattle.rules.specs.declared.Instr.{Instr}
 use Rattle.rules.specs.declared.Instr.the-variants.{HALT, PLAIN, LOAD, STORE, GOIF, GOX, EVENT}
 use Rattle.rules.specs.declared.Refusal.the-variants.{Taken, BadLanding}
-use Rattle.rules.specs.Names.{topGuest, topRegister, topCondition, topKind, guestRegisters, mostInstructions, numberOf}
+use Rattle.rules.specs.Names.{topGuest, topCondition, events, topKind, guestRegisters, mostInstructions, guest, plainStep, numberOf}
 use Rattle.rules.specs.Words.{kindOf, vOf, zeroOf, fieldsOf, packOf, guestLimits, judgeOf, judgeWord, judgeAt, instrOf}
 use Rattle.rules.specs.Commands.{limitsOf}
 use Rattle.rules.proofs.Facts.{Valid}
-use Rattle.rules.proofs.Bools.{both, cond-ind, unless-ind}
+use Rattle.rules.proofs.Bools.{both, either, cond-ind, unless-ind}
+use Rattle.rules.proofs.Tables.{all, each, raised}
 use Rattle.rules.proofs.WordLaws.{Kept, good, judged, bounds}
 use Rattle.rules.proofs.Packing.{InBits, guest-bits, condition-bits, pack-kind, pack-d, pack-a, pack-b, pack-c, pack-zero, pack-v}
 
 -- ---- the instruction of a taken word is valid
 
 -- a landing that 8 does not refuse
-landing : (n k v : ℕ) → cond (eqb k 10 && ltb n v) (numberOf BadLanding) (numberOf Taken) ≡ 0 → k ≡ 10 → v ≤ n
-landing n k v e ten =
-    cond-ind (λ (x : ℕ). x ≡ 0 → v ≤ n) (eqb k 10 && ltb n v) (λ _ z. absurd (omega arith)) (λ l _. ltb-false n v (rw (eq-eqb k 10 ten) at l)) e
+landing : (n k v : ℕ) → cond (eqb k (guest .goif) && ltb n v) (numberOf BadLanding) (numberOf Taken) ≡ 0 → k ≡ guest .goif → v ≤ n
+landing n k v e at-goif =
+    cond-ind (λ (x : ℕ). x ≡ 0 → v ≤ n) (eqb k (guest .goif) && ltb n v) (λ _ z. absurd (omega arith)) (λ l _. ltb-false n v (rw (eq-eqb k (guest .goif) at-goif) at l)) e
 
-taken-word : (n w : ℕ) → judgeAt n w ≡ 0 → (judgeWord w ≡ 0) × (kindOf w ≡ 10 → vOf w ≤ n)
+taken-word : (n w : ℕ) → judgeAt n w ≡ 0 → (judgeWord w ≡ 0) × (kindOf w ≡ guest .goif → vOf w ≤ n)
 unfolding judgeAt
 taken-word n w =
-    unless-ind (λ (x : ℕ). x ≡ 0 → (judgeWord w ≡ 0) × (kindOf w ≡ 10 → vOf w ≤ n)) (eqb (judgeWord w) 0)
+    unless-ind (λ (x : ℕ). x ≡ 0 → (judgeWord w ≡ 0) × (kindOf w ≡ guest .goif → vOf w ≤ n)) (eqb (judgeWord w) 0)
     (λ h e. absurd (eqb-false _ _ h e)) (λ h e. (eqb-true _ _ h, landing n (kindOf w) (vOf w) e))
 
 abbrev fields : ℕ → ℕ → ℕ → ℕ → ℕ → ℕ → Fields
 fields k d a b c v = record { kind = k; d = d; a = a; b = b; c = c; v = v }
 
-is-register : (r : ℕ) → r ≤ topGuest → r ≤ topRegister
-is-register r l = omega arith
-
 -- the tables of a guest's plain kinds and of the commands that they become agree
-plain-limits : (k d a b c v : ℕ) → Kept (guestLimits k) (fields k d a b c v) → 1 ≤ k → k < 8 → (d ≤ limitsOf (k + 1) .d) × (a ≤ limitsOf (k + 1) .a) × (b ≤ limitsOf (k + 1) .b) × (v ≤ limitsOf (k + 1) .v)
-plain-limits zero d a b c v g l h = absurd (omega arith)
-plain-limits (suc zero) d a b c v g l h = (is-register d (g .d), g .a, g .b, g .v)
-plain-limits (suc (suc zero)) d a b c v g l h = (is-register d (g .d), is-register a (g .a), g .b, g .v)
-plain-limits (suc (suc (suc zero))) d a b c v g l h = (is-register d (g .d), is-register a (g .a), is-register b (g .b), g .v)
-plain-limits (suc (suc (suc (suc zero)))) d a b c v g l h = (is-register d (g .d), is-register a (g .a), is-register b (g .b), g .v)
-plain-limits (suc (suc (suc (suc (suc zero))))) d a b c v g l h = (is-register d (g .d), is-register a (g .a), is-register b (g .b), g .v)
-plain-limits (suc (suc (suc (suc (suc (suc zero)))))) d a b c v g l h = (is-register d (g .d), is-register a (g .a), is-register b (g .b), g .v)
-plain-limits (suc (suc (suc (suc (suc (suc (suc zero))))))) d a b c v g l h = (is-register d (g .d), is-register a (g .a), g .b, g .v)
-plain-limits (suc (suc (suc (suc (suc (suc (suc (suc k)))))))) d a b c v g l h = absurd (omega arith)
+plain-limits : (k d a b c v : ℕ) → Kept (guestLimits k) (fields k d a b c v) → k < guest .load → (d ≤ limitsOf (k + plainStep) .d) × (a ≤ limitsOf (k + plainStep) .a) × (b ≤ limitsOf (k + plainStep) .b) × (v ≤ limitsOf (k + plainStep) .v)
+unfolding all
+plain-limits k d a b c v g h = (up (λ l. l .d) refl d (g .d), up (λ l. l .a) refl a (g .a), up (λ l. l .b) refl b (g .b), up (λ l. l .v) refl v (g .v))
+  where
+    up : (f : Limits → ℕ) → all (λ k. leb (f (guestLimits k)) (f (limitsOf (k + plainStep)))) (guest .load) ≡ true → (x : ℕ) → x ≤ f (guestLimits k) → x ≤ f (limitsOf (k + plainStep))
+    up f e x l = raised (λ k. f (guestLimits k)) (λ k. f (limitsOf (k + plainStep))) (guest .load) e k x h l
 
 -- EVENT's number
-event-top : (k v : ℕ) → k ≡ 12 → v ≤ guestLimits k .v → v < 16
-event-top k v e h = let t : v ≤ guestLimits 12 .v = rw e at h in omega arith
+event-top : (k v : ℕ) → k ≡ guest .event → v ≤ guestLimits k .v → v < events
+event-top k v e h = let t : v ≤ guestLimits (guest .event) .v = rw e at h in omega arith
 
 -- guest registers, and landings
 is-guest : (r : ℕ) → r ≤ topGuest → r < guestRegisters
@@ -74,42 +70,42 @@ taken-valid n w e =
     let hb = is-guest _ (g .b) in
     let hc = g .c in
     let k = kindOf w in
-    cond-ind (Valid (n + 1)) (eqb k 0) (λ _. tt) (λ h0.
-    cond-ind (Valid (n + 1)) (ltb k 8) (λ h1.
-    let l : 1 ≤ k = omega (arith, eqb-false k 0 h0) in
-    let u : k < 8 = ltb-true k 8 h1 in
-    let most : k ≤ 7 = omega (arith, u) in
-    let p = plain-limits k _ _ _ _ _ kept l u in
+    cond-ind (Valid (n + 1)) (eqb k (guest .halt)) (λ _. tt) (λ h0.
+    cond-ind (Valid (n + 1)) (ltb k (guest .load)) (λ h1.
+    let l : guest .set ≤ k = omega (arith, eqb-false k (guest .halt) h0) in
+    let u : k < guest .load = ltb-true k (guest .load) h1 in
+    let most : k ≤ guest .sar = omega (arith, u) in
+    let p = plain-limits k _ _ _ _ _ kept u in
     (l, most, hd, ha, hb, p .0, p .1, p .2, p .3)) (λ h1.
-    cond-ind (Valid (n + 1)) (eqb k 8) (λ _. (hd, ha)) (λ h2.
-    cond-ind (Valid (n + 1)) (eqb k 9) (λ _. (ha, hb)) (λ h3.
-    cond-ind (Valid (n + 1)) (eqb k 10) (λ h4. (ha, hb, hc, below-next (vOf w) n (t .1 (eqb-true k 10 h4)))) (λ h4.
-    cond-ind (Valid (n + 1)) (eqb k 11) (λ _. (hd, ha, hb, hc)) (λ h5.
+    cond-ind (Valid (n + 1)) (eqb k (guest .load)) (λ _. (hd, ha)) (λ h2.
+    cond-ind (Valid (n + 1)) (eqb k (guest .store)) (λ _. (ha, hb)) (λ h3.
+    cond-ind (Valid (n + 1)) (eqb k (guest .goif)) (λ h4. (ha, hb, hc, below-next (vOf w) n (t .1 (eqb-true k (guest .goif) h4)))) (λ h4.
+    cond-ind (Valid (n + 1)) (eqb k (guest .gox)) (λ _. (hd, ha, hb, hc)) (λ h5.
     event-top k (vOf w)
-    (omega (arith, g .kind, ltb-false k 8 h1, eqb-false k 8 h2, eqb-false k 9 h3, eqb-false k 10 h4, eqb-false k 11 h5))
+    (omega (arith, g .kind, ltb-false k (guest .load) h1, eqb-false k (guest .load) h2, eqb-false k (guest .store) h3, eqb-false k (guest .goif) h4, eqb-false k (guest .gox) h5))
     (kept .v)))))))
 
 -- ---- the guest word of an instruction
 
 abbrev pub guestWord : Instr → ℕ
-guestWord HALT = packOf 0 0 0 0 0 0
+guestWord HALT = packOf (guest .halt) 0 0 0 0 0
 guestWord (PLAIN k d a b v) = packOf k d a b 0 v
-guestWord (LOAD d a) = packOf 8 d a 0 0 0
-guestWord (STORE a b) = packOf 9 0 a b 0 0
-guestWord (GOIF a b c v) = packOf 10 0 a b c v
-guestWord (GOX d a b c) = packOf 11 d a b c 0
-guestWord (EVENT e) = packOf 12 0 0 0 0 e
+guestWord (LOAD d a) = packOf (guest .load) d a 0 0 0
+guestWord (STORE a b) = packOf (guest .store) 0 a b 0 0
+guestWord (GOIF a b c v) = packOf (guest .goif) 0 a b c v
+guestWord (GOX d a b c) = packOf (guest .gox) d a b c 0
+guestWord (EVENT e) = packOf (guest .event) 0 0 0 0 e
 
 -- each field within its limit, and a landing up to n
 abbrev Fine : ℕ → ℕ → ℕ → ℕ → ℕ → ℕ → ℕ → Type 0
 Fine n k d a b c v =
     let l = guestLimits k in
-    (k ≤ topKind) × ((d ≤ l .d) × (a ≤ l .a) × (b ≤ l .b) × (c ≤ l .c) × (v ≤ l .v)) × (k ≡ 10 → v ≤ n)
+    (k ≤ topKind) × ((d ≤ l .d) × (a ≤ l .a) × (b ≤ l .b) × (c ≤ l .c) × (v ≤ l .v)) × (k ≡ guest .goif → v ≤ n)
 
-lands : (n k v : ℕ) → (k ≡ 10 → v ≤ n) → cond (eqb k 10 && ltb n v) (numberOf BadLanding) (numberOf Taken) ≡ 0
+lands : (n k v : ℕ) → (k ≡ guest .goif → v ≤ n) → cond (eqb k (guest .goif) && ltb n v) (numberOf BadLanding) (numberOf Taken) ≡ 0
 lands n k v f =
-    cond-ind (λ (y : ℕ). y ≡ 0) (eqb k 10 && ltb n v)
-    (λ e. let t = both _ _ e in absurd (let l = f (eqb-true k 10 (t .0)) in let m = ltb-true n v (t .1) in omega arith))
+    cond-ind (λ (y : ℕ). y ≡ 0) (eqb k (guest .goif) && ltb n v)
+    (λ e. let t = both _ _ e in absurd (let l = f (eqb-true k (guest .goif) (t .0)) in let m = ltb-true n v (t .1) in omega arith))
     (λ e. refl)
 
 pack-judged : (n k d a b c v : ℕ) → InBits k d a b c → Fine n k d a b c v → judgeAt n (packOf k d a b c v) ≡ 0
@@ -122,61 +118,61 @@ pack-judged n k d a b c v h g =
     (rw j (lands n k v (g .2)))
 
 -- the plain kinds
-plain-fine : (n k d a b v : ℕ) → 1 ≤ k → k ≤ 7 → d < guestRegisters → a < guestRegisters → b < guestRegisters → a ≤ limitsOf (k + 1) .a → b ≤ limitsOf (k + 1) .b → v ≤ limitsOf (k + 1) .v → Fine n k d a b 0 v
-plain-fine n zero d a b v l h hd ha hb la lb lv = absurd (omega arith)
-plain-fine n (suc zero) d a b v l h hd ha hb la lb lv = (lit≤ tt, (at-most d hd, la, lb, lit≤ tt, lv), λ e. omega arith)
-plain-fine n (suc (suc zero)) d a b v l h hd ha hb la lb lv = (lit≤ tt, (at-most d hd, at-most a ha, lb, lit≤ tt, lv), λ e. omega arith)
-plain-fine n (suc (suc (suc zero))) d a b v l h hd ha hb la lb lv = (lit≤ tt, (at-most d hd, at-most a ha, at-most b hb, lit≤ tt, lv), λ e. omega arith)
-plain-fine n (suc (suc (suc (suc zero)))) d a b v l h hd ha hb la lb lv = (lit≤ tt, (at-most d hd, at-most a ha, at-most b hb, lit≤ tt, lv), λ e. omega arith)
-plain-fine n (suc (suc (suc (suc (suc zero))))) d a b v l h hd ha hb la lb lv = (lit≤ tt, (at-most d hd, at-most a ha, at-most b hb, lit≤ tt, lv), λ e. omega arith)
-plain-fine n (suc (suc (suc (suc (suc (suc zero)))))) d a b v l h hd ha hb la lb lv = (lit≤ tt, (at-most d hd, at-most a ha, at-most b hb, lit≤ tt, lv), λ e. omega arith)
-plain-fine n (suc (suc (suc (suc (suc (suc (suc zero))))))) d a b v l h hd ha hb la lb lv = (lit≤ tt, (at-most d hd, at-most a ha, lb, lit≤ tt, lv), λ e. omega arith)
-plain-fine n (suc (suc (suc (suc (suc (suc (suc (suc k)))))))) d a b v l h hd ha hb la lb lv = absurd (omega arith)
+plain-fine : (n k d a b v : ℕ) → k ≤ guest .sar → d < guestRegisters → a < guestRegisters → b < guestRegisters → d ≤ limitsOf (k + plainStep) .d → a ≤ limitsOf (k + plainStep) .a → b ≤ limitsOf (k + plainStep) .b → v ≤ limitsOf (k + plainStep) .v → Fine n k d a b 0 v
+unfolding all
+plain-fine n k d a b v h hd ha hb ld la lb lv =
+    (omega arith, (down (λ l. l .d) refl d hd ld, down (λ l. l .a) refl a ha la, down (λ l. l .b) refl b hb lb, zero-le, raised (λ k. limitsOf (k + plainStep) .v) (λ k. guestLimits k .v) (guest .load) refl k v (omega arith) lv), λ e. omega arith)
+  where
+    down : (f : Limits → ℕ) → all (λ k. leb topGuest (f (guestLimits k)) || leb (f (limitsOf (k + plainStep))) (f (guestLimits k))) (guest .load) ≡ true → (x : ℕ) → x < guestRegisters → x ≤ f (limitsOf (k + plainStep)) → x ≤ f (guestLimits k)
+    down f e x m l =
+        ⊎-elim (λ t. let u : topGuest ≤ f (guestLimits k) = leb-true _ _ t in omega arith) (λ t. let u : f (limitsOf (k + plainStep)) ≤ f (guestLimits k) = leb-true _ _ t in omega arith)
+        (either _ _ (each (λ k. leb topGuest (f (guestLimits k)) || leb (f (limitsOf (k + plainStep))) (f (guestLimits k))) k (guest .load) e (omega arith)))
 
 -- the fields of each guest word lie within their bits
-halt-bits : InBits 0 0 0 0 0
+halt-bits : InBits (guest .halt) 0 0 0 0
 halt-bits = (lit< tt, lit< tt, lit< tt, lit< tt, lit< tt)
 
-plain-bits : (k d a b : ℕ) → k ≤ 7 → d < guestRegisters → a < guestRegisters → b < guestRegisters → InBits k d a b 0
+plain-bits : (k d a b : ℕ) → k ≤ guest .sar → d < guestRegisters → a < guestRegisters → b < guestRegisters → InBits k d a b 0
 plain-bits k d a b l hd ha hb = (omega arith, guest-bits d hd, guest-bits a ha, guest-bits b hb, lit< tt)
 
-load-bits : (d a : ℕ) → (d < guestRegisters) × (a < guestRegisters) → InBits 8 d a 0 0
+load-bits : (d a : ℕ) → (d < guestRegisters) × (a < guestRegisters) → InBits (guest .load) d a 0 0
 load-bits d a g = (lit< tt, guest-bits d (g .0), guest-bits a (g .1), lit< tt, lit< tt)
 
-store-bits : (a b : ℕ) → (a < guestRegisters) × (b < guestRegisters) → InBits 9 0 a b 0
+store-bits : (a b : ℕ) → (a < guestRegisters) × (b < guestRegisters) → InBits (guest .store) 0 a b 0
 store-bits a b g = (lit< tt, lit< tt, guest-bits a (g .0), guest-bits b (g .1), lit< tt)
 
-goif-bits : (a b c : ℕ) → a < guestRegisters → b < guestRegisters → c ≤ topCondition → InBits 10 0 a b c
+goif-bits : (a b c : ℕ) → a < guestRegisters → b < guestRegisters → c ≤ topCondition → InBits (guest .goif) 0 a b c
 goif-bits a b c ha hb hc = (lit< tt, lit< tt, guest-bits a ha, guest-bits b hb, condition-bits c hc)
 
-gox-bits : (d a b c : ℕ) → (d < guestRegisters) × (a < guestRegisters) × (b < guestRegisters) × (c ≤ topCondition) → InBits 11 d a b c
+gox-bits : (d a b c : ℕ) → (d < guestRegisters) × (a < guestRegisters) × (b < guestRegisters) × (c ≤ topCondition) → InBits (guest .gox) d a b c
 gox-bits d a b c g = (lit< tt, guest-bits d (g .0), guest-bits a (g .1), guest-bits b (g .2), condition-bits c (g .3))
 
-event-bits : InBits 12 0 0 0 0
+event-bits : InBits (guest .event) 0 0 0 0
 event-bits = (lit< tt, lit< tt, lit< tt, lit< tt, lit< tt)
 
 -- of n + 1 bundles at most, a valid instruction's word is taken among n
 pub guest-taken : (n : ℕ) → n ≤ mostInstructions → (i : Instr) → Valid (n + 1) i → judgeAt n (guestWord i) ≡ 0
-guest-taken n m HALT g = pack-judged n 0 0 0 0 0 0 halt-bits (lit≤ tt, (lit≤ tt, lit≤ tt, lit≤ tt, lit≤ tt, lit≤ tt), λ e. omega arith)
+guest-taken n m HALT g = pack-judged n (guest .halt) 0 0 0 0 0 halt-bits (lit≤ tt, (lit≤ tt, lit≤ tt, lit≤ tt, lit≤ tt, lit≤ tt), λ e. omega arith)
 guest-taken n m (PLAIN k d a b v) g =
-    pack-judged n k d a b 0 v (plain-bits k d a b (g .1) (g .2) (g .3) (g .4)) (plain-fine n k d a b v (g .0) (g .1) (g .2) (g .3) (g .4) (g .6) (g .7) (g .8))
+    pack-judged n k d a b 0 v (plain-bits k d a b (g .1) (g .2) (g .3) (g .4)) (plain-fine n k d a b v (g .1) (g .2) (g .3) (g .4) (g .5) (g .6) (g .7) (g .8))
 guest-taken n m (LOAD d a) g =
-    pack-judged n 8 d a 0 0 0 (load-bits d a g) (lit≤ tt, (at-most d (g .0), at-most a (g .1), lit≤ tt, lit≤ tt, lit≤ tt), λ e. omega arith)
+    pack-judged n (guest .load) d a 0 0 0 (load-bits d a g) (lit≤ tt, (at-most d (g .0), at-most a (g .1), lit≤ tt, lit≤ tt, lit≤ tt), λ e. omega arith)
 guest-taken n m (STORE a b) g =
-    pack-judged n 9 0 a b 0 0 (store-bits a b g) (lit≤ tt, (lit≤ tt, at-most a (g .0), at-most b (g .1), lit≤ tt, lit≤ tt), λ e. omega arith)
+    pack-judged n (guest .store) 0 a b 0 0 (store-bits a b g) (lit≤ tt, (lit≤ tt, at-most a (g .0), at-most b (g .1), lit≤ tt, lit≤ tt), λ e. omega arith)
 guest-taken n m (GOIF a b c v) g =
-    pack-judged n 10 0 a b c v (goif-bits a b c (g .0) (g .1) (g .2)) (lit≤ tt, (lit≤ tt, at-most a (g .0), at-most b (g .1), g .2, omega arith), λ e. omega arith)
+    pack-judged n (guest .goif) 0 a b c v (goif-bits a b c (g .0) (g .1) (g .2)) (lit≤ tt, (lit≤ tt, at-most a (g .0), at-most b (g .1), g .2, omega arith), λ e. omega arith)
 guest-taken n m (GOX d a b c) g =
-    pack-judged n 11 d a b c 0 (gox-bits d a b c g) (lit≤ tt, (at-most d (g .0), at-most a (g .1), at-most b (g .2), g .3, lit≤ tt), λ e. omega arith)
+    pack-judged n (guest .gox) d a b c 0 (gox-bits d a b c g) (lit≤ tt, (at-most d (g .0), at-most a (g .1), at-most b (g .2), g .3, lit≤ tt), λ e. omega arith)
 guest-taken n m (EVENT v) g =
-    pack-judged n 12 0 0 0 0 v event-bits (lit≤ tt, (lit≤ tt, lit≤ tt, lit≤ tt, lit≤ tt, omega arith), λ e. omega arith)
+    pack-judged n (guest .event) 0 0 0 0 v event-bits (lit≤ tt, (lit≤ tt, lit≤ tt, lit≤ tt, lit≤ tt, omega arith), λ e. omega arith)
 
 -- and stands for it
 abbrev instrAt : ℕ → ℕ → ℕ → ℕ → ℕ → ℕ → Instr
 instrAt k d a b c v =
-    cond (eqb k 0) HALT
-    (cond (ltb k 8) (PLAIN k d a b v)
-    (cond (eqb k 8) (LOAD d a) (cond (eqb k 9) (STORE a b) (cond (eqb k 10) (GOIF a b c v) (cond (eqb k 11) (GOX d a b c) (EVENT v))))))
+    cond (eqb k (guest .halt)) HALT
+    (cond (ltb k (guest .load)) (PLAIN k d a b v)
+    (cond (eqb k (guest .load)) (LOAD d a)
+    (cond (eqb k (guest .store)) (STORE a b) (cond (eqb k (guest .goif)) (GOIF a b c v) (cond (eqb k (guest .gox)) (GOX d a b c) (EVENT v))))))
 
 pack-instr : (k d a b c v : ℕ) → InBits k d a b c → instrOf (packOf k d a b c v) ≡ instrAt k d a b c v
 unfolding instrOf
@@ -184,11 +180,11 @@ pack-instr k d a b c v h =
     rw (pack-kind k d a b c v h, pack-d k d a b c v h, pack-a k d a b c v h, pack-b k d a b c v h, pack-c k d a b c v h, pack-v k d a b c v h)
 
 pub guest-instr : (n : ℕ) (i : Instr) → Valid n i → instrOf (guestWord i) ≡ i
-guest-instr n HALT g = pack-instr 0 0 0 0 0 0 halt-bits
+guest-instr n HALT g = pack-instr (guest .halt) 0 0 0 0 0 halt-bits
 guest-instr n (PLAIN k d a b v) g =
-    pack-instr k d a b 0 v (plain-bits k d a b (g .1) (g .2) (g .3) (g .4)) ∙ rw (ne-eqb k 0 (omega arith), lt-ltb k 8 (omega arith))
-guest-instr n (LOAD d a) g = pack-instr 8 d a 0 0 0 (load-bits d a g)
-guest-instr n (STORE a b) g = pack-instr 9 0 a b 0 0 (store-bits a b g)
-guest-instr n (GOIF a b c v) g = pack-instr 10 0 a b c v (goif-bits a b c (g .0) (g .1) (g .2))
-guest-instr n (GOX d a b c) g = pack-instr 11 d a b c 0 (gox-bits d a b c g)
-guest-instr n (EVENT v) g = pack-instr 12 0 0 0 0 v event-bits
+    pack-instr k d a b 0 v (plain-bits k d a b (g .1) (g .2) (g .3) (g .4)) ∙ rw (ne-eqb k (guest .halt) (omega arith), lt-ltb k (guest .load) (omega arith))
+guest-instr n (LOAD d a) g = pack-instr (guest .load) d a 0 0 0 (load-bits d a g)
+guest-instr n (STORE a b) g = pack-instr (guest .store) 0 a b 0 0 (store-bits a b g)
+guest-instr n (GOIF a b c v) g = pack-instr (guest .goif) 0 a b c v (goif-bits a b c (g .0) (g .1) (g .2))
+guest-instr n (GOX d a b c) g = pack-instr (guest .gox) d a b c 0 (gox-bits d a b c g)
+guest-instr n (EVENT v) g = pack-instr (guest .event) 0 0 0 0 v event-bits

@@ -1,4 +1,5 @@
 pub mod Bools
+pub mod Tables
 pub mod Refusals
 pub mod Loops
 pub mod Facts

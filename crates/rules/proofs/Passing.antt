@@ -14,7 +14,7 @@ use Rattle.rules.specs.declared.Layout.{Layout}
 use Rattle.rules.specs.declared.Answer.{Answer}
 use Rattle.rules.specs.declared.Instr.{Instr}
 use Rattle.rules.specs.declared.Instr.the-variants.{HALT, PLAIN, LOAD, STORE, GOIF, GOX, EVENT}
-use Rattle.rules.specs.Names.{mostInstructions, mostCommands, bundleLength, bundleShift, hidden, guestRegisters, topCondition, events, answer}
+use Rattle.rules.specs.Names.{mostInstructions, mostCommands, bundleLength, bundleShift, hidden, guestRegisters, topCondition, events, guest, command, plainStep, answer}
 use Rattle.rules.specs.Words.{kindOf, judgeAt, instrOf, routine, bundlesFor}
 use Rattle.rules.specs.Commands.{limitsOf, wordOf}
 use Rattle.rules.specs.Bundles.{addressOf, shapeOf, commandsOf, commandCount, placeAnswer, rewriteAnswer, rewriteOutput, valid, readOff, bundleAt, isBundle, shapedAt, passesAt, checkFrom, checkAnswer}
@@ -32,15 +32,15 @@ use Rattle.rules.proofs.Conditions.{Passed, passed-of, passed-valid, pa
 
 -- a command kind of a plain instruction is none of the others' first kinds
 record PlainKind (k : ℕ) : Type 0 where
-  in-bits : k + 1 < 2 ^ 8
-  no-halt : k + 1 ≡ 1 → ⊥
-  no-and : k + 1 ≡ 9 → ⊥
-  no-shl : k + 1 ≡ 11 → ⊥
-  no-goif : k + 1 ≡ 14 → ⊥
-  no-look : k + 1 ≡ 16 → ⊥
-  back : k + 1 - 1 ≡ k
+  in-bits : k + plainStep < 2 ^ 8
+  no-halt : k + plainStep ≡ command .halt → ⊥
+  no-andi : k + plainStep ≡ command .andi → ⊥
+  no-shl : k + plainStep ≡ command .shl → ⊥
+  no-goif : k + plainStep ≡ command .goif → ⊥
+  no-look : k + plainStep ≡ command .look → ⊥
+  back : k + plainStep - plainStep ≡ k
 
-plain-kind : (k : ℕ) → 1 ≤ k → k ≤ 7 → PlainKind k
+plain-kind : (k : ℕ) → guest .set ≤ k → k ≤ guest .sar → PlainKind k
 plain-kind k l h = omega arith
 
 -- the bundle at an address
@@ -53,34 +53,34 @@ module _ (lay : Layout) (n : ℕ) where
   bundle-back HALT g = refl
   bundle-back (PLAIN k d a b v) g =
       let l = plain-kind k (g .0) (g .1) in
-      let h : InBits (k + 1) d a b 0 = (l .in-bits, guest-bits d (g .2), guest-bits a (g .3), guest-bits b (g .4), lit< tt) in
-      rw (pack-kind (k + 1) d a b 0 v h, pack-d (k + 1) d a b 0 v h, pack-a (k + 1) d a b 0 v h, pack-b (k + 1) d a b 0 v h, pack-v (k + 1) d a b 0 v h)
-      (rw (ne-eqb (k + 1) 1 (l .no-halt), ne-eqb (k + 1) 9 (l .no-and), ne-eqb (k + 1) 14 (l .no-goif), ne-eqb (k + 1) 11 (l .no-shl), ne-eqb (k + 1) 16 (l .no-look), l .back))
+      let h : InBits (k + plainStep) d a b 0 = (l .in-bits, guest-bits d (g .2), guest-bits a (g .3), guest-bits b (g .4), lit< tt) in
+      rw (pack-kind (k + plainStep) d a b 0 v h, pack-d (k + plainStep) d a b 0 v h, pack-a (k + plainStep) d a b 0 v h, pack-b (k + plainStep) d a b 0 v h, pack-v (k + plainStep) d a b 0 v h)
+      (rw (ne-eqb _ (command .halt) (l .no-halt), ne-eqb _ (command .andi) (l .no-andi), ne-eqb _ (command .goif) (l .no-goif), ne-eqb _ (command .shl) (l .no-shl), ne-eqb _ (command .look) (l .no-look), l .back))
   bundle-back (LOAD d a) g =
-      let h : InBits 9 hidden a 0 0 = (lit< tt, lit< tt, guest-bits a (g .1), lit< tt, lit< tt) in
-      let j : InBits 12 d hidden 0 0 = (lit< tt, guest-bits d (g .0), lit< tt, lit< tt, lit< tt) in
-      rw (pack-kind 9 hidden a 0 0 (lay .high) h, pack-kind 12 d hidden 0 0 0 j, pack-d 12 d hidden 0 0 0 j, pack-a 9 hidden a 0 0 (lay .high) h)
+      let h : InBits (command .andi) hidden a 0 0 = (lit< tt, lit< tt, guest-bits a (g .1), lit< tt, lit< tt) in
+      let j : InBits (command .load) d hidden 0 0 = (lit< tt, guest-bits d (g .0), lit< tt, lit< tt, lit< tt) in
+      rw (pack-kind (command .andi) hidden a 0 0 (lay .high) h, pack-kind (command .load) d hidden 0 0 0 j, pack-d (command .load) d hidden 0 0 0 j, pack-a (command .andi) hidden a 0 0 (lay .high) h)
   bundle-back (STORE a b) g =
-      let h : InBits 9 hidden a 0 0 = (lit< tt, lit< tt, guest-bits a (g .0), lit< tt, lit< tt) in
-      let j : InBits 13 0 hidden b 0 = (lit< tt, lit< tt, lit< tt, guest-bits b (g .1), lit< tt) in
-      rw (pack-kind 9 hidden a 0 0 (lay .high) h, pack-kind 13 0 hidden b 0 0 j, pack-a 9 hidden a 0 0 (lay .high) h, pack-b 13 0 hidden b 0 0 j)
+      let h : InBits (command .andi) hidden a 0 0 = (lit< tt, lit< tt, guest-bits a (g .0), lit< tt, lit< tt) in
+      let j : InBits (command .store) 0 hidden b 0 = (lit< tt, lit< tt, lit< tt, guest-bits b (g .1), lit< tt) in
+      rw (pack-kind (command .andi) hidden a 0 0 (lay .high) h, pack-kind (command .store) 0 hidden b 0 0 j, pack-a (command .andi) hidden a 0 0 (lay .high) h, pack-b (command .store) 0 hidden b 0 0 j)
   bundle-back (GOIF a b c v) g =
-      let h : InBits 14 0 a b c = (lit< tt, lit< tt, guest-bits a (g .0), guest-bits b (g .1), condition-bits c (g .2)) in
-      rw (pack-kind 14 0 a b c (addressOf lay v) h, pack-a 14 0 a b c (addressOf lay v) h, pack-b 14 0 a b c (addressOf lay v) h, pack-c 14 0 a b c (addressOf lay v) h, pack-v 14 0 a b c (addressOf lay v) h, bundle-of (lay .base) v)
+      let h : InBits (command .goif) 0 a b c = (lit< tt, lit< tt, guest-bits a (g .0), guest-bits b (g .1), condition-bits c (g .2)) in
+      rw (pack-kind (command .goif) 0 a b c (addressOf lay v) h, pack-a (command .goif) 0 a b c (addressOf lay v) h, pack-b (command .goif) 0 a b c (addressOf lay v) h, pack-c (command .goif) 0 a b c (addressOf lay v) h, pack-v (command .goif) 0 a b c (addressOf lay v) h, bundle-of (lay .base) v)
   bundle-back (GOX d a b c) g =
-      let h : InBits 11 hidden d 0 0 = (lit< tt, lit< tt, guest-bits d (g .0), lit< tt, lit< tt) in
-      let j : InBits 15 hidden a b c = (lit< tt, lit< tt, guest-bits a (g .1), guest-bits b (g .2), condition-bits c (g .3)) in
-      rw (pack-kind 11 hidden d 0 0 bundleShift h, pack-a 11 hidden d 0 0 bundleShift h, pack-a 15 hidden a b c 0 j, pack-b 15 hidden a b c 0 j, pack-c 15 hidden a b c 0 j)
+      let h : InBits (command .shl) hidden d 0 0 = (lit< tt, lit< tt, guest-bits d (g .0), lit< tt, lit< tt) in
+      let j : InBits (command .goxr) hidden a b c = (lit< tt, lit< tt, guest-bits a (g .1), guest-bits b (g .2), condition-bits c (g .3)) in
+      rw (pack-kind (command .shl) hidden d 0 0 bundleShift h, pack-a (command .shl) hidden d 0 0 bundleShift h, pack-a (command .goxr) hidden a b c 0 j, pack-b (command .goxr) hidden a b c 0 j, pack-c (command .goxr) hidden a b c 0 j)
   bundle-back (EVENT e) g =
-      let h : InBits 16 hidden 0 0 0 = (lit< tt, lit< tt, lit< tt, lit< tt, lit< tt) in
-      rw (pack-kind 16 hidden 0 0 0 e h, pack-v 16 hidden 0 0 0 e h)
+      let h : InBits (command .look) hidden 0 0 0 = (lit< tt, lit< tt, lit< tt, lit< tt, lit< tt) in
+      rw (pack-kind (command .look) hidden 0 0 0 e h, pack-v (command .look) hidden 0 0 0 e h)
 
   pub is-valid : (i : Instr) → Valid n i → valid n i ≡ true
   unfolding valid
   is-valid HALT g = refl
   is-valid (PLAIN k d a b v) g =
-      rw (le-leb 1 k (g .0), le-leb k 7 (g .1), lt-ltb d guestRegisters (g .2), lt-ltb a guestRegisters (g .3), lt-ltb b guestRegisters (g .4))
-      (rw (le-leb d (limitsOf (k + 1) .d) (g .5), le-leb a (limitsOf (k + 1) .a) (g .6), le-leb b (limitsOf (k + 1) .b) (g .7), le-leb v (limitsOf (k + 1) .v) (g .8)))
+      rw (le-leb (guest .set) k (g .0), le-leb k (guest .sar) (g .1), lt-ltb d guestRegisters (g .2), lt-ltb a guestRegisters (g .3), lt-ltb b guestRegisters (g .4))
+      (rw (le-leb d (limitsOf (k + plainStep) .d) (g .5), le-leb a (limitsOf (k + plainStep) .a) (g .6), le-leb b (limitsOf (k + plainStep) .b) (g .7), le-leb v (limitsOf (k + plainStep) .v) (g .8)))
   is-valid (LOAD d a) g = rw (lt-ltb d guestRegisters (g .0), lt-ltb a guestRegisters (g .1))
   is-valid (STORE a b) g = rw (lt-ltb a guestRegisters (g .0), lt-ltb b guestRegisters (g .1))
   is-valid (GOIF a b c v) g = rw (lt-ltb a guestRegisters (g .0), lt-ltb b guestRegisters (g .1), le-leb c topCondition (g .2), lt-ltb v n (g .3))
@@ -102,7 +102,7 @@ module _ (lay : Layout) (n : ℕ) where
     bundle-shaped =
         rw (back, is-valid (is h) (fine h lh), eq-eqb _ _ first-word, eq-eqb _ _ (each h 1 lh (omega arith)), eq-eqb _ _ (each h 2 lh (omega arith)), eq-eqb _ _ (each h 3 lh (omega arith)))
 
-    halts : (ltb (h + 1) n || eqb (kindOf (wordOf (shapeOf lay n (is h) 0))) 1) ≡ true
+    halts : (ltb (h + 1) n || eqb (kindOf (wordOf (shapeOf lay n (is h) 0))) (command .halt)) ≡ true
     unfolding shapeOf wordOf
     halts =
         ⊎-elim (λ (e : ltb (h + 1) n ≡ true). rw e) (λ (e : ltb (h + 1) n ≡ false). let q : h ≡ n - 1 = omega (arith, ltb-false (h + 1) n e) in rw (e, ap is q ∙ last)) (cases (ltb (h + 1) n))

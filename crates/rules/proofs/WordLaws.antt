@@ -3,13 +3,14 @@ use mathlib.Core.Path.{_≡_, refl, sym}
 use mathlib.Core.Bool.{Bool, true, false, _||_}
 use Prim.Native.Nat.{ℕ, zero, suc, _+_, _*_, _/_, _≤_, _^_}
 use native.Mathlib.Omega.{arith}
-use lib.Dec.{ltb, eqb, lit≤}
+use lib.Dec.{ltb, leb}
 use borrow.Author.Tests.{ltb-false, le-ltb, ne-eqb}
 use Rattle.rules.specs.declared.Fields.{Fields}
 use Rattle.rules.specs.declared.Limits.{Limits}
 use Rattle.rules.specs.Names.{topGuest, topCondition, topWord, topKind}
 use Rattle.rules.specs.Words.{kindOf, dOf, aOf, bOf, cOf, zeroOf, vOf, fieldsOf, packOf, packFields, guestLimits, lacks, hasStray, hasHigh, judgeOf}
 use Rattle.rules.proofs.Bools.{no, cond-ind, neither}
+use Rattle.rules.proofs.Tables.{all, raised}
 use Rattle.rules.proofs.Packing.{InBits, pack-kind, pack-d, pack-a, pack-b, pack-c, pack-zero, pack-v}
 
 -- ---- the judgement of 0
@@ -61,28 +62,6 @@ unfolding judgeOf
 judged x f g =
     rw (le-ltb topKind (f .kind) (g .kind), g .clean, none-stray (guestLimits (f .kind)) f (g .kept), none-high (guestLimits (f .kind)) f (g .kept))
 
--- no limit of a guest kind is above these
-record Limited (l : Limits) : Type 0 where
-  d : l .d ≤ topGuest
-  a : l .a ≤ topGuest
-  b : l .b ≤ topGuest
-  c : l .c ≤ topCondition
-  v : l .v ≤ topWord
-
-limited : (k : ℕ) → Limited (guestLimits k)
-limited k =
-    cond-ind Limited (eqb k 0) (λ _. record { d = lit≤ tt; a = lit≤ tt; b = lit≤ tt; c = lit≤ tt; v = lit≤ tt })
-    (λ _. cond-ind Limited (eqb k 1) (λ _. record { d = lit≤ tt; a = lit≤ tt; b = lit≤ tt; c = lit≤ tt; v = lit≤ tt })
-    (λ _. cond-ind Limited (eqb k 2) (λ _. record { d = lit≤ tt; a = lit≤ tt; b = lit≤ tt; c = lit≤ tt; v = lit≤ tt })
-    (λ _. cond-ind Limited (ltb k 7) (λ _. record { d = lit≤ tt; a = lit≤ tt; b = lit≤ tt; c = lit≤ tt; v = lit≤ tt })
-    (λ _. cond-ind Limited (eqb k 7) (λ _. record { d = lit≤ tt; a = lit≤ tt; b = lit≤ tt; c = lit≤ tt; v = lit≤ tt })
-    (λ _. cond-ind Limited (eqb k 8) (λ _. record { d = lit≤ tt; a = lit≤ tt; b = lit≤ tt; c = lit≤ tt; v = lit≤ tt })
-    (λ _. cond-ind Limited (eqb k 9) (λ _. record { d = lit≤ tt; a = lit≤ tt; b = lit≤ tt; c = lit≤ tt; v = lit≤ tt })
-    (λ _. cond-ind Limited (eqb k 10) (λ _. record { d = lit≤ tt; a = lit≤ tt; b = lit≤ tt; c = lit≤ tt; v = lit≤ tt })
-    (λ _. cond-ind Limited (eqb k 11) (λ _. record { d = lit≤ tt; a = lit≤ tt; b = lit≤ tt; c = lit≤ tt; v = lit≤ tt })
-    (λ _. cond-ind Limited (eqb k 12) (λ _. record { d = lit≤ tt; a = lit≤ tt; b = lit≤ tt; c = lit≤ tt; v = lit≤ tt })
-    (λ _. record { d = lit≤ tt; a = lit≤ tt; b = lit≤ tt; c = lit≤ tt; v = lit≤ tt }))))))))))
-
 -- the bounds that a judgement of 0 gives
 pub record Bounds (f : Fields) : Type 0 where
   pub kind : f .kind ≤ topKind
@@ -92,20 +71,21 @@ pub record Bounds (f : Fields) : Type 0 where
   pub c : f .c ≤ topCondition
   pub word : f .v ≤ topWord
 
-within : (x m n : ℕ) → x ≤ m → m ≤ n → x ≤ n
-within x m n h l = omega arith
+-- a field's limit is no greater than a bound that the limits of all guest kinds keep
+bounded : (f : Limits → ℕ) (top : ℕ) → all (λ k. leb (f (guestLimits k)) top) (topKind + 1) ≡ true → (k x : ℕ) → k ≤ topKind → x ≤ f (guestLimits k) → x ≤ top
+bounded f top e k x l h = raised (λ k. f (guestLimits k)) (λ _. top) (topKind + 1) e k x (omega arith) h
 
 pub bounds : (x : Bool) (f : Fields) → judgeOf x f ≡ 0 → Bounds f
+unfolding all
 bounds x f e =
     let g = good x f e in
-    let l = limited (f .kind) in
     record {
       kind = g .kind;
-      d = within _ _ _ (g .kept .d) (l .d);
-      a = within _ _ _ (g .kept .a) (l .a);
-      b = within _ _ _ (g .kept .b) (l .b);
-      c = within _ _ _ (g .kept .c) (l .c);
-      word = within _ _ _ (g .kept .v) (l .v);
+      d = bounded (λ l. l .d) topGuest refl _ _ (g .kind) (g .kept .d);
+      a = bounded (λ l. l .a) topGuest refl _ _ (g .kind) (g .kept .a);
+      b = bounded (λ l. l .b) topGuest refl _ _ (g .kind) (g .kept .b);
+      c = bounded (λ l. l .c) topCondition refl _ _ (g .kind) (g .kept .c);
+      word = bounded (λ l. l .v) topWord refl _ _ (g .kind) (g .kept .v);
     }
 
 -- nothing foreign in the form itself

@@ -2,32 +2,26 @@
 use mathlib.Core.Path.{_≡_, refl, _∙_, subst}
 use mathlib.Core.Bool.{true}
 use mathlib.Core.List.{[], _∷_}
-use Prim.Native.Nat.{ℕ, zero, suc, _+_, _*_, _≤_, _<_, _^_}
+use Prim.Native.Nat.{ℕ, _+_, _*_, _≤_, _<_, _^_}
 use native.Mathlib.Omega.{arith}
 use native.Mathlib.Nat.{mod-eq-of-lt}
 use Rattle.rules.specs.declared.Layout.{Layout}
 use Rattle.rules.specs.declared.Instr.{Instr}
 use Rattle.rules.specs.declared.Instr.the-variants.{HALT, PLAIN, LOAD, STORE, GOIF, GOX, EVENT}
 use Rattle.rules.specs.declared.Bundle.{Bundle}
-use Rattle.rules.specs.Names.{bundleLength, hidden, topWord}
+use Rattle.rules.specs.Names.{bundleLength, bundleShift, hidden, topWord, guest, command, plainStep}
 use Rattle.rules.specs.Words.{packOf}
 use Rattle.rules.specs.Commands.{limitsOf, wordOf}
 use Rattle.rules.specs.Bundles.{addressOf, lastAddress, shapeOf, bundleOf, valid}
+use Rattle.rules.proofs.Tables.{all, raised}
 use Rattle.rules.proofs.Facts.{Valid}
 use Rattle.rules.proofs.Conditions.{valid-is}
 use Rattle.words.specs.Packing.{cutWord, Fits}
 
 -- the numbers of the plain commands have 32 bits
-plain-top : (k : ℕ) → k ≤ 7 → limitsOf (k + 1) .v ≤ topWord
-plain-top zero h = omega arith
-plain-top (suc zero) h = omega arith
-plain-top (suc (suc zero)) h = omega arith
-plain-top (suc (suc (suc zero))) h = omega arith
-plain-top (suc (suc (suc (suc zero)))) h = omega arith
-plain-top (suc (suc (suc (suc (suc zero))))) h = omega arith
-plain-top (suc (suc (suc (suc (suc (suc zero)))))) h = omega arith
-plain-top (suc (suc (suc (suc (suc (suc (suc zero))))))) h = omega arith
-plain-top (suc (suc (suc (suc (suc (suc (suc (suc k)))))))) h = absurd (omega arith)
+plain-top : (k v : ℕ) → k ≤ guest .sar → v ≤ limitsOf (k + plainStep) .v → v ≤ topWord
+unfolding all
+plain-top k v h l = raised (λ k. limitsOf (k + plainStep) .v) (λ _. topWord) (guest .load) refl k v (omega arith) l
 
 -- packing cuts nothing off fields that fit
 uncut-word : (k d a b c v : ℕ) → k < 2 ^ 8 → d < 2 ^ 4 → a < 2 ^ 4 → b < 2 ^ 4 → c < 2 ^ 4 → v < 2 ^ 32 → cutWord k d a b c v ≡ packOf k d a b c v
@@ -42,11 +36,11 @@ module _ (l : Layout) (n : ℕ) (i : Instr) (f : Fits l n i) where
   facts : (j : Instr) → i ≡ j → Valid n j
   facts j e = valid-is n j (subst (λ (x : Instr). valid n x ≡ true) e (f .valid))
 
-  pub lay-halt : i ≡ HALT → (w : ℕ) → w ≡ cutWord 1 0 0 0 0 0 → record { words = w ∷ 0 ∷ 0 ∷ 0 ∷ [] } ≡ bundleOf l n i
+  pub lay-halt : i ≡ HALT → (w : ℕ) → w ≡ cutWord (command .halt) 0 0 0 0 0 → record { words = w ∷ 0 ∷ 0 ∷ 0 ∷ [] } ≡ bundleOf l n i
   unfolding shapeOf wordOf
   lay-halt e w ew = rw (e, ew)
 
-  pub lay-plain : (k d a b v : ℕ) → i ≡ PLAIN k d a b v → (w : ℕ) → w ≡ cutWord (k + 1) d a b 0 v → record { words = w ∷ 0 ∷ 0 ∷ 0 ∷ [] } ≡ bundleOf l n i
+  pub lay-plain : (k d a b v : ℕ) → i ≡ PLAIN k d a b v → (w : ℕ) → w ≡ cutWord (k + plainStep) d a b 0 v → record { words = w ∷ 0 ∷ 0 ∷ 0 ∷ [] } ≡ bundleOf l n i
   unfolding shapeOf wordOf
   lay-plain k d a b v e w ew =
       let g = facts (PLAIN k d a b v) e in
@@ -54,64 +48,63 @@ module _ (l : Layout) (n : ℕ) (i : Instr) (f : Fits l n i) where
       let h2 = g .2 in
       let h3 = g .3 in
       let h4 = g .4 in
-      let h8 = g .8 in
-      let t = plain-top k h1 in
-      rw e (four _ _ _ _ _ _ _ _ (ew ∙ uncut-word (k + 1) d a b 0 v (omega arith) (omega arith) (omega arith) (omega arith) (omega arith) (omega arith)) refl refl refl)
+      let t = plain-top k v h1 (g .8) in
+      rw e (four _ _ _ _ _ _ _ _ (ew ∙ uncut-word (k + plainStep) d a b 0 v (omega arith) (omega arith) (omega arith) (omega arith) (omega arith) (omega arith)) refl refl refl)
 
   module _ (hh : l .high < 2 ^ 32) (hl : l .low < 2 ^ 32) where
-    pub lay-load : (d a : ℕ) → i ≡ LOAD d a → (w x y : ℕ) → w ≡ cutWord 9 hidden a 0 0 (l .high) → x ≡ cutWord 10 hidden hidden 0 0 (l .low) → y ≡ cutWord 12 d hidden 0 0 0
+    pub lay-load : (d a : ℕ) → i ≡ LOAD d a → (w x y : ℕ) → w ≡ cutWord (command .andi) hidden a 0 0 (l .high) → x ≡ cutWord (command .ori) hidden hidden 0 0 (l .low) → y ≡ cutWord (command .load) d hidden 0 0 0
         → record { words = w ∷ x ∷ y ∷ 0 ∷ [] } ≡ bundleOf l n i
     unfolding shapeOf wordOf
     lay-load d a e w x y ew ex ey =
         let g = facts (LOAD d a) e in
         rw e
-        (four _ _ _ _ _ _ _ _ (ew ∙ uncut-word 9 hidden a 0 0 (l .high) (omega arith) (omega arith) (omega (arith, g .1)) (omega arith) (omega arith) hh)
-        (ex ∙ uncut-word 10 hidden hidden 0 0 (l .low) (omega arith) (omega arith) (omega arith) (omega arith) (omega arith) hl)
-        (ey ∙ uncut-word 12 d hidden 0 0 0 (omega arith) (omega (arith, g .0)) (omega arith) (omega arith) (omega arith) (omega arith))
+        (four _ _ _ _ _ _ _ _ (ew ∙ uncut-word (command .andi) hidden a 0 0 (l .high) (omega arith) (omega arith) (omega (arith, g .1)) (omega arith) (omega arith) hh)
+        (ex ∙ uncut-word (command .ori) hidden hidden 0 0 (l .low) (omega arith) (omega arith) (omega arith) (omega arith) (omega arith) hl)
+        (ey ∙ uncut-word (command .load) d hidden 0 0 0 (omega arith) (omega (arith, g .0)) (omega arith) (omega arith) (omega arith) (omega arith))
         refl)
 
-    pub lay-store : (a b : ℕ) → i ≡ STORE a b → (w x y : ℕ) → w ≡ cutWord 9 hidden a 0 0 (l .high) → x ≡ cutWord 10 hidden hidden 0 0 (l .low) → y ≡ cutWord 13 0 hidden b 0 0
+    pub lay-store : (a b : ℕ) → i ≡ STORE a b → (w x y : ℕ) → w ≡ cutWord (command .andi) hidden a 0 0 (l .high) → x ≡ cutWord (command .ori) hidden hidden 0 0 (l .low) → y ≡ cutWord (command .store) 0 hidden b 0 0
         → record { words = w ∷ x ∷ y ∷ 0 ∷ [] } ≡ bundleOf l n i
     unfolding shapeOf wordOf
     lay-store a b e w x y ew ex ey =
         let g = facts (STORE a b) e in
         rw e
-        (four _ _ _ _ _ _ _ _ (ew ∙ uncut-word 9 hidden a 0 0 (l .high) (omega arith) (omega arith) (omega (arith, g .0)) (omega arith) (omega arith) hh)
-        (ex ∙ uncut-word 10 hidden hidden 0 0 (l .low) (omega arith) (omega arith) (omega arith) (omega arith) (omega arith) hl)
-        (ey ∙ uncut-word 13 0 hidden b 0 0 (omega arith) (omega arith) (omega arith) (omega (arith, g .1)) (omega arith) (omega arith))
+        (four _ _ _ _ _ _ _ _ (ew ∙ uncut-word (command .andi) hidden a 0 0 (l .high) (omega arith) (omega arith) (omega (arith, g .0)) (omega arith) (omega arith) hh)
+        (ex ∙ uncut-word (command .ori) hidden hidden 0 0 (l .low) (omega arith) (omega arith) (omega arith) (omega arith) (omega arith) hl)
+        (ey ∙ uncut-word (command .store) 0 hidden b 0 0 (omega arith) (omega arith) (omega arith) (omega (arith, g .1)) (omega arith) (omega arith))
         refl)
 
-  pub lay-goif : (a b c v : ℕ) → i ≡ GOIF a b c v → (w : ℕ) → w ≡ cutWord 14 0 a b c (addressOf l v) → record { words = w ∷ 0 ∷ 0 ∷ 0 ∷ [] } ≡ bundleOf l n i
+  pub lay-goif : (a b c v : ℕ) → i ≡ GOIF a b c v → (w : ℕ) → w ≡ cutWord (command .goif) 0 a b c (addressOf l v) → record { words = w ∷ 0 ∷ 0 ∷ 0 ∷ [] } ≡ bundleOf l n i
   unfolding shapeOf wordOf
   lay-goif a b c v e w ew =
       let g = facts (GOIF a b c v) e in
       let m = f .top in
       rw e
-      (four _ _ _ _ _ _ _ _ (ew ∙ uncut-word 14 0 a b c (addressOf l v) (omega arith) (omega arith) (omega (arith, g .0)) (omega (arith, g .1)) (omega (arith, g .2)) (omega (arith, g .3, f .top))) refl refl refl)
+      (four _ _ _ _ _ _ _ _ (ew ∙ uncut-word (command .goif) 0 a b c (addressOf l v) (omega arith) (omega arith) (omega (arith, g .0)) (omega (arith, g .1)) (omega (arith, g .2)) (omega (arith, g .3, f .top))) refl refl refl)
 
-  pub lay-gox : (d a b c : ℕ) → i ≡ GOX d a b c → (w x y z : ℕ) → w ≡ cutWord 11 hidden d 0 0 2 → x ≡ cutWord 9 hidden hidden 0 0 (lastAddress l n)
-      → y ≡ cutWord 10 hidden hidden 0 0 (l .base) → z ≡ cutWord 15 hidden a b c 0 → record { words = w ∷ x ∷ y ∷ z ∷ [] } ≡ bundleOf l n i
+  pub lay-gox : (d a b c : ℕ) → i ≡ GOX d a b c → (w x y z : ℕ) → w ≡ cutWord (command .shl) hidden d 0 0 bundleShift → x ≡ cutWord (command .andi) hidden hidden 0 0 (lastAddress l n)
+      → y ≡ cutWord (command .ori) hidden hidden 0 0 (l .base) → z ≡ cutWord (command .goxr) hidden a b c 0 → record { words = w ∷ x ∷ y ∷ z ∷ [] } ≡ bundleOf l n i
   unfolding shapeOf wordOf
   lay-gox d a b c e w x y z ew ex ey ez =
       let g = facts (GOX d a b c) e in
       let m = f .top in
       rw e
-      (four _ _ _ _ _ _ _ _ (ew ∙ uncut-word 11 hidden d 0 0 2 (omega arith) (omega arith) (omega (arith, g .0)) (omega arith) (omega arith) (omega arith))
-      (ex ∙ uncut-word 9 hidden hidden 0 0 (lastAddress l n) (omega arith) (omega arith) (omega arith) (omega arith) (omega arith) (omega arith))
-      (ey ∙ uncut-word 10 hidden hidden 0 0 (l .base) (omega arith) (omega arith) (omega arith) (omega arith) (omega arith) (omega arith))
-      (ez ∙ uncut-word 15 hidden a b c 0 (omega arith) (omega arith) (omega (arith, g .1)) (omega (arith, g .2)) (omega (arith, g .3)) (omega arith)))
+      (four _ _ _ _ _ _ _ _ (ew ∙ uncut-word (command .shl) hidden d 0 0 bundleShift (omega arith) (omega arith) (omega (arith, g .0)) (omega arith) (omega arith) (omega arith))
+      (ex ∙ uncut-word (command .andi) hidden hidden 0 0 (lastAddress l n) (omega arith) (omega arith) (omega arith) (omega arith) (omega arith) (omega arith))
+      (ey ∙ uncut-word (command .ori) hidden hidden 0 0 (l .base) (omega arith) (omega arith) (omega arith) (omega arith) (omega arith) (omega arith))
+      (ez ∙ uncut-word (command .goxr) hidden a b c 0 (omega arith) (omega arith) (omega (arith, g .1)) (omega (arith, g .2)) (omega (arith, g .3)) (omega arith)))
 
-  pub lay-event : (v : ℕ) → i ≡ EVENT v → (w x y z : ℕ) → w ≡ cutWord 16 hidden 0 0 0 v → x ≡ cutWord 17 hidden 0 0 0 0 → y ≡ cutWord 19 0 0 0 0 v
-      → z ≡ cutWord 18 hidden 0 0 0 0 → record { words = w ∷ x ∷ y ∷ z ∷ [] } ≡ bundleOf l n i
+  pub lay-event : (v : ℕ) → i ≡ EVENT v → (w x y z : ℕ) → w ≡ cutWord (command .look) hidden 0 0 0 v → x ≡ cutWord (command .stopif) hidden 0 0 0 0 → y ≡ cutWord (command .event) 0 0 0 0 v
+      → z ≡ cutWord (command .keep) hidden 0 0 0 0 → record { words = w ∷ x ∷ y ∷ z ∷ [] } ≡ bundleOf l n i
   unfolding shapeOf wordOf
   lay-event v e w x y z ew ex ey ez =
       let g = facts (EVENT v) e in
       rw e
-      (four _ _ _ _ _ _ _ _ (ew ∙ uncut-word 16 hidden 0 0 0 v (omega arith) (omega arith) (omega arith) (omega arith) (omega arith) (omega arith)) ex
-      (ey ∙ uncut-word 19 0 0 0 0 v (omega arith) (omega arith) (omega arith) (omega arith) (omega arith) (omega arith)) ez)
+      (four _ _ _ _ _ _ _ _ (ew ∙ uncut-word (command .look) hidden 0 0 0 v (omega arith) (omega arith) (omega arith) (omega arith) (omega arith) (omega arith)) ex
+      (ey ∙ uncut-word (command .event) 0 0 0 0 v (omega arith) (omega arith) (omega arith) (omega arith) (omega arith) (omega arith)) ez)
 
   -- the sums on the way fit
-  pub kind-fits : (k d a b v : ℕ) → i ≡ PLAIN k d a b v → k + 1 < 2 ^ 64
+  pub kind-fits : (k d a b v : ℕ) → i ≡ PLAIN k d a b v → k + plainStep < 2 ^ 64
   kind-fits k d a b v e = let g = facts (PLAIN k d a b v) e in omega (arith, g .1)
 
   pub jump-fits : (a b c v : ℕ) → i ≡ GOIF a b c v → bundleLength * v < 2 ^ 64

@@ -5,11 +5,13 @@ use mathlib.Core.Bool.{Bool, true, false, _&&_}
 use native.Mathlib.Omega.{arith}
 use borrow.Author.Tests.{eqb-true, eqb-false, eq-eqb, ne-eqb}
 use lib.Dec.{eqb, ltb}
+use native.Mathlib.Nat.{add-comm}
+use lib.Pow.{shr-shr}
 use lib.Bits.{bitAnd, and-mask, and-mod, and-shr, and-zero-r}
 use Rattle.rules.specs.Names.{guestRegisters}
 use Rattle.rules.specs.Words.{kindOf, dOf, aOf, bOf, cOf, zeroOf, vOf}
 use Rattle.words_fields.specs.Guests.{guestsOf}
-use Rattle.words_fields.proofs.Tables.{all, each}
+use Rattle.rules.proofs.Tables.{all, each}
 use Rattle.words_fields.proofs.Masks.{field, all-zero}
 
 -- the AND of the four bits of a field
@@ -40,44 +42,41 @@ module _ (w : ℕ) where
   abbrev fours : ℕ
   fours = bitAnd pairs (pairs / 2 ^ 2)
 
-  corner : (k q : ℕ) → q < 16 → w / 2 ^ k % 2 ^ 1 ≡ q % 2 ^ 1 → w / 2 ^ 1 / 2 ^ k % 2 ^ 1 ≡ q / 2 % 2 ^ 1 → w / 2 ^ 2 / 2 ^ k % 2 ^ 1 ≡ q / 4 % 2 ^ 1
+  corner : (k q : ℕ) → w / 2 ^ k % 2 ^ 1 ≡ q % 2 ^ 1 → w / 2 ^ 1 / 2 ^ k % 2 ^ 1 ≡ q / 2 % 2 ^ 1 → w / 2 ^ 2 / 2 ^ k % 2 ^ 1 ≡ q / 4 % 2 ^ 1
       → w / 2 ^ 1 / 2 ^ 2 / 2 ^ k % 2 ^ 1 ≡ q / 8 % 2 ^ 1 → fours / 2 ^ k % 2 ^ 1 ≡ four q
   unfolding four
-  corner k q h e0 e1 e2 e3 =
+  corner k q e0 e1 e2 e3 =
       field 1 k pairs (pairs / 2 ^ 2)
       ∙ rw (field 1 k w (w / 2 ^ 1), and-shr w (w / 2 ^ 1) 2, field 1 k (w / 2 ^ 2) (w / 2 ^ 1 / 2 ^ 2), e0, e1, e2, e3)
 
+  -- the lowest bit of each register field
+  abbrev lowest : ℕ
+  lowest = 2 ^ 8 + 2 ^ 12 + 2 ^ 16
+
   abbrev masked : ℕ
-  masked = bitAnd fours 69888
+  masked = bitAnd fours lowest
 
-  d-four : dOf masked ≡ four (dOf w)
-  d-four =
-      field 4 8 fours 69888 ∙ and-mask (dOf fours) 1 ∙ low fours
-      ∙ corner 8 (dOf w) (omega arith) (omega arith) (omega arith) (omega arith) (omega arith)
+  -- a register field under the mask is the AND of the field's bits
+  at-four : (k : ℕ) → lowest / 2 ^ k % 2 ^ 4 ≡ 1 → masked / 2 ^ k % 2 ^ 4 ≡ four (w / 2 ^ k % 2 ^ 4)
+  at-four k e =
+      field 4 k fours lowest
+      ∙ rw e (and-mask (fours / 2 ^ k % 2 ^ 4) 1 ∙ first (fours / 2 ^ k) ∙ corner k (w / 2 ^ k % 2 ^ 4) (sym (first (w / 2 ^ k))) (moved 1 ∙ second (w / 2 ^ k)) (moved 2 ∙ third (w / 2 ^ k)) (rw (shr-shr w 1 2) (moved 3 ∙ fourth (w / 2 ^ k))))
     where
-      low : (x : ℕ) → x / 2 ^ 8 % 2 ^ 4 % 2 ^ 1 ≡ x / 2 ^ 8 % 2 ^ 1
-      low x = omega arith
-
-  a-four : aOf masked ≡ four (aOf w)
-  a-four =
-      field 4 12 fours 69888 ∙ and-mask (aOf fours) 1 ∙ low fours
-      ∙ corner 12 (aOf w) (omega arith) (omega arith) (omega arith) (omega arith) (omega arith)
-    where
-      low : (x : ℕ) → x / 2 ^ 12 % 2 ^ 4 % 2 ^ 1 ≡ x / 2 ^ 12 % 2 ^ 1
-      low x = omega arith
-
-  b-four : bOf masked ≡ four (bOf w)
-  b-four =
-      field 4 16 fours 69888 ∙ and-mask (bOf fours) 1 ∙ low fours
-      ∙ corner 16 (bOf w) (omega arith) (omega arith) (omega arith) (omega arith) (omega arith)
-    where
-      low : (x : ℕ) → x / 2 ^ 16 % 2 ^ 4 % 2 ^ 1 ≡ x / 2 ^ 16 % 2 ^ 1
-      low x = omega arith
+      first : (x : ℕ) → x % 2 ^ 4 % 2 ^ 1 ≡ x % 2 ^ 1
+      first x = omega arith
+      second : (x : ℕ) → x / 2 ^ 1 % 2 ^ 1 ≡ x % 2 ^ 4 / 2 % 2 ^ 1
+      second x = omega arith
+      third : (x : ℕ) → x / 2 ^ 2 % 2 ^ 1 ≡ x % 2 ^ 4 / 4 % 2 ^ 1
+      third x = omega arith
+      fourth : (x : ℕ) → x / 2 ^ 3 % 2 ^ 1 ≡ x % 2 ^ 4 / 8 % 2 ^ 1
+      fourth x = omega arith
+      moved : (j : ℕ) → w / 2 ^ j / 2 ^ k % 2 ^ 1 ≡ w / 2 ^ k / 2 ^ j % 2 ^ 1
+      moved j = ap (λ (x : ℕ). x % 2 ^ 1) (shr-shr w j k ∙ ap (λ (i : ℕ). w / 2 ^ i) (add-comm j k) ∙ sym (shr-shr w k j))
 
   none-hidden : four (dOf w) ≡ 0 → four (aOf w) ≡ 0 → four (bOf w) ≡ 0 → masked ≡ 0
   none-hidden hd ha hb =
-      all-zero masked (and-mod fours 69888 8 ∙ and-zero-r (kindOf fours)) (d-four ∙ hd) (a-four ∙ ha) (b-four ∙ hb)
-      (field 4 20 fours 69888 ∙ and-zero-r (cOf fours)) (field 8 24 fours 69888 ∙ and-zero-r (zeroOf fours)) (and-shr fours 69888 32 ∙ and-zero-r (vOf fours))
+      all-zero masked (and-mod fours lowest 8 ∙ and-zero-r (kindOf fours)) (at-four 8 refl ∙ hd) (at-four 12 refl ∙ ha) (at-four 16 refl ∙ hb)
+      (field 4 20 fours lowest ∙ and-zero-r (cOf fours)) (field 8 24 fours lowest ∙ and-zero-r (zeroOf fours)) (and-shr fours lowest 32 ∙ and-zero-r (vOf fours))
 
   pub guests-are : eqb masked 0 ≡ guestsOf w
   guests-are =
@@ -87,6 +86,6 @@ module _ (w : ℕ) where
       go : (d a b : Bool) → eqb (four (dOf w)) 0 ≡ d → eqb (four (aOf w)) 0 ≡ a → eqb (four (bOf w)) 0 ≡ b
           → eqb masked 0 ≡ (eqb (four (dOf w)) 0 && eqb (four (aOf w)) 0 && eqb (four (bOf w)) 0)
       go true true true ed ea eb = rw (ed, ea, eb) (eq-eqb masked 0 (none-hidden (eqb-true _ _ ed) (eqb-true _ _ ea) (eqb-true _ _ eb)))
-      go false a b ed ea eb = rw ed (ne-eqb masked 0 (λ z. eqb-false _ _ ed (sym d-four ∙ ap dOf z)))
-      go true false b ed ea eb = rw (ed, ea) (ne-eqb masked 0 (λ z. eqb-false _ _ ea (sym a-four ∙ ap aOf z)))
-      go true true false ed ea eb = rw (ed, ea, eb) (ne-eqb masked 0 (λ z. eqb-false _ _ eb (sym b-four ∙ ap bOf z)))
+      go false a b ed ea eb = rw ed (ne-eqb masked 0 (λ z. eqb-false _ _ ed (sym (at-four 8 refl) ∙ ap dOf z)))
+      go true false b ed ea eb = rw (ed, ea) (ne-eqb masked 0 (λ z. eqb-false _ _ ea (sym (at-four 12 refl) ∙ ap aOf z)))
+      go true true false ed ea eb = rw (ed, ea, eb) (ne-eqb masked 0 (λ z. eqb-false _ _ eb (sym (at-four 16 refl) ∙ ap bOf z)))

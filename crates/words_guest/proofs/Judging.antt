@@ -7,12 +7,12 @@ use lib.Dec.{ltb, eqb}
 use borrow.Author.Tests.{eq-eqb, ne-eqb, eqb-true, ltb-true, not-true}
 use Rattle.rules.specs.declared.Fields.{Fields}
 use Rattle.rules.specs.declared.Refusal.the-variants.{Taken, BadLanding}
-use Rattle.rules.specs.Names.{guestRegisters, topKind, numberOf}
+use Rattle.rules.specs.Names.{guestRegisters, guest, topKind, numberOf}
 use Rattle.rules.specs.Words.{guestLimits, judgeOf, fieldsOf, kindOf, dOf, aOf, bOf, vOf, zeroOf, judgeWord, judgeAt}
+use Rattle.rules.proofs.Bools.{both}
 use Rattle.rules.proofs.WordLaws.{judged}
 use Rattle.words_fields.specs.Strays.{strayOf}
 use Rattle.words_fields.specs.Guests.{guestsOf}
-use Rattle.words_fields.proofs.Tables.{and-left, and-right}
 use Rattle.words_guest.proofs.Masks.{guest-within}
 
 -- what is said of the fields, said of the word
@@ -26,13 +26,10 @@ pub clean-good : (w : ℕ) → w < 2 ^ 64 → kindOf w ≤ topKind → (s : ℕ)
 clean-good w fits h s es g eg t =
     let d = ltb (dOf w) guestRegisters in
     let a = ltb (aOf w) guestRegisters in
-    let b = ltb (bOf w) guestRegisters in
-    let m = eqb (bitAnd w s) 0 in
-    let tg : guestsOf w ≡ true = sym eg ∙ and-right m g t in
-    let ta = and-left (d && a) b tg in
-    let i =
-    guest-within w fits h (rw es at (eqb-true (bitAnd w s) 0 (and-left m g t))) (ltb-true _ _ (and-left d a ta)) (ltb-true _ _ (and-right d a ta))
-    (ltb-true _ _ (and-right (d && a) b tg)) in
+    let tm = both (eqb (bitAnd w s) 0) g t in
+    let tb = both (d && a) (ltb (bOf w) guestRegisters) (sym eg ∙ tm .1) in
+    let ta = both d a (tb .0) in
+    let i = guest-within w fits h (rw es at (eqb-true (bitAnd w s) 0 (tm .0))) (ltb-true _ _ (ta .0)) (ltb-true _ _ (ta .1)) (ltb-true _ _ (tb .1)) in
     judged (ltb 0 (zeroOf w)) (fieldsOf w)
     (record { kind = h; clean = rw (i .zero); kept = record { d = i .d; a = i .a; b = i .b; c = i .c; v = i .v } })
 
@@ -47,16 +44,16 @@ module _ (n w x : ℕ) (e : x ≡ judgeWord w) where
   at-bad h = rw (← e, ne-eqb x 0 h)
 
   module _ (z : x ≡ 0) where
-    pub at-landing : (eqb (kindOf w) 10 && ltb n (vOf w)) ≡ true → numberOf BadLanding ≡ judgeAt n w
+    pub at-landing : (eqb (kindOf w) (guest .goif) && ltb n (vOf w)) ≡ true → numberOf BadLanding ≡ judgeAt n w
     unfolding judgeAt
     at-landing h = rw (← e, eq-eqb x 0 z, h)
 
-    pub at-good : (eqb (kindOf w) 10 && ltb n (vOf w)) ≡ false → numberOf Taken ≡ judgeAt n w
+    pub at-good : (eqb (kindOf w) (guest .goif) && ltb n (vOf w)) ≡ false → numberOf Taken ≡ judgeAt n w
     unfolding judgeAt
     at-good h = rw (← e, eq-eqb x 0 z, h)
 
 -- a clean word, and no landing past the words
-pub clean-at : (n w : ℕ) (r : Bool) → (r ≡ true → judgeWord w ≡ 0) → (r && not (eqb (kindOf w) 10 && ltb n (vOf w))) ≡ true → numberOf Taken ≡ judgeAt n w
+pub clean-at : (n w : ℕ) (r : Bool) → (r ≡ true → judgeWord w ≡ 0) → (r && not (eqb (kindOf w) (guest .goif) && ltb n (vOf w))) ≡ true → numberOf Taken ≡ judgeAt n w
 clean-at n w r f t =
-    let b = not (eqb (kindOf w) 10 && ltb n (vOf w)) in
-    at-good n w 0 (sym (f (and-left r b t))) refl (not-true (eqb (kindOf w) 10 && ltb n (vOf w)) (and-right r b t))
+    let u = both r (not (eqb (kindOf w) (guest .goif) && ltb n (vOf w))) t in
+    at-good n w 0 (sym (f (u .0))) refl (not-true (eqb (kindOf w) (guest .goif) && ltb n (vOf w)) (u .1))

@@ -1,6 +1,7 @@
 use Prim.Native.Nat.{zero-le, _≤_}
 use native.Mathlib.Omega.{arith}
-use Rattle.words_fields.proofs.Tables.{past}
+use Rattle.rules.specs.Names.{commandKinds}
+use Rattle.rules.proofs.Tables.{past}
 use Rattle.words_command.proofs.stray.Statement.{statement}
 use Rattle.words_command.proofs.stray.Tie as tie
 
@@ -28,4 +29,4 @@ stray-spec =
     (λ c. rw (c .match .keys18))
     (λ c. rw (c .match .keys19))
     (λ c. rw (c .match .keys20))
-    (λ c. let h : 20 ≤ c .before .args .k = past Unit (c .before .args .k) 0 20 zero-le (c .match .rest) in absurd (omega (arith, c .before .pre))))
+    (λ c. let h : commandKinds ≤ c .before .args .k = past Unit (c .before .args .k) 0 commandKinds zero-le (c .match .rest) in absurd (omega (arith, c .before .pre))))

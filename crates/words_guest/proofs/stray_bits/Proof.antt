@@ -1,6 +1,7 @@
-use Prim.Native.Nat.{zero-le, _≤_}
+use Prim.Native.Nat.{zero-le, _+_, _≤_}
 use native.Mathlib.Omega.{arith}
-use Rattle.words_fields.proofs.Tables.{past}
+use Rattle.rules.specs.Names.{topKind}
+use Rattle.rules.proofs.Tables.{past}
 use Rattle.words_guest.proofs.stray_bits.Statement.{statement}
 use Rattle.words_guest.proofs.stray_bits.Tie as tie
 
@@ -21,4 +22,4 @@ stray-bits-spec =
     (λ c. rw (c .match .keys11))
     (λ c. rw (c .match .keys12))
     (λ c. rw (c .match .keys13))
-    (λ c. let h : 13 ≤ c .before .args .k = past Unit (c .before .args .k) 0 13 zero-le (c .match .rest) in absurd (omega (arith, c .before .pre))))
+    (λ c. let h : topKind + 1 ≤ c .before .args .k = past Unit (c .before .args .k) 0 (topKind + 1) zero-le (c .match .rest) in absurd (omega (arith, c .before .pre))))

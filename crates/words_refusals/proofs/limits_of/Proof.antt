@@ -1,8 +1,9 @@
 use mathlib.Core.Path.{_≡_, _∙_}
-use Prim.Native.Nat.{zero-le, _≤_}
+use Prim.Native.Nat.{zero-le, _+_, _≤_}
 use borrow.Author.Needs.{needs}
 use native.Mathlib.Omega.{arith}
-use Rattle.words_fields.proofs.Tables.{past}
+use Rattle.rules.specs.Names.{topKind}
+use Rattle.rules.proofs.Tables.{past}
 use Rattle.words_refusals.proofs.limits_of.Statement.{statement}
 use Rattle.words_refusals.proofs.limits_of.Tie as tie
 
@@ -37,4 +38,4 @@ limits-of-spec =
     (λ c. c .limits11 .ensures ∙ rw (c .before .match .keys11))
     (λ c. c .limits12 .ensures ∙ rw (c .before .match .keys12))
     (λ c. c .limits13 .ensures ∙ rw (c .before .match .keys13))
-    (λ c. let h : 13 ≤ c .before .before .args .k = past Unit (c .before .before .args .k) 0 13 zero-le (c .before .match .rest) in absurd (omega (arith, c .before .before .pre))))
+    (λ c. let h : topKind + 1 ≤ c .before .before .args .k = past Unit (c .before .before .args .k) 0 (topKind + 1) zero-le (c .before .match .rest) in absurd (omega (arith, c .before .before .pre))))
