@@ -53,52 +53,55 @@ module _ (l : Layout) (n w x y z : ℕ) where
             rw (e, ne-eqb w (command .halt) (λ (q : w ≡ command .halt). eqb-false _ _ e (ap (λ (v : ℕ). kindOf v) q)))
             (sym (and-false (isBundle l n (readOff l w y z) w x y z)))
 
-    -- ---- those before it
+    -- ---- those before it, by the kind of the first word
 
-    module _ (em : m ≡ true) (r : Bool) where
-      passing : (i : Instr) → i ≡ readOff l w y z → r ≡ isBundle l n i w x y z → r ≡ passesOf l n w x y z m
-      passing i ei er = rw (em, and-true (isBundle l n (readOff l w y z) w x y z), ← ei) er
+    module _ (k : ℕ) (ek : k ≡ kindOf w) where
+      module _ (em : m ≡ true) (r : Bool) where
+        passing : (i : Instr) → i ≡ readOff l w y z → r ≡ isBundle l n i w x y z → r ≡ passesOf l n w x y z m
+        passing i ei er = rw (em, and-true (isBundle l n (readOff l w y z) w x y z), ← ei) er
 
-      pub pass-halt : kindOf w ≡ command .halt → r ≡ alone w x y z (command .halt) → r ≡ passesOf l n w x y z m
-      pass-halt k er = passing HALT (off-halt k) (er ∙ halt-is)
+        pub pass-halt : k ≡ command .halt → r ≡ alone w x y z (command .halt) → r ≡ passesOf l n w x y z m
+        pass-halt e er = passing HALT (off-halt (sym ek ∙ e)) (er ∙ halt-is)
 
-      pub pass-plain : (leb (command .set) (kindOf w) && leb (kindOf w) (command .sar)) ≡ true → r ≡ plainWords w x y z → r ≡ passesOf l n w x y z m
-      pass-plain t er =
-          let h = both (leb (command .set) (kindOf w)) (leb (kindOf w) (command .sar)) t in
-          let lo : command .set ≤ kindOf w = leb-true _ _ (h .0) in
-          let hi : kindOf w ≤ command .sar = leb-true _ _ (h .1) in
-          passing (PLAIN (kindOf w - plainStep) (dOf w) (aOf w) (bOf w) (vOf w))
-          (off-plain (λ (e : kindOf w ≡ command .halt). omega arith) (λ (e : kindOf w ≡ command .andi). omega arith) (λ (e : kindOf w ≡ command .goif). omega arith) (λ (e : kindOf w ≡ command .shl). omega arith) (λ (e : kindOf w ≡ command .look). omega arith))
-          (er ∙ plain-is n w lo hi l x y z)
+        pub pass-plain : (leb (command .set) k && leb k (command .sar)) ≡ true → r ≡ plainWords w x y z → r ≡ passesOf l n w x y z m
+        pass-plain t er =
+            let h = both (leb (command .set) k) (leb k (command .sar)) t in
+            let lo : command .set ≤ k = leb-true _ _ (h .0) in
+            let hi : k ≤ command .sar = leb-true _ _ (h .1) in
+            passing (PLAIN (kindOf w - plainStep) (dOf w) (aOf w) (bOf w) (vOf w))
+            (off-plain (λ (e : kindOf w ≡ command .halt). omega arith) (λ (e : kindOf w ≡ command .andi). omega arith) (λ (e : kindOf w ≡ command .goif). omega arith) (λ (e : kindOf w ≡ command .shl). omega arith) (λ (e : kindOf w ≡ command .look). omega arith))
+            (er ∙ plain-is n w (omega arith) (omega arith) l x y z)
 
-      pub pass-access : kindOf w ≡ command .andi → r ≡ isBundle l 0 (accessOf w y) w x y z → r ≡ passesOf l n w x y z m
-      unfolding readOff
-      pass-access k er = passing (accessOf w y) (rw k) (er ∙ any-count l n w x y z (dOf y) (aOf w) (bOf y) (eqb (kindOf y) (command .load)))
+        pub pass-access : k ≡ command .andi → r ≡ isBundle l 0 (accessOf w y) w x y z → r ≡ passesOf l n w x y z m
+        unfolding readOff
+        pass-access e er =
+            passing (accessOf w y) (rw (← ek, e)) (er ∙ any-count l n w x y z (dOf y) (aOf w) (bOf y) (eqb (kindOf y) (command .load)))
 
-      pub pass-gox : kindOf w ≡ command .shl → r ≡ isBundle l n (GOX (aOf w) (aOf z) (bOf z) (cOf z)) w x y z → r ≡ passesOf l n w x y z m
-      unfolding readOff
-      pass-gox k er = passing (GOX (aOf w) (aOf z) (bOf z) (cOf z)) (rw k) er
+        pub pass-gox : k ≡ command .shl → r ≡ isBundle l n (GOX (aOf w) (aOf z) (bOf z) (cOf z)) w x y z → r ≡ passesOf l n w x y z m
+        unfolding readOff
+        pass-gox e er = passing (GOX (aOf w) (aOf z) (bOf z) (cOf z)) (rw (← ek, e)) er
 
-      pub pass-goif : w < 2 ^ 64 → kindOf w ≡ command .goif → r ≡ goifWords l n w x y z → r ≡ passesOf l n w x y z m
-      unfolding readOff
-      pass-goif fits k er = passing (GOIF (aOf w) (bOf w) (cOf w) (landingOf l (vOf w))) (rw k) (er ∙ goif-is l n w fits k x y z)
+        pub pass-goif : w < 2 ^ 64 → k ≡ command .goif → r ≡ goifWords l n w x y z → r ≡ passesOf l n w x y z m
+        unfolding readOff
+        pass-goif fits e er =
+            passing (GOIF (aOf w) (bOf w) (cOf w) (landingOf l (vOf w))) (rw (← ek, e)) (er ∙ goif-is l n w fits (sym ek ∙ e) x y z)
 
-      pub pass-event : kindOf w ≡ command .look → r ≡ eventWords w x y z → r ≡ passesOf l n w x y z m
-      unfolding readOff
-      pass-event k er = passing (EVENT (vOf w)) (rw k) (er ∙ event-is)
+        pub pass-event : k ≡ command .look → r ≡ eventWords w x y z → r ≡ passesOf l n w x y z m
+        unfolding readOff
+        pass-event e er = passing (EVENT (vOf w)) (rw (← ek, e)) (er ∙ event-is)
 
-    -- a kind that no shape begins with
-    pub pass-none : (leb (command .set) (kindOf w) && leb (kindOf w) (command .sar)) ≡ false → (kindOf w ≡ command .halt → ⊥) → (kindOf w ≡ command .andi → ⊥) → (kindOf w ≡ command .shl → ⊥) → (kindOf w ≡ command .goif → ⊥) → (kindOf w ≡ command .look → ⊥)
-        → false ≡ passesOf l n w x y z m
-    unfolding isBundle valid
-    pass-none t no-halt no-andi no-shl no-goif no-look = rw (← (off-plain no-halt no-andi no-goif no-shl no-look)) (go (leb (command .set) (kindOf w)) refl)
-      where
-        go : (s : Bool) → leb (command .set) (kindOf w) ≡ s → false ≡ (isBundle l n (PLAIN (kindOf w - plainStep) (dOf w) (aOf w) (bOf w) (vOf w)) w x y z && (m || eqb (kindOf w) (command .halt)))
-        go true e =
-            let f : leb (kindOf w) (command .sar) ≡ false = (rw e at t) in
-            let h : command .sar < kindOf w = leb-false _ _ f in
-            rw (lt-leb (kindOf w - plainStep) (guest .sar) (omega arith), and-false (leb (guest .set) (kindOf w - plainStep)))
-        go false e =
-            let h : kindOf w < command .set = leb-false _ _ e in
-            let z : kindOf w ≡ 0 = omega arith in
-            rw z
+      -- a kind that no shape begins with
+      pub pass-none : (leb (command .set) k && leb k (command .sar)) ≡ false → (k ≡ command .halt → ⊥) → (k ≡ command .andi → ⊥) → (k ≡ command .shl → ⊥) → (k ≡ command .goif → ⊥) → (k ≡ command .look → ⊥) → false ≡ passesOf l n w x y z m
+      unfolding isBundle valid
+      pass-none t no-halt no-andi no-shl no-goif no-look =
+          rw (← (off-plain (λ e. no-halt (ek ∙ e)) (λ e. no-andi (ek ∙ e)) (λ e. no-goif (ek ∙ e)) (λ e. no-shl (ek ∙ e)) (λ e. no-look (ek ∙ e)))) (go (leb (command .set) k) refl)
+        where
+          go : (s : Bool) → leb (command .set) k ≡ s → false ≡ (isBundle l n (PLAIN (kindOf w - plainStep) (dOf w) (aOf w) (bOf w) (vOf w)) w x y z && (m || eqb (kindOf w) (command .halt)))
+          go true e =
+              let f : leb k (command .sar) ≡ false = (rw e at t) in
+              let h : command .sar < k = leb-false _ _ f in
+              rw (lt-leb (kindOf w - plainStep) (guest .sar) (omega arith), and-false (leb (guest .set) (kindOf w - plainStep)))
+          go false e =
+              let h : k < command .set = leb-false _ _ e in
+              let z : kindOf w ≡ 0 = omega (arith, no-halt) in
+              rw z

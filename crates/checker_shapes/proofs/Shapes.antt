@@ -1,9 +1,8 @@
 -- Laws of the shapes, each of four words and the instruction whose bundle they can be.
 use mathlib.Core.Path.{_≡_, refl, sym, _∙_, ap, subst}
-use mathlib.Core.Bool.{Bool, true, false, _&&_, cond}
+use mathlib.Core.Bool.{Bool, true, false, _&&_, and-false, cond}
 use Prim.Native.Nat.{ℕ, _+_, _-_, _*_, _/_, _%_, _^_, _≤_, _<_}
 use native.Mathlib.Omega.{arith}
-use native.Mathlib.Nat.{mod-eq-of-lt}
 use lib.Dec.{ltb, leb, eqb}
 use borrow.Author.Tests.{lt-ltb, le-ltb, le-leb, eqb-true, eq-eqb, ne-eqb, ltb-true, ltb-false}
 use Rattle.rules.specs.declared.Layout.{Layout}
@@ -21,52 +20,61 @@ use Rattle.rules.proofs.Conditions.{valid-is}
 use Rattle.rules.proofs.WordLaws.{bits-pack, pack-fields}
 use Rattle.words.specs.Packing.{cutWord}
 use Rattle.words.specs.Guests.{guestsOf}
+use Rattle.words.proofs.Laying.{uncut-word}
 use Rattle.words.proofs.Laws.{Within, command-in, command-from, bool-ext}
-use Rattle.checker_shapes.specs.Sameness.{plainWords, accessOf, landingOf, landsOf, goifWords, eventWords}
+use Rattle.checker_shapes.specs.Sameness.{plainWords, masksOf, loadOf, storeOf, accessOf, landingOf, landsOf, goifWords, eventWords}
 
 -- packing cuts nothing off fields that fit
 pub uncut : (w k d a b c v : ℕ) → k < 2 ^ 8 → d < 2 ^ 4 → a < 2 ^ 4 → b < 2 ^ 4 → c < 2 ^ 4 → v < 2 ^ 32 → (p : ℕ) → p ≡ cutWord k d a b c v → eqb w p ≡ eqb w (packOf k d a b c v)
-uncut w k d a b c v hk hd ha hb hc hv p e =
-    rw (e, mod-eq-of-lt hk, mod-eq-of-lt hd, mod-eq-of-lt ha, mod-eq-of-lt hb, mod-eq-of-lt hc, mod-eq-of-lt hv)
+uncut w k d a b c v hk hd ha hb hc hv p e = rw (e, uncut-word k d a b c v hk hd ha hb hc hv)
 
 pub plain-words : (w x y z : ℕ) (p q : Bool) → p ≡ isCommand w → q ≡ guestsOf w → (p && q && eqb x 0 && eqb y 0 && eqb z 0) ≡ plainWords w x y z
 plain-words w x y z p q ep eq = rw (ep, eq)
 
-pub goif-words : (l : Layout) (n w x y z : ℕ) (p q s : Bool) → p ≡ isCommand w → q ≡ guestsOf w → s ≡ landsOf l n (vOf w) → (p && q && s && eqb x 0 && eqb y 0 && eqb z 0) ≡ goifWords l n w x y z
-goif-words l n w x y z p q s ep eq es = rw (ep, eq, es)
+pub goif-words : (l : Layout) (n w x y z v : ℕ) (p q s : Bool) → v ≡ vOf w → p ≡ isCommand w → q ≡ guestsOf w → s ≡ landsOf l n v → (p && q && s && eqb x 0 && eqb y 0 && eqb z 0) ≡ goifWords l n w x y z
+goif-words l n w x y z v p q s ev ep eq es = rw (ep, eq, es, ev)
 
-pub event-words : (w x y z : ℕ) (p q s t : Bool) → p ≡ eqb w (packOf (command .look) hidden 0 0 0 (vOf w)) → q ≡ eqb x (packOf (command .stopif) hidden 0 0 0 0) → s ≡ eqb y (packOf (command .event) 0 0 0 0 (vOf w)) → t ≡ eqb z (packOf (command .keep) hidden 0 0 0 0)
-    → (ltb (vOf w) events && p && q && s && t) ≡ eventWords w x y z
-event-words w x y z p q s t ep eq es et = rw (ep, eq, es, et)
+pub event-words : (w x y z v : ℕ) (p q s t : Bool) → v ≡ vOf w → p ≡ eqb w (packOf (command .look) hidden 0 0 0 v) → q ≡ eqb x (packOf (command .stopif) hidden 0 0 0 0) → s ≡ eqb y (packOf (command .event) 0 0 0 0 v) → t ≡ eqb z (packOf (command .keep) hidden 0 0 0 0)
+    → (ltb v events && p && q && s && t) ≡ eventWords w x y z
+event-words w x y z v p q s t ev ep eq es et = rw (ep, eq, es, et, ev)
 
 -- ---- LOAD and STORE
 
-module _ (l : Layout) (w x y z : ℕ) (p q s : Bool) (ep : p ≡ eqb w (packOf (command .andi) hidden (aOf w) 0 0 (l .high))) (eq : q ≡ eqb x (packOf (command .ori) hidden hidden 0 0 (l .low))) where
-  pub load-is : s ≡ eqb y (packOf (command .load) (dOf y) hidden 0 0 0)
-      → (ltb (dOf y) guestRegisters && ltb (aOf w) guestRegisters && p && q && s && eqb z 0) ≡ isBundle l 0 (LOAD (dOf y) (aOf w)) w x y z
+pub masks-is : (l : Layout) (w x a : ℕ) (p q : Bool) → a ≡ aOf w → p ≡ eqb w (packOf (command .andi) hidden a 0 0 (l .high)) → q ≡ eqb x (packOf (command .ori) hidden hidden 0 0 (l .low)) → (ltb a guestRegisters && p && q) ≡ masksOf l w x
+masks-is l w x a p q ea ep eq = rw (ep, eq, ea)
+
+pub loads-is : (y d : ℕ) (p : Bool) → d ≡ dOf y → p ≡ eqb y (packOf (command .load) d hidden 0 0 0) → (ltb d guestRegisters && p) ≡ loadOf y
+loads-is y d p ed ep = rw (ep, ed)
+
+pub stores-is : (y b : ℕ) (p : Bool) → b ≡ bOf y → p ≡ eqb y (packOf (command .store) 0 hidden b 0 0) → (ltb b guestRegisters && p) ≡ storeOf y
+stores-is y b p eb ep = rw (ep, eb)
+
+-- the tests of three words, in another order
+load-order : (a p q d s t : Bool) → (a && p && q && (d && s) && t) ≡ (d && a && p && q && s && t)
+load-order a p q true s t = refl
+load-order a p q false s t = rw (and-false (a && p && q))
+
+store-order : (a p q b s t : Bool) → (a && p && q && (b && s) && t) ≡ (a && b && p && q && s && t)
+store-order true p q true s t = refl
+store-order true p q false s t = rw (and-false (p && q))
+store-order false p q b s t = refl
+
+module _ (l : Layout) (w x y z k : ℕ) (m r : Bool) (ek : k ≡ kindOf y) (em : m ≡ masksOf l w x) where
+  pub by-load : k ≡ command .load → r ≡ loadOf y → (m && r && eqb z 0) ≡ isBundle l 0 (accessOf w y) w x y z
   unfolding isBundle valid shapeOf wordOf
-  load-is es = rw (ep, eq, es)
+  by-load h er = rw (em, er, ← ek, h) (load-order (ltb (aOf w) guestRegisters) _ _ (ltb (dOf y) guestRegisters) _ _)
 
-  pub store-is : s ≡ eqb y (packOf (command .store) 0 hidden (bOf y) 0 0)
-      → (ltb (aOf w) guestRegisters && ltb (bOf y) guestRegisters && p && q && s && eqb z 0) ≡ isBundle l 0 (STORE (aOf w) (bOf y)) w x y z
+  pub by-store : (k ≡ command .load → ⊥) → r ≡ storeOf y → (m && r && eqb z 0) ≡ isBundle l 0 (accessOf w y) w x y z
   unfolding isBundle valid shapeOf wordOf
-  store-is es = rw (ep, eq, es)
-
-module _ (l : Layout) (w x y z : ℕ) (r : Bool) where
-  pub by-load : kindOf y ≡ command .load → r ≡ isBundle l 0 (LOAD (dOf y) (aOf w)) w x y z → r ≡ isBundle l 0 (accessOf w y) w x y z
-  by-load k e = e ∙ rw k
-
-  pub by-store : (kindOf y ≡ command .load → ⊥) → r ≡ isBundle l 0 (STORE (aOf w) (bOf y)) w x y z → r ≡ isBundle l 0 (accessOf w y) w x y z
-  by-store k e = e ∙ rw (ne-eqb (kindOf y) (command .load) k)
+  by-store h er = rw (em, er, ← ek, ne-eqb k (command .load) h) (store-order (ltb (aOf w) guestRegisters) _ _ (ltb (bOf y) guestRegisters) _ _)
 
 -- ---- GOX: its second word holds the last address, formed from the one after it
 
-pub gox-is : (l : Layout) (n w x y z : ℕ) (g : ℕ) → g ≡ addressOf l n → (p q s t : Bool) → p ≡ eqb w (packOf (command .shl) hidden (aOf w) 0 0 2) → q ≡ eqb x (packOf (command .andi) hidden hidden 0 0 (g - 1))
-    → s ≡ eqb y (packOf (command .ori) hidden hidden 0 0 (l .base)) → t ≡ eqb z (packOf (command .goxr) hidden (aOf z) (bOf z) (cOf z) 0)
-    → (ltb (aOf w) guestRegisters && ltb (aOf z) guestRegisters && ltb (bOf z) guestRegisters && leb (cOf z) topCondition && p && q && s && t)
-    ≡ isBundle l n (GOX (aOf w) (aOf z) (bOf z) (cOf z)) w x y z
+pub gox-is : (l : Layout) (n w x y z d a b c g : ℕ) → d ≡ aOf w → a ≡ aOf z → b ≡ bOf z → c ≡ cOf z → g ≡ addressOf l n → (p q s t : Bool) → p ≡ eqb w (packOf (command .shl) hidden d 0 0 bundleShift)
+    → q ≡ eqb x (packOf (command .andi) hidden hidden 0 0 (g - 1)) → s ≡ eqb y (packOf (command .ori) hidden hidden 0 0 (l .base)) → t ≡ eqb z (packOf (command .goxr) hidden a b c 0)
+    → (ltb d guestRegisters && ltb a guestRegisters && ltb b guestRegisters && leb c topCondition && p && q && s && t) ≡ isBundle l n (GOX (aOf w) (aOf z) (bOf z) (cOf z)) w x y z
 unfolding isBundle valid shapeOf wordOf
-gox-is l n w x y z g eg p q s t ep eq es et = rw (ep, eq, es, et, eg)
+gox-is l n w x y z d a b c g ed ea eb ec eg p q s t ep eq es et = rw (ep, eq, es, et, eg, ed, ea, eb, ec)
 
 -- ---- GOIF
 

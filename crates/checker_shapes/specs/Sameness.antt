@@ -5,7 +5,7 @@ use lib.Dec.{ltb, eqb}
 use Rattle.rules.specs.declared.Layout.{Layout}
 use Rattle.rules.specs.declared.Instr.{Instr}
 use Rattle.rules.specs.declared.Instr.the-variants.{LOAD, STORE}
-use Rattle.rules.specs.Names.{bundleLength, hidden, events, command}
+use Rattle.rules.specs.Names.{bundleLength, guestRegisters, hidden, events, command}
 use Rattle.rules.specs.Words.{kindOf, dOf, aOf, bOf, vOf, packOf}
 use Rattle.rules.specs.Commands.{isCommand}
 use Rattle.rules.specs.Bundles.{addressOf, readOff, isBundle}
@@ -18,6 +18,16 @@ alone w x y z w′ = eqb w w′ && eqb x 0 && eqb y 0 && eqb z 0
 -- a command on the guest's registers, and three that do nothing
 abbrev pub plainWords : ℕ → ℕ → ℕ → ℕ → Bool
 plainWords w x y z = isCommand w && guestsOf w && eqb x 0 && eqb y 0 && eqb z 0
+
+-- the first two words of LOAD and STORE, and the third of each
+abbrev pub masksOf : Layout → ℕ → ℕ → Bool
+masksOf l w x = ltb (aOf w) guestRegisters && eqb w (packOf (command .andi) hidden (aOf w) 0 0 (l .high)) && eqb x (packOf (command .ori) hidden hidden 0 0 (l .low))
+
+abbrev pub loadOf : ℕ → Bool
+loadOf y = ltb (dOf y) guestRegisters && eqb y (packOf (command .load) (dOf y) hidden 0 0 0)
+
+abbrev pub storeOf : ℕ → Bool
+storeOf y = ltb (bOf y) guestRegisters && eqb y (packOf (command .store) 0 hidden (bOf y) 0 0)
 
 -- LOAD or STORE, by the third word
 abbrev pub accessOf : ℕ → ℕ → Instr

@@ -9,6 +9,7 @@ use shape::goes_if;
 use shape::halts;
 use shape::plain;
 use shape::sends;
+use words::field;
 ghost use mathlib.Core.Path.{_≡_};
 ghost use Prim.Native.Nat.{_≤_, _<_, _^_};
 ghost use Rattle.rules.specs.Names.{mostBundles};
@@ -24,7 +25,7 @@ pub fn passes_words(l: Layout, n: usize, w: u64, x: u64, y: u64, z: u64, more: b
     if !more {
         return halts(w, x, y, z);
     }
-    let kind = w % 256;
+    let kind = field::kind(w);
     if (Command::SET <= kind) & (kind <= Command::SAR) {
         return plain(w, x, y, z);
     }

@@ -1,22 +1,22 @@
 // The shapes of a bundle. Whole words are compared; no bundle is built, and no instruction.
 use rules::Bundle;
 use rules::Command;
-use rules::Fields;
 use rules::Layout;
 use rules::Machine;
 use rules::Policy;
 use words::command::is_command;
+use words::field;
 use words::guest::TOP_CONDITION;
 use words::guest::guests;
-use words::guest::pack;
+use words::guest::word;
 ghost use mathlib.Core.Path.{_≡_};
 ghost use Prim.Native.Nat.{_≤_, _<_, _^_};
 ghost use lib.Dec.{eqb};
-ghost use Rattle.rules.specs.declared.Instr.the-variants.{GOX, LOAD, STORE};
+ghost use Rattle.rules.specs.declared.Instr.the-variants.{GOX};
 ghost use Rattle.rules.specs.Names.{command};
-ghost use Rattle.rules.specs.Words.{dOf, aOf, bOf, cOf, packOf};
+ghost use Rattle.rules.specs.Words.{aOf, bOf, cOf, packOf};
 ghost use Rattle.rules.specs.Bundles.{addressOf, isBundle};
-ghost use Rattle.checker_shapes.specs.Sameness.{alone, plainWords, accessOf, landsOf, goifWords, eventWords};
+ghost use Rattle.checker_shapes.specs.Sameness.{alone, plainWords, masksOf, loadOf, storeOf, accessOf, landsOf, goifWords, eventWords};
 
 // The hidden register, which is also the count of the guest's.
 const HIDDEN: u64 = Machine::HIDDEN as u64;
@@ -30,15 +30,7 @@ fn is_word(w: u64, kind: u64, d: u64, a: u64, b: u64, c: u64, v: u64) -> bool
     requires { ⌜ (kind < 2 ^ 8) × (d < 2 ^ 4) × (a < 2 ^ 4) × (b < 2 ^ 4) × (c < 2 ^ 4) × (v < 2 ^ 32) ⌝ }
     ensures { λ r. ⌜ r ≡ eqb w (packOf kind d a b c v) ⌝ }
 {
-    w
-        == pack(Fields {
-            kind,
-            d,
-            a,
-            b,
-            c,
-            v,
-        })
+    w == word(kind, d, a, b, c, v)
 }
 
 // HALT, and three that do nothing.
@@ -57,40 +49,41 @@ pub(crate) fn plain(w: u64, x: u64, y: u64, z: u64) -> bool
 
 // ---- LOAD and STORE
 
-fn loads(l: Layout, w: u64, x: u64, y: u64, z: u64) -> bool
-    ensures { λ r. ⌜ r ≡ isBundle l 0 (LOAD (dOf y) (aOf w)) w x y z ⌝ }
+// The first two words of both: the hidden register becomes the mask of a guest register's address.
+fn masks(l: Layout, w: u64, x: u64) -> bool
+    ensures { λ r. ⌜ r ≡ masksOf l w x ⌝ }
 {
-    let to = (y >> 8) % 16;
-    let a = (w >> 12) % 16;
-    (to < HIDDEN)
-        & (a < HIDDEN)
+    let a = field::a(w);
+    (a < HIDDEN)
         & is_word(w, Command::ANDI, HIDDEN, a, 0, 0, l.high as u64)
         & is_word(x, Command::ORI, HIDDEN, HIDDEN, 0, 0, l.low as u64)
-        & is_word(y, Command::LOAD, to, HIDDEN, 0, 0, 0)
-        & (z == 0)
 }
 
-fn stores(l: Layout, w: u64, x: u64, y: u64, z: u64) -> bool
-    ensures { λ r. ⌜ r ≡ isBundle l 0 (STORE (aOf w) (bOf y)) w x y z ⌝ }
+// The third word of a LOAD.
+fn loads(y: u64) -> bool
+    ensures { λ r. ⌜ r ≡ loadOf y ⌝ }
 {
-    let a = (w >> 12) % 16;
-    let from = (y >> 16) % 16;
-    (a < HIDDEN)
-        & (from < HIDDEN)
-        & is_word(w, Command::ANDI, HIDDEN, a, 0, 0, l.high as u64)
-        & is_word(x, Command::ORI, HIDDEN, HIDDEN, 0, 0, l.low as u64)
-        & is_word(y, Command::STORE, 0, HIDDEN, from, 0, 0)
-        & (z == 0)
+    let to = field::d(y);
+    (to < HIDDEN) & is_word(y, Command::LOAD, to, HIDDEN, 0, 0, 0)
+}
+
+// The third word of a STORE.
+fn stores(y: u64) -> bool
+    ensures { λ r. ⌜ r ≡ storeOf y ⌝ }
+{
+    let from = field::b(y);
+    (from < HIDDEN) & is_word(y, Command::STORE, 0, HIDDEN, from, 0, 0)
 }
 
 // LOAD or STORE, by the third word.
 pub(crate) fn accesses(l: Layout, w: u64, x: u64, y: u64, z: u64) -> bool
     ensures { λ r. ⌜ r ≡ isBundle l 0 (accessOf w y) w x y z ⌝ }
 {
-    if y % 256 == Command::LOAD {
-        return loads(l, w, x, y, z);
+    let masked = masks(l, w, x);
+    if field::kind(y) == Command::LOAD {
+        return masked & loads(y) & (z == 0);
     }
-    stores(l, w, x, y, z)
+    masked & stores(y) & (z == 0)
 }
 
 // ---- jumps
@@ -108,10 +101,10 @@ pub(crate) fn goes(l: Layout, n: usize, w: u64, x: u64, y: u64, z: u64) -> bool
     requires { ⌜ (0 < n) × (addressOf l n ≤ 2 ^ 32) ⌝ }
     ensures { λ r. ⌜ r ≡ isBundle l n (GOX (aOf w) (aOf z) (bOf z) (cOf z)) w x y z ⌝ }
 {
-    let d = (w >> 12) % 16;
-    let a = (z >> 12) % 16;
-    let b = (z >> 16) % 16;
-    let c = (z >> 20) % 16;
+    let d = field::a(w);
+    let a = field::a(z);
+    let b = field::b(z);
+    let c = field::c(z);
     let last = address(l, n as u64) - 1;
     (d < HIDDEN)
         & (a < HIDDEN)
@@ -140,7 +133,7 @@ fn lands(l: Layout, n: usize, v: u64) -> bool
 pub(crate) fn goes_if(l: Layout, n: usize, w: u64, x: u64, y: u64, z: u64) -> bool
     ensures { λ r. ⌜ r ≡ goifWords l n w x y z ⌝ }
 {
-    is_command(w) & guests(w) & lands(l, n, w >> 32) & (x == 0) & (y == 0) & (z == 0)
+    is_command(w) & guests(w) & lands(l, n, field::v(w)) & (x == 0) & (y == 0) & (z == 0)
 }
 
 // ---- events
@@ -149,7 +142,7 @@ pub(crate) fn goes_if(l: Layout, n: usize, w: u64, x: u64, y: u64, z: u64) -> bo
 pub(crate) fn sends(w: u64, x: u64, y: u64, z: u64) -> bool
     ensures { λ r. ⌜ r ≡ eventWords w x y z ⌝ }
 {
-    let e = w >> 32;
+    let e = field::v(w);
     (e < EVENTS)
         & is_word(w, Command::LOOK, HIDDEN, 0, 0, 0, e)
         & is_word(x, Command::STOPIF, HIDDEN, 0, 0, 0, 0)

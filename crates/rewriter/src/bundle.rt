@@ -1,30 +1,16 @@
 // The words of one bundle.
 use rules::Bundle;
 use rules::Command;
-use rules::Fields;
 use rules::Instr;
 use rules::Layout;
 use rules::Machine;
-use words::guest::pack;
+use words::guest::word;
 ghost use mathlib.Core.Path.{_≡_};
 ghost use Rattle.rules.specs.Bundles.{bundleOf};
-ghost use Rattle.words.specs.Packing.{cutWord, Fits};
+ghost use Rattle.words.specs.Packing.{Fits};
 
 // The hidden register.
 const HIDDEN: u64 = Machine::HIDDEN as u64;
-
-fn word(kind: u64, d: u64, a: u64, b: u64, c: u64, v: u64) -> u64
-    ensures { λ r. ⌜ r ≡ cutWord kind d a b c v ⌝ }
-{
-    pack(Fields {
-        kind,
-        d,
-        a,
-        b,
-        c,
-        v,
-    })
-}
 
 // The four words of an instruction's bundle, among n.
 pub(crate) fn bundle(l: Layout, n: usize, i: Instr) -> Bundle

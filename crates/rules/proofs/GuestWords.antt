@@ -4,7 +4,7 @@ use mathlib.Core.Bool.{true, false, _&&_, _||_, cond}
 use mathlib.Core.Logic.{⊎-elim}
 use Prim.Native.Nat.{ℕ, zero-le, _+_, _<_, _≤_}
 use native.Mathlib.Omega.{arith}
-use borrow.Author.Tests.{ltb-true, ltb-false, eqb-true, eqb-false, leb-true, lt-ltb, eq-eqb, ne-eqb}
+use borrow.Author.Tests.{ltb-true, ltb-false, eqb-true, eqb-false, leb-true, lt-ltb, le-ltb, eq-eqb, ne-eqb}
 use lib.Dec.{eqb, leb, ltb, lit<, lit≤}
 use Rattle.rules.specs.declared.Fields.{Fields}
 use Rattle.rules.specs.declared.Limits.{Limits}
@@ -12,7 +12,7 @@ use Rattle.rules.specs.declared.Instr.{Instr}
 use Rattle.rules.specs.declared.Instr.the-variants.{HALT, PLAIN, LOAD, STORE, GOIF, GOX, EVENT}
 use Rattle.rules.specs.declared.Refusal.the-variants.{Taken, BadLanding}
 use Rattle.rules.specs.Names.{topGuest, topCondition, events, topKind, guestRegisters, mostInstructions, guest, plainStep, numberOf}
-use Rattle.rules.specs.Words.{kindOf, vOf, zeroOf, fieldsOf, packOf, guestLimits, judgeOf, judgeWord, judgeAt, instrOf}
+use Rattle.rules.specs.Words.{kindOf, dOf, aOf, bOf, cOf, vOf, zeroOf, fieldsOf, packOf, guestLimits, judgeOf, judgeWord, judgeAt, instrOf}
 use Rattle.rules.specs.Commands.{limitsOf}
 use Rattle.rules.proofs.Facts.{Valid}
 use Rattle.rules.proofs.Bools.{both, either, cond-ind, unless-ind}
@@ -166,13 +166,31 @@ guest-taken n m (GOX d a b c) g =
 guest-taken n m (EVENT v) g =
     pack-judged n (guest .event) 0 0 0 0 v event-bits (lit≤ tt, (lit≤ tt, lit≤ tt, lit≤ tt, lit≤ tt, omega arith), λ e. omega arith)
 
--- and stands for it
-abbrev instrAt : ℕ → ℕ → ℕ → ℕ → ℕ → ℕ → Instr
+-- and stands for it: the instruction of a kind and fields, and of the word that has them
+abbrev pub instrAt : ℕ → ℕ → ℕ → ℕ → ℕ → ℕ → Instr
 instrAt k d a b c v =
     cond (eqb k (guest .halt)) HALT
     (cond (ltb k (guest .load)) (PLAIN k d a b v)
     (cond (eqb k (guest .load)) (LOAD d a)
     (cond (eqb k (guest .store)) (STORE a b) (cond (eqb k (guest .goif)) (GOIF a b c v) (cond (eqb k (guest .gox)) (GOX d a b c) (EVENT v))))))
+
+module _ (w k d a b c v : ℕ) (ek : k ≡ kindOf w) (ed : d ≡ dOf w) (ea : a ≡ aOf w) (eb : b ≡ bOf w) (ec : c ≡ cOf w) (ev : v ≡ vOf w) where
+  pub fields-are : fields k d a b c v ≡ fieldsOf w
+  fields-are i = record { kind = ek i; d = ed i; a = ea i; b = eb i; c = ec i; v = ev i }
+
+  instr-at : instrAt k d a b c v ≡ instrOf w
+  unfolding instrOf
+  instr-at = rw (ek, ed, ea, eb, ec, ev)
+
+  pub instr-is : (j : ℕ) → k ≡ j → (i : Instr) → i ≡ instrAt j d a b c v → i ≡ instrOf w
+  instr-is j ej i ei = ei ∙ rw (← ej) instr-at
+
+  pub instr-plain : (k ≡ guest .halt → ⊥) → k < guest .load → PLAIN k d a b v ≡ instrOf w
+  instr-plain some l = rw (← instr-at, ne-eqb k (guest .halt) some, lt-ltb k (guest .load) l)
+
+  pub instr-event : guest .load ≤ k → (k ≡ guest .halt → ⊥) → (k ≡ guest .load → ⊥) → (k ≡ guest .store → ⊥) → (k ≡ guest .goif → ⊥) → (k ≡ guest .gox → ⊥) → EVENT v ≡ instrOf w
+  instr-event l h m s g x =
+      rw (← instr-at, ne-eqb k (guest .halt) h, le-ltb k (guest .load) l, ne-eqb k (guest .load) m, ne-eqb k (guest .store) s, ne-eqb k (guest .goif) g, ne-eqb k (guest .gox) x)
 
 pack-instr : (k d a b c v : ℕ) → InBits k d a b c → instrOf (packOf k d a b c v) ≡ instrAt k d a b c v
 unfolding instrOf

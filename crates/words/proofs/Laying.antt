@@ -16,7 +16,8 @@ use Rattle.rules.specs.Bundles.{addressOf, lastAddress, shapeOf, bundleOf, vali
 use Rattle.rules.proofs.Tables.{all, raised}
 use Rattle.rules.proofs.Facts.{Valid}
 use Rattle.rules.proofs.Conditions.{valid-is}
-use Rattle.words.specs.Packing.{cutWord, Fits}
+use Rattle.words_fields.specs.Cut.{cutWord}
+use Rattle.words.specs.Packing.{Fits}
 
 -- the numbers of the plain commands have 32 bits
 plain-top : (k v : ℕ) → k ≤ guest .sar → v ≤ limitsOf (k + plainStep) .v → v ≤ topWord
@@ -24,7 +25,7 @@ unfolding all
 plain-top k v h l = raised (λ k. limitsOf (k + plainStep) .v) (λ _. topWord) (guest .load) refl k v (omega arith) l
 
 -- packing cuts nothing off fields that fit
-uncut-word : (k d a b c v : ℕ) → k < 2 ^ 8 → d < 2 ^ 4 → a < 2 ^ 4 → b < 2 ^ 4 → c < 2 ^ 4 → v < 2 ^ 32 → cutWord k d a b c v ≡ packOf k d a b c v
+pub uncut-word : (k d a b c v : ℕ) → k < 2 ^ 8 → d < 2 ^ 4 → a < 2 ^ 4 → b < 2 ^ 4 → c < 2 ^ 4 → v < 2 ^ 32 → cutWord k d a b c v ≡ packOf k d a b c v
 uncut-word k d a b c v hk hd ha hb hc hv =
     rw (mod-eq-of-lt hk, mod-eq-of-lt hd, mod-eq-of-lt ha, mod-eq-of-lt hb, mod-eq-of-lt hc, mod-eq-of-lt hv)
 

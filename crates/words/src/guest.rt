@@ -3,6 +3,7 @@ pub use words_fields::fields;
 pub use words_fields::guests;
 pub use words_fields::instruction;
 pub use words_fields::pack;
+pub use words_fields::word;
 pub use words_guest::clean;
 pub use words_guest::judge_all;
 pub use words_guest::judge_at;

@@ -6,3 +6,4 @@ pub mod guest;
 pub mod layout;
 
 pub use words_arith::arith;
+pub use words_fields::field;

@@ -1,5 +1,6 @@
 // Command words: whether a word is a command, and which.
 use rules::Command;
+use words_fields::field;
 ghost use mathlib.Core.Path.{_≡_};
 ghost use Prim.Native.Nat.{_<_};
 ghost use Rattle.rules.specs.Names.{commandKinds};
@@ -50,7 +51,7 @@ pub fn is_of_kind(k: u64, w: u64) -> bool
 pub fn is_command(w: u64) -> bool
     ensures { λ r. ⌜ r ≡ isCommand w ⌝ }
 {
-    let k = w % 256;
+    let k = field::kind(w);
     if k < Command::KINDS {
         return is_of_kind(k, w);
     }
@@ -64,12 +65,12 @@ pub fn command(w: u64) -> Command
     if !is_command(w) {
         return Command::Stray;
     }
-    let kind = w % 256;
-    let d = (w >> 8) % 16;
-    let a = (w >> 12) % 16;
-    let b = (w >> 16) % 16;
-    let c = (w >> 20) % 16;
-    let v = w >> 32;
+    let kind = field::kind(w);
+    let d = field::d(w);
+    let a = field::a(w);
+    let b = field::b(w);
+    let c = field::c(w);
+    let v = field::v(w);
     match kind {
         Command::NOP => Command::Nop,
         Command::HALT => Command::Halt,

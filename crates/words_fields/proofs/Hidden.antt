@@ -64,12 +64,16 @@ module _ (w : ℕ) where
     where
       first : (x : ℕ) → x % 2 ^ 4 % 2 ^ 1 ≡ x % 2 ^ 1
       first x = omega arith
+
       second : (x : ℕ) → x / 2 ^ 1 % 2 ^ 1 ≡ x % 2 ^ 4 / 2 % 2 ^ 1
       second x = omega arith
+
       third : (x : ℕ) → x / 2 ^ 2 % 2 ^ 1 ≡ x % 2 ^ 4 / 4 % 2 ^ 1
       third x = omega arith
+
       fourth : (x : ℕ) → x / 2 ^ 3 % 2 ^ 1 ≡ x % 2 ^ 4 / 8 % 2 ^ 1
       fourth x = omega arith
+
       moved : (j : ℕ) → w / 2 ^ j / 2 ^ k % 2 ^ 1 ≡ w / 2 ^ k / 2 ^ j % 2 ^ 1
       moved j = ap (λ (x : ℕ). x % 2 ^ 1) (shr-shr w j k ∙ ap (λ (i : ℕ). w / 2 ^ i) (add-comm j k) ∙ sym (shr-shr w k j))
 

@@ -1,34 +1,42 @@
 // The fields of a word: taken apart, packed, and the instruction that they stand for; and the bits that no word of a kind has.
+pub mod field;
+
 use rules::Fields;
 use rules::Instr;
 ghost use mathlib.Core.Path.{_≡_};
 ghost use Rattle.rules.specs.Words.{fieldsOf, packFields, instrOf};
-ghost use Rattle.words_fields.specs.Cut.{cutOf};
+ghost use Rattle.words_fields.specs.Cut.{cutOf, cutWord};
 ghost use Rattle.words_fields.specs.Guests.{guestsOf};
 
 pub fn fields(w: u64) -> Fields
     ensures { λ r. ⌜ r ≡ fieldsOf w ⌝ }
 {
     Fields {
-        kind: w % 256,
-        d: (w >> 8) % 16,
-        a: (w >> 12) % 16,
-        b: (w >> 16) % 16,
-        c: (w >> 20) % 16,
-        v: w >> 32,
+        kind: field::kind(w),
+        d: field::d(w),
+        a: field::a(w),
+        b: field::b(w),
+        c: field::c(w),
+        v: field::v(w),
     }
 }
 
-// The word of given fields, each cut to its width.
+// The word of six fields, each cut to its width.
+pub fn word(kind: u64, d: u64, a: u64, b: u64, c: u64, v: u64) -> u64
+    ensures { λ r. ⌜ r ≡ cutWord kind d a b c v ⌝ }
+{
+    kind % 256
+        + ((d % 16) << 8)
+        + ((a % 16) << 12)
+        + ((b % 16) << 16)
+        + ((c % 16) << 20)
+        + ((v % 0x1_0000_0000) << 32)
+}
+
 pub fn pack(f: Fields) -> u64
     ensures { λ r. ⌜ r ≡ packFields (cutOf f) ⌝ }
 {
-    f.kind % 256
-        + ((f.d % 16) << 8)
-        + ((f.a % 16) << 12)
-        + ((f.b % 16) << 16)
-        + ((f.c % 16) << 20)
-        + ((f.v % 0x1_0000_0000) << 32)
+    word(f.kind, f.d, f.a, f.b, f.c, f.v)
 }
 
 // Whether no register field of a word names the hidden register, all of whose four bits stand: one test for the three.
@@ -43,12 +51,12 @@ pub fn guests(w: u64) -> bool
 pub fn instruction(w: u64) -> Instr
     ensures { λ r. ⌜ r ≡ instrOf w ⌝ }
 {
-    let kind = w % 256;
-    let d = (w >> 8) % 16;
-    let a = (w >> 12) % 16;
-    let b = (w >> 16) % 16;
-    let c = (w >> 20) % 16;
-    let v = w >> 32;
+    let kind = field::kind(w);
+    let d = field::d(w);
+    let a = field::a(w);
+    let b = field::b(w);
+    let c = field::c(w);
+    let v = field::v(w);
     match kind {
         Instr::KIND_HALT => Instr::HALT,
         Instr::KIND_SET..=Instr::KIND_SAR => Instr::PLAIN(kind, d, a, b, v),

@@ -2,6 +2,7 @@
 use mathlib.Core.Path.{_≡_, refl, sym, _∙_}
 use mathlib.Core.Bool.{Bool, true, false, _&&_, not}
 use Prim.Native.Nat.{ℕ, _≤_, _<_, _^_}
+use native.Mathlib.Omega.{arith}
 use lib.Bits.{bitAnd}
 use lib.Dec.{ltb, eqb}
 use borrow.Author.Tests.{eq-eqb, ne-eqb, eqb-true, ltb-true, not-true}
@@ -16,20 +17,21 @@ use Rattle.words_fields.specs.Guests.{guestsOf}
 use Rattle.words_guest.proofs.Masks.{guest-within}
 
 -- what is said of the fields, said of the word
-pub word-judged : (w : ℕ) (f : Fields) → f ≡ fieldsOf w → (x : ℕ) → x ≡ judgeOf (ltb 0 (zeroOf w)) f → x ≡ judgeWord w
-word-judged w f e x ex = ex ∙ rw e
+pub word-judged : (w z : ℕ) (f : Fields) → z ≡ zeroOf w → f ≡ fieldsOf w → (x : ℕ) → x ≡ judgeOf (ltb 0 z) f → x ≡ judgeWord w
+word-judged w z f ez e x ex = ex ∙ rw (ez, e)
 
 -- ---- a word without a stray bit
 
-pub clean-good : (w : ℕ) → w < 2 ^ 64 → kindOf w ≤ topKind → (s : ℕ) → s ≡ strayOf (guestLimits (kindOf w)) → (g : Bool) → g ≡ guestsOf w
+pub clean-good : (w k : ℕ) → w < 2 ^ 64 → k ≡ kindOf w → k ≤ topKind → (s : ℕ) → s ≡ strayOf (guestLimits k) → (g : Bool) → g ≡ guestsOf w
     → (eqb (bitAnd w s) 0 && g) ≡ true → judgeWord w ≡ 0
-clean-good w fits h s es g eg t =
+clean-good w k fits e l s es g eg t =
+    let h : kindOf w ≤ topKind = omega arith in
     let d = ltb (dOf w) guestRegisters in
     let a = ltb (aOf w) guestRegisters in
     let tm = both (eqb (bitAnd w s) 0) g t in
     let tb = both (d && a) (ltb (bOf w) guestRegisters) (sym eg ∙ tm .1) in
     let ta = both d a (tb .0) in
-    let i = guest-within w fits h (rw es at (eqb-true (bitAnd w s) 0 (tm .0))) (ltb-true _ _ (ta .0)) (ltb-true _ _ (ta .1)) (ltb-true _ _ (tb .1)) in
+    let i = guest-within w fits h (rw (es, e) at (eqb-true (bitAnd w s) 0 (tm .0))) (ltb-true _ _ (ta .0)) (ltb-true _ _ (ta .1)) (ltb-true _ _ (tb .1)) in
     judged (ltb 0 (zeroOf w)) (fieldsOf w)
     (record { kind = h; clean = rw (i .zero); kept = record { d = i .d; a = i .a; b = i .b; c = i .c; v = i .v } })
 
@@ -38,22 +40,24 @@ clean-judged w r f e = sym (f e)
 
 -- ---- the refusal of a word among n
 
-module _ (n w x : ℕ) (e : x ≡ judgeWord w) where
-  pub at-bad : (x ≡ 0 → ⊥) → x ≡ judgeAt n w
-  unfolding judgeAt
-  at-bad h = rw (← e, ne-eqb x 0 h)
+pub at-bad : (n w x : ℕ) → x ≡ judgeWord w → (x ≡ 0 → ⊥) → x ≡ judgeAt n w
+unfolding judgeAt
+at-bad n w x e h = rw (← e, ne-eqb x 0 h)
 
-  module _ (z : x ≡ 0) where
-    pub at-landing : (eqb (kindOf w) (guest .goif) && ltb n (vOf w)) ≡ true → numberOf BadLanding ≡ judgeAt n w
+-- its kind, and where it leads if it is a GOIF
+module _ (n w k v : ℕ) (ek : k ≡ kindOf w) (ev : v ≡ vOf w) where
+  abbrev beyond : Bool
+  beyond = eqb k (guest .goif) && ltb n v
+
+  module _ (x : ℕ) (e : x ≡ judgeWord w) (z : x ≡ 0) where
+    pub at-landing : beyond ≡ true → numberOf BadLanding ≡ judgeAt n w
     unfolding judgeAt
-    at-landing h = rw (← e, eq-eqb x 0 z, h)
+    at-landing h = rw (← e, ← ek, ← ev, eq-eqb x 0 z, h)
 
-    pub at-good : (eqb (kindOf w) (guest .goif) && ltb n (vOf w)) ≡ false → numberOf Taken ≡ judgeAt n w
+    pub at-good : beyond ≡ false → numberOf Taken ≡ judgeAt n w
     unfolding judgeAt
-    at-good h = rw (← e, eq-eqb x 0 z, h)
+    at-good h = rw (← e, ← ek, ← ev, eq-eqb x 0 z, h)
 
--- a clean word, and no landing past the words
-pub clean-at : (n w : ℕ) (r : Bool) → (r ≡ true → judgeWord w ≡ 0) → (r && not (eqb (kindOf w) (guest .goif) && ltb n (vOf w))) ≡ true → numberOf Taken ≡ judgeAt n w
-clean-at n w r f t =
-    let u = both r (not (eqb (kindOf w) (guest .goif) && ltb n (vOf w))) t in
-    at-good n w 0 (sym (f (u .0))) refl (not-true (eqb (kindOf w) (guest .goif) && ltb n (vOf w)) (u .1))
+  -- a clean word, and no landing past the words
+  pub clean-at : (r : Bool) → (r ≡ true → judgeWord w ≡ 0) → (r && not beyond) ≡ true → numberOf Taken ≡ judgeAt n w
+  clean-at r f t = let u = both r (not beyond) t in at-good 0 (sym (f (u .0))) refl (not-true beyond (u .1))

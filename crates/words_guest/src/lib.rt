@@ -2,6 +2,7 @@
 use rules::Answer;
 use rules::Instr;
 use rules::Refusal;
+use words_fields::field;
 use words_fields::fields;
 use words_fields::guests;
 use words_refusals::TOP_KIND;
@@ -42,7 +43,7 @@ fn stray_bits(k: u64) -> u64
 pub fn clean(w: u64) -> bool
     ensures { λ r. ⌜ (r ≡ true → judgeWord w ≡ 0) ⌝ }
 {
-    let k = w % 256;
+    let k = field::kind(w);
     if k > TOP_KIND {
         return false;
     }
@@ -53,7 +54,7 @@ pub fn clean(w: u64) -> bool
 fn by_fields(w: u64) -> u8
     ensures { λ r. ⌜ r ≡ judgeWord w ⌝ }
 {
-    judge((w >> 24) % 256 > 0, fields(w))
+    judge(field::zero(w) > 0, fields(w))
 }
 
 pub fn judge_word(w: u64) -> u8
@@ -69,7 +70,7 @@ pub fn judge_word(w: u64) -> u8
 pub fn judge_at(n: usize, w: u64) -> u8
     ensures { λ r. ⌜ r ≡ judgeAt n w ⌝ }
 {
-    let landing_bad = (w % 256 == Instr::KIND_GOIF) & ((n as u64) < w >> 32);
+    let landing_bad = (field::kind(w) == Instr::KIND_GOIF) & ((n as u64) < field::v(w));
     if clean(w) & !landing_bad {
         return Refusal::TAKEN;
     }

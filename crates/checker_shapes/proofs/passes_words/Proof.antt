@@ -11,6 +11,7 @@ passes-words-spec =
     (λ c κs. search needs)
     (λ c. search (last-is, not-true, needs))
     (λ c κs. search needs)
+    (λ c κs. search needs)
     (λ c. search (pass-plain, not-false, needs))
     (λ c κs. search needs)
     (λ c κs. search needs)

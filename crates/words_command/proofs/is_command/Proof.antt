@@ -5,4 +5,10 @@ use Rattle.words_command.proofs.is_command.Statement.{statement}
 use Rattle.words_command.proofs.is_command.Tie as tie
 
 pub is-command-spec : {M : Type 1} → statement M
-is-command-spec = tie.close (tie.spec (λ c κs. search needs) (λ c. search needs) (λ c. sym (unknown _ (c .if1 .left))))
+is-command-spec =
+    tie.close
+    (tie.spec
+    (λ c κs. search needs)
+    (λ c κs. (c .if1 .taken, sym (c .before .kind .ensures)))
+    (λ c. search needs)
+    (λ c. search (unknown, needs)))

@@ -9,4 +9,5 @@ by-fields-spec =
     (tie.spec
     (λ c κs. search needs)
     (λ c κs. search needs)
+    (λ c κs. search needs)
     (λ c. search (word-judged, needs)))

@@ -8,6 +8,7 @@ pub clean-spec : {M : Type 1} → statement M
 clean-spec =
     tie.close
     (tie.spec
+    (λ c κs. search needs)
     (λ c e. absurd (false≢true e))
     (λ c κs. search needs)
     (λ c κs. search needs)

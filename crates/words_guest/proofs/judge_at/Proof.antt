@@ -8,6 +8,8 @@ judge-at-spec =
     tie.close
     (tie.spec
     (λ c κs. search needs)
+    (λ c κs. search needs)
+    (λ c κs. search needs)
     (λ c. search (clean-at, needs))
     (λ c κs. search needs)
     (λ c. search (at-bad, needs))

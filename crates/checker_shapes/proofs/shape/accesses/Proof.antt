@@ -8,6 +8,8 @@ accesses-spec =
     tie.close
     (tie.spec
     (λ c κs. search needs)
+    (λ c κs. search needs)
+    (λ c κs. search needs)
     (λ c. search (by-load, needs))
     (λ c κs. search needs)
     (λ c. search (by-store, needs)))

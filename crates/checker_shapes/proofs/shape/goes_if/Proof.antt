@@ -10,4 +10,5 @@ goes-if-spec =
     (λ c κs. search needs)
     (λ c κs. search needs)
     (λ c κs. search needs)
+    (λ c κs. search needs)
     (λ c. search (goif-words, needs)))

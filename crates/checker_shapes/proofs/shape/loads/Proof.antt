@@ -1,5 +1,5 @@
 use borrow.Author.Needs.{needs}
-use Rattle.checker_shapes.proofs.Shapes.{load-is}
+use Rattle.checker_shapes.proofs.Shapes.{loads-is}
 use Rattle.checker_shapes.proofs.shape.loads.Statement.{statement}
 use Rattle.checker_shapes.proofs.shape.loads.Tie as tie
 
@@ -7,9 +7,6 @@ pub loads-spec : {M : Type 1} → statement M
 loads-spec =
     tie.close
     (tie.spec
-    (λ c. search needs)
-    (λ c κs. search needs)
-    (λ c. search needs)
     (λ c κs. search needs)
     (λ c κs. search needs)
-    (λ c. search (load-is, needs)))
+    (λ c. search (loads-is, needs)))

@@ -1,5 +1,5 @@
 use borrow.Author.Needs.{needs}
-use Rattle.checker_shapes.proofs.Shapes.{store-is}
+use Rattle.checker_shapes.proofs.Shapes.{stores-is}
 use Rattle.checker_shapes.proofs.shape.stores.Statement.{statement}
 use Rattle.checker_shapes.proofs.shape.stores.Tie as tie
 
@@ -7,9 +7,6 @@ pub stores-spec : {M : Type 1} → statement M
 stores-spec =
     tie.close
     (tie.spec
-    (λ c. search needs)
-    (λ c κs. search needs)
-    (λ c. search needs)
     (λ c κs. search needs)
     (λ c κs. search needs)
-    (λ c. search (store-is, needs)))
+    (λ c. search (stores-is, needs)))
