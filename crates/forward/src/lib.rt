@@ -62,17 +62,11 @@ fn scan_words(words: &[u64]) -> Answer
     let mut h: usize = 0;
     while h < words.len() {
         if !forward_at(h, instruction(words[h])) {
-            return Answer {
-                number: Refusal::NOT_FORWARD,
-                place: h,
-            };
+            return Answer::refused_at(Refusal::NOT_FORWARD, h);
         }
         h += 1;
     }
-    Answer {
-        number: Refusal::TAKEN,
-        place: 0,
-    }
+    Answer::taken(0)
 }
 
 // The lowest bundle that breaks the class.
@@ -83,17 +77,11 @@ fn scan_bundles(l: Layout, commands: &[u64]) -> Answer
     let mut h: usize = 0;
     while h < n {
         if !forward_word(l, h, commands[Bundle::LENGTH * h]) {
-            return Answer {
-                number: Refusal::NOT_FORWARD,
-                place: h,
-            };
+            return Answer::refused_at(Refusal::NOT_FORWARD, h);
         }
         h += 1;
     }
-    Answer {
-        number: Refusal::TAKEN,
-        place: 0,
-    }
+    Answer::taken(0)
 }
 
 // Checks guest words: 5, then 3, 2, 4 or 8 of the lowest word refused, then 18.
@@ -101,18 +89,11 @@ pub fn forward(words: &[u64]) -> Answer
     ensures { λ r. ⌜ r ≡ forwardAnswer (now (words .entry)) ⌝ }
 {
     if words.len() > Instr::MOST {
-        return Answer {
-            number: Refusal::OVERSIZE,
-            place: 0,
-        };
+        return Answer::refused(Refusal::OVERSIZE);
     }
-    let taken = Answer {
-        number: Refusal::TAKEN,
-        place: 0,
-    };
-    let judged = judge_all(words, taken);
+    let judged = judge_all(words, Answer::taken(0));
     let refused = judged.number;
-    if refused != 0 {
+    if refused != Refusal::TAKEN {
         return judged;
     }
     scan_words(words)
@@ -124,7 +105,7 @@ pub fn check_forward(layout: Layout, commands: &[u64]) -> Answer
 {
     let answer = check(layout, commands);
     let number = answer.number;
-    if number != 0 {
+    if number != Refusal::TAKEN {
         return answer;
     }
     scan_bundles(layout, commands)
