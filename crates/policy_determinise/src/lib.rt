@@ -115,7 +115,7 @@ pub fn determinise(states: u32, starts: u16, arrows: &[u16], table: &mut [u8]) -
 {
     let count = states as usize;
     if !right(count, starts, arrows) {
-        return policy_exploration::refused(Refusal::BAD_DRAWING);
+        return policy_writing::refused(Refusal::BAD_DRAWING);
     }
-    policy_exploration::write(explore(count, starts, arrows), table)
+    policy_writing::write(explore(count, starts, arrows), table)
 }

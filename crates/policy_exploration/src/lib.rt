@@ -3,14 +3,12 @@
 use rules::Answer;
 use rules::Layout;
 use rules::Policy;
-use rules::Refusal;
 ghost use mathlib.Core.Path.{_≡_};
-ghost use mathlib.Core.List.{_++_};
 ghost use Prim.Native.Nat.{_+_, _*_, _/_, _≤_, _<_};
-ghost use lib.ListN.{length, getD, take, drop};
-ghost use Rattle.rules.specs.Names.{events, mostStates, answer};
-ghost use Rattle.policy_exploration.specs.Reach.{place as placeOf, madeWith};
-ghost use Rattle.policy_exploration.specs.Founds.{Sized, foundAt, stepOf, moreOf, writtenOf, writtenTable};
+ghost use lib.ListN.{length, getD, take};
+ghost use Rattle.rules.specs.Names.{events, mostStates};
+ghost use Rattle.policy_exploration.specs.Reach.{place as placeOf};
+ghost use Rattle.policy_exploration.specs.Founds.{Sized, foundAt, stepOf, moreOf};
 
 // The most states of a policy.
 const MOST: usize = Layout::MOST_STATES as usize;
@@ -96,57 +94,4 @@ pub fn step(f: Found, k: usize, x: u16) -> Found
     g.nodes[n] = x;
     g.count = n + 1;
     g
-}
-
-// A refusal: all else is 0.
-pub fn refused(number: u8) -> Made
-    ensures { λ r. ⌜ r ≡ madeWith (answer number 0) 0 ⌝ }
-{
-    Made {
-        answer: Answer { number, place: 0 },
-        policy: Policy {
-            states: 0,
-            start: 0,
-        },
-    }
-}
-
-// The first n bytes over the start of the others.
-fn copy(from: &[u8; 256], to: &mut [u8], n: usize)
-    requires { ⌜ (n ≤ events * mostStates) × (n ≤ length (now from)) × (n ≤ length (now to)) ⌝ }
-    ensures { λ _. ⌜ now (to .exit) ≡ take n (now (from .entry)) ++ drop n (now (to .entry)) ⌝ }
-{
-    let mut i: usize = 0;
-    while i < n {
-        to[i] = from[i];
-        i = i + 1;
-    }
-}
-
-// Writes the policy of the nodes found: its table from the start of the one lent.
-pub fn write(f: Found, table: &mut [u8]) -> Made
-    requires { ⌜ Sized f ⌝ }
-    ensures made { λ r. ⌜ r ≡ writtenOf f (length (now (table .entry))) ⌝ }
-    ensures table { λ _. ⌜ now (table .exit) ≡ writtenTable f (now (table .entry)) ⌝ }
-{
-    let n = f.count;
-    if MOST < n {
-        return refused(Refusal::TOO_MANY_STATES);
-    }
-    let bytes = EVENTS * n;
-    if table.len() < bytes {
-        return refused(Refusal::SMALL_OUTPUT);
-    }
-    let arrows = f.arrows;
-    copy(&arrows, table, bytes);
-    Made {
-        answer: Answer {
-            number: Refusal::TAKEN,
-            place: bytes,
-        },
-        policy: Policy {
-            states: n as u32,
-            start: 0,
-        },
-    }
 }

@@ -159,10 +159,10 @@ fn made_of(a: Policy, left: &[u8], b: Policy, right: &[u8], table: &mut [u8]) ->
 {
     let ok = side_right(a, left) & side_right(b, right);
     if !ok {
-        return policy_exploration::refused(Refusal::BAD_POLICY);
+        return policy_writing::refused(Refusal::BAD_POLICY);
     }
     let start = pair(a.start as usize, b.start as usize);
-    policy_exploration::write(explore(left, right, start), table)
+    policy_writing::write(explore(left, right, start), table)
 }
 
 // Merges two policies, `left` the table of one and `right` that of the other: the table from the start of the one lent, the state count

@@ -5,9 +5,9 @@ use native.Mathlib.Omega.{arith}
 use denote.Ref.{now}
 use lib.ListN.{length, take, drop}
 use borrow.Author.Needs.{needs}
-use Rattle.policy_exploration.proofs.Laws.{copy-more, copy-done}
-use Rattle.policy_exploration.proofs.copy.Statement.{statement}
-use Rattle.policy_exploration.proofs.copy.Tie as tie
+use Rattle.policy_writing.proofs.Laws.{copy-more, copy-done}
+use Rattle.policy_writing.proofs.copy.Statement.{statement}
+use Rattle.policy_writing.proofs.copy.Tie as tie
 
 -- the bytes so far
 abbrev Inv-loop : tie.InvT-loop

@@ -1,9 +1,9 @@
 use denote.Ref.{now}
 use mathlib.Core.Path.{refl}
 use borrow.Author.Needs.{needs}
-use Rattle.policy_exploration.proofs.Laws.{too-many, no-room, writes}
-use Rattle.policy_exploration.proofs.write.Statement.{statement}
-use Rattle.policy_exploration.proofs.write.Tie as tie
+use Rattle.policy_writing.proofs.Laws.{too-many, no-room, writes}
+use Rattle.policy_writing.proofs.write.Statement.{statement}
+use Rattle.policy_writing.proofs.write.Tie as tie
 
 returns : tie.Need-returns
 returns c = let start = c .before .before .before in too-many (start .args .f) (start .pre) (now (start .args .table)) _ (c .before .if1 .taken) (c .refused .ensures)
