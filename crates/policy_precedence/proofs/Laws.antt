@@ -17,7 +17,7 @@ use Rattle.rules.specs.Names.{events, noArrow, answer, refusal}
 use Rattle.rules.proofs.Bools.{both}
 use Rattle.policy_precedence.specs.declared.Made.{Made}
 use Rattle.policy_maps.specs.Maps.{every, some, mapOf, bit, build}
-use Rattle.policy_precedence.specs.Precedence.{Fit, namedIn, named, knownIn, known, mostNamed, firstAt, pairsIn, place, firstsIn, statesOf, bytesOf, namedCount, arrowOf, entryOf, stuck, onOf, turnsOf, fullOf, neverOf, pairsRight, makeAnswer, madeWith, makeOf, makeTable}
+use Rattle.policy_precedence.specs.Precedence.{Fit, namedIn, isNamed, knownIn, known, mostNamed, firstAt, pairsIn, place, firstsIn, statesOf, tableBytes, namedCount, arrowOf, entryOf, stuck, onOf, turnsOf, fullOf, neverOf, pairsRight, makeAnswer, madeWith, makeOf, makeTable}
 use Rattle.policy_maps.proofs.Maps.{every-at, map-or, map-one, map-none, map-low, map-ones, bit-map, count-less, map-lt, length-build}
 
 pub known-none : (ps : List ℕ) → knownIn ps 0 ≡ true
@@ -52,7 +52,7 @@ names-more ps i m x o e f g =
     let n : i + 1 ≡ suc i = omega arith in
     rw (n, e, g, f) (map-or (namedIn ps i) (eqb (getD ps i 0)) events)
 
-pub names-done : (ps : List ℕ) (i m : ℕ) → m ≡ mapOf (namedIn ps i) events → length ps ≤ i → i ≤ length ps → m ≡ mapOf (named ps) events
+pub names-done : (ps : List ℕ) (i m : ℕ) → m ≡ mapOf (namedIn ps i) events → length ps ≤ i → i ≤ length ps → m ≡ mapOf (isNamed ps) events
 names-done ps i m e h k = let q : i ≡ length ps = omega arith in e ∙ ap (λ (j : ℕ). mapOf (namedIn ps j) events) q
 
 pub known-done : (ps : List ℕ) (i : ℕ) (ok : Bool) → ok ≡ knownIn ps i → length ps ≤ i → i ≤ length ps → ok ≡ known ps
@@ -76,19 +76,19 @@ module _ (ps : List ℕ) (m : ℕ) (fit : Fit ps m) where
   pub place-is : (e k : ℕ) → e < events → k ≡ ones-below m e → k ≡ place ps e
   place-is e k h f =
       let s : e + (events - e) ≡ events = omega arith in
-      let l : mapOf (named ps) events % 2 ^ e ≡ mapOf (named ps) e = rw s at (map-low (named ps) (events - e) e) in
-      f ∙ ap ones (and-mask m e ∙ ap (λ (x : ℕ). x % 2 ^ e) (fit .map) ∙ l) ∙ map-ones (named ps) e
+      let l : mapOf (isNamed ps) events % 2 ^ e ≡ mapOf (isNamed ps) e = rw s at (map-low (isNamed ps) (events - e) e) in
+      f ∙ ap ones (and-mask m e ∙ ap (λ (x : ℕ). x % 2 ^ e) (fit .map) ∙ l) ∙ map-ones (isNamed ps) e
 
   pub event-below : (i : ℕ) → i < length ps → getD ps i 0 < events
   unfolding knownIn
   event-below i h = ltb-true (getD ps i 0) events (every-at _ (length ps) i (fit .below) h)
 
-  pub named-is : (e : ℕ) → e < events → bit m e ≡ named ps e
-  named-is e h = ap (λ (x : ℕ). bit x e) (fit .map) ∙ bit-map (named ps) events e h
+  pub named-is : (e : ℕ) → e < events → bit m e ≡ isNamed ps e
+  named-is e h = ap (λ (x : ℕ). bit x e) (fit .map) ∙ bit-map (isNamed ps) events e h
 
   -- a named event's bit is one of four
-  pub place-less : (e : ℕ) → e < events → named ps e ≡ true → place ps e < mostNamed
-  place-less e h t = omega (arith, count-less (named ps) events e h t, fit .few)
+  pub place-less : (e : ℕ) → e < events → isNamed ps e ≡ true → place ps e < mostNamed
+  place-less e h t = omega (arith, count-less (isNamed ps) events e h t, fit .few)
 
   pub first-below : (i y : ℕ) → i < length ps / 2 → y ≡ getD ps (2 * i) 0 → y < events
   first-below i y h e = rw e (event-below (2 * i) (omega arith))
@@ -124,11 +124,11 @@ module _ (ps : List ℕ) (m : ℕ) (fit : Fit ps m) where
     pub arrow-stays : b ≡ false → Arrow s e s
     unfolding arrowOf
     arrow-stays f =
-        let n : named ps e ≡ false = sym (named-is ps m fit e k) ∙ sym g ∙ f in
+        let n : isNamed ps e ≡ false = sym (named-is ps m fit e k) ∙ sym g ∙ f in
         (rw n, omega (arith, states-most))
 
     module _ (f : b ≡ true) (r : Bool) (q : r ≡ firstsIn ps s e (pairsIn ps)) where
-      is-named : named ps e ≡ true
+      is-named : isNamed ps e ≡ true
       is-named = sym (named-is ps m fit e k) ∙ sym g ∙ f
 
       pub arrow-goes : r ≡ true → (x : ℕ) → x ≡ ones-below m e → Arrow s e (bitOr s ((1 * 2 ^ x) % 2 ^ 64))
@@ -147,36 +147,36 @@ module _ (ps : List ℕ) (m : ℕ) (fit : Fit ps m) where
           rw (is-named, w) (refl, omega arith)
 
   -- the state after a named event whose firsts are recorded is a state
-  pub sets-below : (s e : ℕ) → s < statesOf ps → e < events → named ps e ≡ true → bitOr s (2 ^ place ps e) < statesOf ps
-  sets-below s e h k n = or-lt (namedCount ps) s (2 ^ place ps e) h (pow-lt {i = place ps e} {j = namedCount ps} (count-less (named ps) events e k n))
+  pub sets-below : (s e : ℕ) → s < statesOf ps → e < events → isNamed ps e ≡ true → bitOr s (2 ^ place ps e) < statesOf ps
+  sets-below s e h k n = or-lt (namedCount ps) s (2 ^ place ps e) h (pow-lt {i = place ps e} {j = namedCount ps} (count-less (isNamed ps) events e k n))
 
   -- an event goes on exactly if it is named and its firsts are recorded
-  pub on-is : (s e : ℕ) → s < statesOf ps → e < events → onOf ps s e ≡ cond (named ps e && firstsIn ps s e (pairsIn ps)) (bitOr s (2 ^ place ps e)) s
+  pub on-is : (s e : ℕ) → s < statesOf ps → e < events → onOf ps s e ≡ cond (isNamed ps e && firstsIn ps s e (pairsIn ps)) (bitOr s (2 ^ place ps e)) s
   unfolding arrowOf
-  on-is s e h k = go (named ps e) (firstsIn ps s e (pairsIn ps)) refl
+  on-is s e h k = go (isNamed ps e) (firstsIn ps s e (pairsIn ps)) refl
     where
       pick : ℕ → ℕ
       pick a = cond (eqb a noArrow) s a
 
-      go : (n f : Bool) → named ps e ≡ n → pick (cond n (cond f (bitOr s (2 ^ place ps e)) noArrow) s) ≡ cond (n && f) (bitOr s (2 ^ place ps e)) s
+      go : (n f : Bool) → isNamed ps e ≡ n → pick (cond n (cond f (bitOr s (2 ^ place ps e)) noArrow) s) ≡ cond (n && f) (bitOr s (2 ^ place ps e)) s
       go true true t = rw (ne-eqb (bitOr s (2 ^ place ps e)) noArrow (λ z. omega (arith, sets-below s e h k t, states-most)))
       go true false t = refl
       go false f t = rw (ne-eqb s noArrow (λ z. omega (arith, states-most)))
 
   -- an event has no arrow exactly if it is named and a first is not recorded
-  pub stuck-is : (s e : ℕ) → s < statesOf ps → e < events → stuck ps s e ≡ (named ps e && not (firstsIn ps s e (pairsIn ps)))
+  pub stuck-is : (s e : ℕ) → s < statesOf ps → e < events → stuck ps s e ≡ (isNamed ps e && not (firstsIn ps s e (pairsIn ps)))
   unfolding arrowOf
-  stuck-is s e h k = go (named ps e) (firstsIn ps s e (pairsIn ps)) refl
+  stuck-is s e h k = go (isNamed ps e) (firstsIn ps s e (pairsIn ps)) refl
     where
-      go : (n f : Bool) → named ps e ≡ n → eqb (cond n (cond f (bitOr s (2 ^ place ps e)) noArrow) s) noArrow ≡ (n && not f)
+      go : (n f : Bool) → isNamed ps e ≡ n → eqb (cond n (cond f (bitOr s (2 ^ place ps e)) noArrow) s) noArrow ≡ (n && not f)
       go true true t = ne-eqb (bitOr s (2 ^ place ps e)) noArrow (λ z. omega (arith, sets-below s e h k t, states-most))
       go true false t = refl
       go false f t = ne-eqb s noArrow (λ z. omega (arith, states-most))
 
   pub on-below : (s e : ℕ) → s < statesOf ps → e < events → onOf ps s e < statesOf ps
-  on-below s e h k = rw (on-is s e h k) (go (named ps e) (firstsIn ps s e (pairsIn ps)) refl)
+  on-below s e h k = rw (on-is s e h k) (go (isNamed ps e) (firstsIn ps s e (pairsIn ps)) refl)
     where
-      go : (n f : Bool) → named ps e ≡ n → cond (n && f) (bitOr s (2 ^ place ps e)) s < statesOf ps
+      go : (n f : Bool) → isNamed ps e ≡ n → cond (n && f) (bitOr s (2 ^ place ps e)) s < statesOf ps
       go true true t = sets-below s e h k t
       go true false t = h
       go false f t = h
@@ -191,7 +191,7 @@ module _ (ps : List ℕ) (m : ℕ) (fit : Fit ps m) where
 
 -- ---- the table
 
-pub row-below : (ps : List ℕ) (i n : ℕ) → n ≡ bytesOf ps → i < n → i / events < statesOf ps
+pub row-below : (ps : List ℕ) (i n : ℕ) → n ≡ tableBytes ps → i < n → i / events < statesOf ps
 row-below ps i n e h = omega arith
 
 -- ---- turns and what is stuck
@@ -242,11 +242,11 @@ all-done p e m f h k = let q : e ≡ events = omega arith in f ∙ ap (mapOf p) 
 pub ones-fit : (p : ℕ → Bool) (m : ℕ) → m ≡ mapOf p events → ones m < 2 ^ 64
 ones-fit p m e = rw e (omega (arith, ones-le events (mapOf p events) (map-lt p events)))
 
-pub right-is : (ps : List ℕ) (m : ℕ) (r : Bool) → m ≡ mapOf (named ps) events → r ≡ known ps → ((r && eqb (length ps % 2) 0) && leb (ones m) mostNamed) ≡ pairsRight ps
+pub right-is : (ps : List ℕ) (m : ℕ) (r : Bool) → m ≡ mapOf (isNamed ps) events → r ≡ known ps → ((r && eqb (length ps % 2) 0) && leb (ones m) mostNamed) ≡ pairsRight ps
 unfolding pairsRight
-right-is ps m r e f = rw (f, e, map-ones (named ps) events)
+right-is ps m r e f = rw (f, e, map-ones (isNamed ps) events)
 
-module _ (ps : List ℕ) (m : ℕ) (e : m ≡ mapOf (named ps) events) (r : Bool) (g : r ≡ pairsRight ps) where
+module _ (ps : List ℕ) (m : ℕ) (e : m ≡ mapOf (isNamed ps) events) (r : Bool) (g : r ≡ pairsRight ps) where
   pub fit-of : r ≡ true → Fit ps m
   unfolding pairsRight
   fit-of t =
@@ -254,10 +254,10 @@ module _ (ps : List ℕ) (m : ℕ) (e : m ≡ mapOf (named ps) events) (r : Bool
       record { below = both (known ps) _ (f .0) .0; few = leb-true (namedCount ps) mostNamed (f .1); map = e }
 
   pub few-ones : r ≡ true → ones m ≤ mostNamed
-  few-ones t = rw (ap ones e ∙ map-ones (named ps) events) (fit-of t .few)
+  few-ones t = rw (ap ones e ∙ map-ones (isNamed ps) events) (fit-of t .few)
 
   pub states-are : (s : ℕ) → s ≡ 2 ^ ones m → s ≡ statesOf ps
-  states-are s f = f ∙ ap (λ (x : ℕ). 2 ^ x) (ap ones e ∙ map-ones (named ps) events)
+  states-are s f = f ∙ ap (λ (x : ℕ). 2 ^ x) (ap ones e ∙ map-ones (isNamed ps) events)
 
   -- what is answered and left
   abbrev pub Makes : List ℕ → Made → List ℕ → Type 0
@@ -267,15 +267,15 @@ module _ (ps : List ℕ) (m : ℕ) (e : m ≡ mapOf (named ps) events) (r : Bool
   unfolding makeOf makeTable makeAnswer
   no-pairs t made f q = rw (← g, f) (q, refl)
 
-  pub no-room : (t : List ℕ) (made : Made) (b : ℕ) → r ≡ true → b ≡ bytesOf ps → length t < b → made ≡ madeWith (refusal SmallOutput 0) 0 0 → Makes t made t
+  pub no-room : (t : List ℕ) (made : Made) (b : ℕ) → r ≡ true → b ≡ tableBytes ps → length t < b → made ≡ madeWith (refusal SmallOutput 0) 0 0 → Makes t made t
   unfolding makeOf makeTable makeAnswer
-  no-room t made b f z h q = let l : ltb (length t) (bytesOf ps) ≡ true = lt-ltb (length t) (bytesOf ps) (rw z at h) in rw (← g, f, l) (q, refl)
+  no-room t made b f z h q = let l : ltb (length t) (tableBytes ps) ≡ true = lt-ltb (length t) (tableBytes ps) (rw z at h) in rw (← g, f, l) (q, refl)
 
-  pub makes : (t t′ : List ℕ) (made : Made) (b : ℕ) → r ≡ true → b ≡ bytesOf ps → b ≤ length t → t′ ≡ build (entryOf ps) b ++ drop b t → made ≡ madeWith (answer 0 b) (statesOf ps) (neverOf ps) → Makes t made t′
+  pub makes : (t t′ : List ℕ) (made : Made) (b : ℕ) → r ≡ true → b ≡ tableBytes ps → b ≤ length t → t′ ≡ build (entryOf ps) b ++ drop b t → made ≡ madeWith (answer 0 b) (statesOf ps) (neverOf ps) → Makes t made t′
   unfolding makeOf makeTable makeAnswer
   makes t t′ made b f z h w q =
-      let l : ltb (length t) (bytesOf ps) ≡ false = le-ltb (length t) (bytesOf ps) (rw z at h) in
-      rw (← g, f, l, length-build (entryOf ps) (bytesOf ps)) (rw z at q, rw z at w)
+      let l : ltb (length t) (tableBytes ps) ≡ false = le-ltb (length t) (tableBytes ps) (rw z at h) in
+      rw (← g, f, l, length-build (entryOf ps) (tableBytes ps)) (rw z at q, rw z at w)
 
 pub states-fit : (ps : List ℕ) (m s : ℕ) → Fit ps m → s ≡ statesOf ps → s < 2 ^ 32
 states-fit ps m s fit e = omega (arith, states-most ps m fit)
@@ -286,7 +286,7 @@ never-fits p x e = rw e (map-lt p events)
 pub taken-is : (ps : List ℕ) (b s r x : ℕ) → s ≡ statesOf ps → r ≡ fullOf ps → x ≡ mapOf (stuck ps r) events → (a : Answer) → a ≡ answer 0 b → madeWith a s x ≡ madeWith (answer 0 b) (statesOf ps) (neverOf ps)
 taken-is ps b s r x e f g a ea = let h : x ≡ neverOf ps = g ∙ ap (λ (y : ℕ). mapOf (stuck ps y) events) f in rw (ea, e, h)
 
-pub bytes-are : (ps : List ℕ) (s : ℕ) → s ≡ statesOf ps → events * s ≡ bytesOf ps
+pub bytes-are : (ps : List ℕ) (s : ℕ) → s ≡ statesOf ps → events * s ≡ tableBytes ps
 bytes-are ps s e = rw e
 
 pub bytes-fit : (ps : List ℕ) (m s : ℕ) → Fit ps m → s ≡ statesOf ps → events * s < 2 ^ 64

@@ -15,7 +15,7 @@ use Rattle.rules.specs.Names.{events, noArrow}
 use Rattle.rules.specs.Policies.{Policy, arrow, stateFrom, allowedFrom, allowed}
 use Rattle.rules.proofs.Bools.{no, cases, both, either, join, or-left, or-right}
 use Rattle.policy_maps.specs.Maps.{count, mapOf, bit}
-use Rattle.policy_precedence.specs.Precedence.{Fit, mostNamed, named, namedCount, pairsIn, firstAt, place, statesOf, firstsIn, arrowOf, stuck, onOf, turnsOf, fullOf, neverOf, madePolicy}
+use Rattle.policy_precedence.specs.Precedence.{Fit, mostNamed, isNamed, namedCount, pairsIn, firstAt, place, statesOf, firstsIn, arrowOf, stuck, onOf, turnsOf, fullOf, neverOf, madePolicy}
 use Rattle.policy_precedence.specs.Claims.{Unheard, NeverLaws, NeverAllowed}
 use Rattle.policy_maps.proofs.Maps.{bit-or, bit-same, bit-zero, bit-map, bit-high, bit-kept, map-lt, count-le, count-sub-less}
 use Rattle.policy_precedence.proofs.Laws.{on-is, stuck-is, turns-below, place-less}
@@ -33,18 +33,18 @@ size s = count (bit s) mostNamed
 module _ (ps : List ℕ) (m : ℕ) (fit : Fit ps m) where
   -- a turn leaves the state as it is, or sets one bit more
   grows : (s e : ℕ) → s < statesOf ps → e < events → (onOf ps s e ≡ s) ⊎ (size s < size (onOf ps s e))
-  grows s e h k = go (named ps e) refl (firstsIn ps s e (pairsIn ps)) refl (bit s (place ps e)) refl
+  grows s e h k = go (isNamed ps e) refl (firstsIn ps s e (pairsIn ps)) refl (bit s (place ps e)) refl
     where
       p : ℕ
       p = place ps e
 
-      is : (n f : Bool) → named ps e ≡ n → firstsIn ps s e (pairsIn ps) ≡ f → onOf ps s e ≡ cond (n && f) (bitOr s (2 ^ p)) s
+      is : (n f : Bool) → isNamed ps e ≡ n → firstsIn ps s e (pairsIn ps) ≡ f → onOf ps s e ≡ cond (n && f) (bitOr s (2 ^ p)) s
       is n f a b = on-is ps m fit s e h k ∙ ap₂ (λ (x y : Bool). cond (x && y) (bitOr s (2 ^ p)) s) a b
 
       set : (i : ℕ) → bit s i ≡ true → bit (bitOr s (2 ^ p)) i ≡ true
       set i t = bit-or s (2 ^ p) i ∙ or-left (bit s i) (bit (2 ^ p) i) t
 
-      go : (n : Bool) → named ps e ≡ n → (f : Bool) → firstsIn ps s e (pairsIn ps) ≡ f → (b : Bool) → bit s p ≡ b → (onOf ps s e ≡ s) ⊎ (size s < size (onOf ps s e))
+      go : (n : Bool) → isNamed ps e ≡ n → (f : Bool) → firstsIn ps s e (pairsIn ps) ≡ f → (b : Bool) → bit s p ≡ b → (onOf ps s e ≡ s) ⊎ (size s < size (onOf ps s e))
       go false a f c b d = inl (is false f a c)
       go true a false c b d = inl (is true false a c)
       go true a true c true d = inl (is true true a c ∙ bit-kept s p d)
@@ -154,12 +154,12 @@ module _ (ps : List ℕ) (m : ℕ) (fit : Fit ps m) where
       (λ g. ap (λ (x : ℕ). bit x i) (sym c) ∙ bit-or (fullOf ps) (2 ^ place ps e) i ∙ or-right (bit (fullOf ps) i) (bit (2 ^ place ps e) i) g)
       (either (bit s i) (bit (2 ^ place ps e) i) (sym (bit-or s (2 ^ place ps e) i) ∙ u ∙ b)))
       (λ n i b. w i (ap (λ (x : ℕ). bit x i) (sym (moves-unnamed ps m fit s e h k t n)) ∙ b))
-      (cases (named ps e))
+      (cases (isNamed ps e))
 
   -- stuck in the full state, stuck in every state within it
   stuck-within : (s e : ℕ) → s < statesOf ps → e < events → Within s (fullOf ps) → stuck ps (fullOf ps) e ≡ true → stuck ps s e ≡ true
   stuck-within s e h k w t =
-      let u = both (named ps e) _ (sym (stuck-is ps m fit (fullOf ps) e (turns-below ps m fit (mostNamed * events)) k) ∙ t) in
+      let u = both (isNamed ps e) _ (sym (stuck-is ps m fit (fullOf ps) e (turns-below ps m fit (mostNamed * events)) k) ∙ t) in
       ⊎-elim
       (λ f. no (sym (not-true _ (u .1)) ∙ firsts-within s (fullOf ps) e w f))
       (λ f. stuck-is ps m fit s e h k ∙ ap₂ (λ (x y : Bool). x && not y) (u .0) f)
@@ -252,4 +252,4 @@ module _ (ps : List ℕ) (m : ℕ) (fit : Fit ps m) where
       low t = ⊎-elim (λ l. ltb-true e events l) (λ l. no (sym (bit-high (neverOf ps) events e (map-lt (stuck ps (fullOf ps)) events) (ltb-false e events l)) ∙ t)) (cases (ltb e events))
 
 pub never-allowed : NeverAllowed
-never-allowed ps e t = never-laws ps (mapOf (named ps) events) (fit-right ps t) e
+never-allowed ps e t = never-laws ps (mapOf (isNamed ps) events) (fit-right ps t) e

@@ -15,25 +15,25 @@ use Rattle.rules.specs.Names.{events}
 use Rattle.rules.specs.Policies.{allowedFrom, allowed}
 use Rattle.rules.proofs.Bools.{no, cases, both, either, join, or-left, or-right}
 use Rattle.policy_maps.specs.Maps.{mapOf, bit}
-use Rattle.policy_precedence.specs.Precedence.{Fit, namedIn, named, namedCount, pairsIn, firstAt, secondAt, place, statesOf, firstsIn, arrowOf, stuck, onOf, madePolicy}
+use Rattle.policy_precedence.specs.Precedence.{Fit, namedIn, isNamed, namedCount, pairsIn, firstAt, secondAt, place, statesOf, firstsIn, arrowOf, stuck, onOf, madePolicy}
 use Rattle.policy_precedence.specs.Claims.{Among, AreEvents, OrderLaws, AllowedInOrder}
 use Rattle.policy_maps.proofs.Maps.{every-at, every-all, some-at, count-less, bit-or, bit-same, bit-other, bit-zero}
 use Rattle.policy_precedence.proofs.Laws.{on-is, on-below, stuck-is}
 use Rattle.policy_precedence.proofs.Policies.{fit-right, arrow-is}
 
 -- an event of the list is named
-pub is-named : (ps : List ℕ) (i : ℕ) → i < length ps → named ps (getD ps i 0) ≡ true
+pub is-named : (ps : List ℕ) (i : ℕ) → i < length ps → isNamed ps (getD ps i 0) ≡ true
 unfolding namedIn
 is-named ps i h = some-at _ (length ps) i h (eq-eqb (getD ps i 0) (getD ps i 0) refl)
 
 -- two named events have two bits
-pub place-apart : (ps : List ℕ) (e f : ℕ) → named ps e ≡ true → named ps f ≡ true → place ps e ≡ place ps f → e ≡ f
+pub place-apart : (ps : List ℕ) (e f : ℕ) → isNamed ps e ≡ true → isNamed ps f ≡ true → place ps e ≡ place ps f → e ≡ f
 place-apart ps e f m n q = go (eqb e f) refl (ltb e f) refl
   where
     go : (b : Bool) → eqb e f ≡ b → (c : Bool) → ltb e f ≡ c → e ≡ f
     go true t c u = eqb-true e f t
-    go false t true u = absurd (omega (arith, count-less (named ps) f e (ltb-true e f u) m))
-    go false t false u = absurd (omega (arith, count-less (named ps) e f (omega (arith, eqb-false e f t, ltb-false e f u)) n))
+    go false t true u = absurd (omega (arith, count-less (isNamed ps) f e (ltb-true e f u) m))
+    go false t false u = absurd (omega (arith, count-less (isNamed ps) e f (omega (arith, eqb-false e f t, ltb-false e f u)) n))
 
 -- firsts recorded, taken apart and put together
 pub first-recorded : (ps : List ℕ) (s e j : ℕ) → firstsIn ps s e (pairsIn ps) ≡ true → j < pairsIn ps → secondAt ps j ≡ e → bit s (place ps (firstAt ps j)) ≡ true
@@ -54,25 +54,25 @@ firsts-recorded ps s e f = every-all _ (pairsIn ps) (λ j h. go j h (eqb (second
 
 -- an event that has an arrow sets its bit if it is named
 module _ (ps : List ℕ) (m : ℕ) (fit : Fit ps m) (s e : ℕ) (h : s < statesOf ps) (k : e < events) where
-  pub open-firsts : stuck ps s e ≡ false → named ps e ≡ true → firstsIn ps s e (pairsIn ps) ≡ true
+  pub open-firsts : stuck ps s e ≡ false → isNamed ps e ≡ true → firstsIn ps s e (pairsIn ps) ≡ true
   open-firsts t n =
       let u : (true && not (firstsIn ps s e (pairsIn ps))) ≡ false = ap (λ (b : Bool). b && not (firstsIn ps s e (pairsIn ps))) (sym n) ∙ sym (stuck-is ps m fit s e h k) ∙ t in
       not-false _ u
 
-  pub firsts-open : (named ps e ≡ true → firstsIn ps s e (pairsIn ps) ≡ true) → stuck ps s e ≡ false
-  firsts-open f = stuck-is ps m fit s e h k ∙ go (named ps e) refl
+  pub firsts-open : (isNamed ps e ≡ true → firstsIn ps s e (pairsIn ps) ≡ true) → stuck ps s e ≡ false
+  firsts-open f = stuck-is ps m fit s e h k ∙ go (isNamed ps e) refl
     where
-      go : (b : Bool) → named ps e ≡ b → (b && not (firstsIn ps s e (pairsIn ps))) ≡ false
+      go : (b : Bool) → isNamed ps e ≡ b → (b && not (firstsIn ps s e (pairsIn ps))) ≡ false
       go true n = ap not (f n)
       go false n = refl
 
   pub moves : stuck ps s e ≡ false → arrowOf ps s e ≡ onOf ps s e
   moves t = rw t
 
-  pub moves-named : stuck ps s e ≡ false → named ps e ≡ true → arrowOf ps s e ≡ bitOr s (2 ^ place ps e)
+  pub moves-named : stuck ps s e ≡ false → isNamed ps e ≡ true → arrowOf ps s e ≡ bitOr s (2 ^ place ps e)
   moves-named t n = moves t ∙ on-is ps m fit s e h k ∙ rw (n, open-firsts t n)
 
-  pub moves-unnamed : stuck ps s e ≡ false → named ps e ≡ false → arrowOf ps s e ≡ s
+  pub moves-unnamed : stuck ps s e ≡ false → isNamed ps e ≡ false → arrowOf ps s e ≡ s
   moves-unnamed t n = moves t ∙ on-is ps m fit s e h k ∙ rw n
 
   pub moves-below : stuck ps s e ≡ false → arrowOf ps s e < statesOf ps
@@ -82,8 +82,8 @@ module _ (ps es : List ℕ) (m : ℕ) (fit : Fit ps m) where
   -- a state records the named events among the first i
   record Tracks (s i : ℕ) : Type 0 where
     state : s < statesOf ps
-    heard : (f : ℕ) → named ps f ≡ true → bit s (place ps f) ≡ true → Among es i f
-    kept : (f : ℕ) → named ps f ≡ true → Among es i f → bit s (place ps f) ≡ true
+    heard : (f : ℕ) → isNamed ps f ≡ true → bit s (place ps f) ≡ true → Among es i f
+    kept : (f : ℕ) → isNamed ps f ≡ true → Among es i f → bit s (place ps f) ≡ true
 
   later : (i f : ℕ) → Among es i f → Among es (suc i) f
   later i f a = record { at = a .at; below = omega (arith, a .below); is = a .is }
@@ -97,12 +97,12 @@ module _ (ps es : List ℕ) (m : ℕ) (fit : Fit ps m) where
       go false t = inr (record { at = a .at; below = omega (arith, a .below, eqb-false (a .at) i t); is = a .is })
 
   tracks-on : (s i : ℕ) → Tracks s i → getD es i 0 < events → stuck ps s (getD es i 0) ≡ false → Tracks (arrowOf ps s (getD es i 0)) (suc i)
-  tracks-on s i r k t = ⊎-elim of-named of-unnamed (cases (named ps x))
+  tracks-on s i r k t = ⊎-elim of-named of-unnamed (cases (isNamed ps x))
     where
       x : ℕ
       x = getD es i 0
 
-      of-named : named ps x ≡ true → Tracks (arrowOf ps s x) (suc i)
+      of-named : isNamed ps x ≡ true → Tracks (arrowOf ps s x) (suc i)
       of-named n =
           let p = place ps x in
           let e : (f : ℕ) → bit (arrowOf ps s x) (place ps f) ≡ (bit s (place ps f) || bit (2 ^ p) (place ps f)) = λ f. ap (λ (y : ℕ). bit y (place ps f)) (moves-named ps m fit s x (r .state) k t n) ∙ bit-or s (2 ^ p) (place ps f) in
@@ -115,13 +115,13 @@ module _ (ps es : List ℕ) (m : ℕ) (fit : Fit ps m) where
           same : (p q : ℕ) → bit (2 ^ p) q ≡ true → p ≡ q
           same p q c = ⊎-elim (λ u. eqb-true p q u) (λ u. no (sym (bit-other p q (eqb-false p q u)) ∙ c)) (cases (eqb p q))
 
-      of-unnamed : named ps x ≡ false → Tracks (arrowOf ps s x) (suc i)
+      of-unnamed : isNamed ps x ≡ false → Tracks (arrowOf ps s x) (suc i)
       of-unnamed n =
           let e : arrowOf ps s x ≡ s = moves-unnamed ps m fit s x (r .state) k t n in
           record {
             state = moves-below ps m fit s x (r .state) k t;
             heard = λ f nf b. later i f (r .heard f nf (ap (λ (y : ℕ). bit y (place ps f)) (sym e) ∙ b));
-            kept = λ f nf a. ap (λ (y : ℕ). bit y (place ps f)) e ∙ ⊎-elim (λ c. no (sym n ∙ ap (named ps) c ∙ nf)) (λ c. r .kept f nf c) (last i f a);
+            kept = λ f nf a. ap (λ (y : ℕ). bit y (place ps f)) e ∙ ⊎-elim (λ c. no (sym n ∙ ap (isNamed ps) c ∙ nf)) (λ c. r .kept f nf c) (last i f a);
           }
 
   starts : Tracks 0 0
@@ -147,7 +147,7 @@ module _ (ps es : List ℕ) (m : ℕ) (fit : Fit ps m) where
     unfolding AtPlace
     at-place s i h r t j l q =
         let x = getD es i 0 in
-        let n : named ps x ≡ true = ap (named ps) (sym q) ∙ is-named ps (2 * j + 1) (omega arith) in
+        let n : isNamed ps x ≡ true = ap (isNamed ps) (sym q) ∙ is-named ps (2 * j + 1) (omega arith) in
         let b = first-recorded ps s x j (open-firsts ps m fit s x (r .state) (are i h) t n) l q in
         r .heard (firstAt ps j) (is-named ps (2 * j) (omega arith)) b
 
@@ -186,4 +186,4 @@ module _ (ps es : List ℕ) (m : ℕ) (fit : Fit ps m) where
     }
 
 pub allowed-in-order : AllowedInOrder
-allowed-in-order ps es t are = order-laws ps es (mapOf (named ps) events) (fit-right ps t) are
+allowed-in-order ps es t are = order-laws ps es (mapOf (isNamed ps) events) (fit-right ps t) are

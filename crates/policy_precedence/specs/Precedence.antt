@@ -31,12 +31,12 @@ secondAt ps i = getD ps (2 * i + 1) 0
 unfoldable pub namedIn : List ℕ → ℕ → ℕ → Bool
 namedIn ps n e = some (λ j. eqb (getD ps j 0) e) n
 
-abbrev pub named : List ℕ → ℕ → Bool
-named ps e = namedIn ps (length ps) e
+abbrev pub isNamed : List ℕ → ℕ → Bool
+isNamed ps e = namedIn ps (length ps) e
 
 -- how many events are named
 abbrev pub namedCount : List ℕ → ℕ
-namedCount ps = count (named ps) events
+namedCount ps = count (isNamed ps) events
 
 -- no 'event above 15' among the first n numbers
 unfoldable pub knownIn : List ℕ → ℕ → Bool
@@ -53,11 +53,11 @@ pairsRight ps = known ps && eqb (length ps % 2) 0 && leb (namedCount ps) mostNam
 pub record Fit (ps : List ℕ) (m : ℕ) : Type 0 where
   pub below : known ps ≡ true
   pub few : namedCount ps ≤ mostNamed
-  pub map : m ≡ mapOf (named ps) events
+  pub map : m ≡ mapOf (isNamed ps) events
 
 -- 'bit k stands for the k-th smallest named event, counted from 0': as many named events are smaller
 abbrev pub place : List ℕ → ℕ → ℕ
-place ps e = count (named ps) e
+place ps e = count (isNamed ps) e
 
 -- 'A state is the map of named events already recorded'; 'all such maps are states'
 abbrev pub statesOf : List ℕ → ℕ
@@ -69,17 +69,17 @@ firstsIn ps s e n = every (λ i. not (eqb (secondAt ps i) e) || bit s (place ps 
 
 -- 'Unnamed events stay in their state'; 'A named event sets its bit, and has an arrow exactly in the states where all its firsts are recorded'
 unfoldable pub arrowOf : List ℕ → ℕ → ℕ → ℕ
-arrowOf ps s e = cond (named ps e) (cond (firstsIn ps s e (pairsIn ps)) (bitOr s (2 ^ place ps e)) noArrow) s
+arrowOf ps s e = cond (isNamed ps e) (cond (firstsIn ps s e (pairsIn ps)) (bitOr s (2 ^ place ps e)) noArrow) s
 
 -- byte 16 × s + e of the table
 abbrev pub entryOf : List ℕ → ℕ → ℕ
 entryOf ps i = arrowOf ps (i / events) (i % events)
 
-abbrev pub bytesOf : List ℕ → ℕ
-bytesOf ps = events * statesOf ps
+abbrev pub tableBytes : List ℕ → ℕ
+tableBytes ps = events * statesOf ps
 
 abbrev pub tableOf : List ℕ → List ℕ
-tableOf ps = build (entryOf ps) (bytesOf ps)
+tableOf ps = build (entryOf ps) (tableBytes ps)
 
 -- 'the policy in which the second of a pair has an arrow only once the first has been recorded'; 'the start state is 0'
 abbrev pub madePolicy : List ℕ → Policy
@@ -108,7 +108,7 @@ neverOf ps = mapOf (stuck ps (fullOf ps)) events
 
 -- '17 .. comes first. 9 follows it'
 unfoldable pub makeAnswer : List ℕ → ℕ → Answer
-makeAnswer ps room = first ((not (pairsRight ps), refusal BadPair 0) ∷ []) (roomFor room (bytesOf ps))
+makeAnswer ps room = first ((not (pairsRight ps), refusal BadPair 0) ∷ []) (roomFor room (tableBytes ps))
 
 -- 'After a reject all else handed back is 0'
 abbrev pub madeWith : Answer → ℕ → ℕ → Made

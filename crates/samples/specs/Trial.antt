@@ -13,13 +13,13 @@ use Rattle.sandbox_rules.specs.Claims.{loadedAt}
 use Rattle.samples.specs.Sample.{layout, policy as samplePolicy}
 
 -- the numbers from x on, n of them
-abbrev pub numbersFrom : ℕ → ℕ → List ℕ
-numbersFrom x zero = []
-numbersFrom x (suc n) = x ∷ numbersFrom (suc x) n
+abbrev pub upFrom : ℕ → ℕ → List ℕ
+upFrom x zero = []
+upFrom x (suc n) = x ∷ upFrom (suc x) n
 
 -- 'row 0 stays in 0 but event 2 (door) goes to 1; row 1 stays in 1 but has no arrow for event 0 (gas)'; 'lists all 1,024 landings'
 abbrev pub policy : Policy
-policy = policyOf 2 0 (samplePolicy .table) (numbersFrom 0 mostBundles)
+policy = policyOf 2 0 (samplePolicy .table) (upFrom 0 mostBundles)
 
 -- 'Input, hexadecimal'
 abbrev pub input : List ℕ

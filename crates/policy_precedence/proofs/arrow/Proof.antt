@@ -24,15 +24,15 @@ shl-result c = search needs
 
 returns-2 : tie.Need-returns-2
 returns-2 c =
-    let named = c .before .before .before in
-    let start = named .before .before .before in
-    arrow-goes (now (start .args .pairs)) (start .args .names) (start .pre .0) (start .args .s) (start .args .e) (start .pre .1) (start .pre .2) _ (named .before .bit-set .ensures) (not-false _ (named .if1 .left)) _ (c .before .before .firsts-recorded .ensures) (c .before .if2 .taken) _ (c .place .ensures .0)
+    let isNamed = c .before .before .before in
+    let start = isNamed .before .before .before in
+    arrow-goes (now (start .args .pairs)) (start .args .names) (start .pre .0) (start .args .s) (start .args .e) (start .pre .1) (start .pre .2) _ (isNamed .before .bit-set .ensures) (not-false _ (isNamed .if1 .left)) _ (c .before .before .firsts-recorded .ensures) (c .before .if2 .taken) _ (c .place .ensures .0)
 
 returns-3 : tie.Need-returns-3
 returns-3 c =
-    let named = c .before .before in
-    let start = named .before .before .before in
-    arrow-none (now (start .args .pairs)) (start .args .names) (start .pre .0) (start .args .s) (start .args .e) (start .pre .1) (start .pre .2) _ (named .before .bit-set .ensures) (not-false _ (named .if1 .left)) _ (c .before .firsts-recorded .ensures) (c .if2 .left)
+    let isNamed = c .before .before in
+    let start = isNamed .before .before .before in
+    arrow-none (now (start .args .pairs)) (start .args .names) (start .pre .0) (start .args .s) (start .args .e) (start .pre .1) (start .pre .2) _ (isNamed .before .bit-set .ensures) (not-false _ (isNamed .if1 .left)) _ (c .before .firsts-recorded .ensures) (c .if2 .left)
 
 pub arrow-spec : {M : Type 1} → statement M
 arrow-spec =

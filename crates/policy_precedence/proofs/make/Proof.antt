@@ -18,23 +18,23 @@ refused-requires c κs = search needs
 returns : tie.Need-returns
 returns c =
     let judged = c .before .before in
-    let named = judged .before in
-    let start = named .before .before .before in
-    no-pairs (now (start .args .pairs)) _ (named .names .ensures) _ (judged .right .ensures) (now (start .args .table)) _ (not-true _ (c .before .if1 .taken)) (c .refused .ensures)
+    let isNamed = judged .before in
+    let start = isNamed .before .before .before in
+    no-pairs (now (start .args .pairs)) _ (isNamed .names .ensures) _ (judged .right .ensures) (now (start .args .table)) _ (not-true _ (c .before .if1 .taken)) (c .refused .ensures)
 
 states-requires : tie.Need-states-requires
 states-requires c κs =
     let judged = c .before in
-    let named = judged .before in
-    few-ones (now (named .before .before .before .args .pairs)) _ (named .names .ensures) _ (judged .right .ensures) (not-false _ (c .if1 .left))
+    let isNamed = judged .before in
+    few-ones (now (isNamed .before .before .before .args .pairs)) _ (isNamed .names .ensures) _ (judged .right .ensures) (not-false _ (c .if1 .left))
 
 mul-bytes : tie.Need-mul-bytes
 mul-bytes c =
     let judged = c .before .before in
-    let named = judged .before in
-    let ps = now (named .before .before .before .args .pairs) in
-    let fit = fit-of ps _ (named .names .ensures) _ (judged .right .ensures) (not-false _ (c .before .if1 .left)) in
-    record { fits = bytes-fit ps _ _ fit (states-are ps _ (named .names .ensures) _ (judged .right .ensures) _ (c .states .ensures)) }
+    let isNamed = judged .before in
+    let ps = now (isNamed .before .before .before .args .pairs) in
+    let fit = fit-of ps _ (isNamed .names .ensures) _ (judged .right .ensures) (not-false _ (c .before .if1 .left)) in
+    record { fits = bytes-fit ps _ _ fit (states-are ps _ (isNamed .names .ensures) _ (judged .right .ensures) _ (c .states .ensures)) }
 
 refused-requires-2 : tie.Need-refused-requires-2
 refused-requires-2 c κs = search needs
@@ -43,28 +43,28 @@ returns-2 : tie.Need-returns-2
 returns-2 c =
     let counted = c .before .before in
     let judged = counted .before .before in
-    let named = judged .before in
-    let start = named .before .before .before in
+    let isNamed = judged .before in
+    let start = isNamed .before .before .before in
     let ps = now (start .args .pairs) in
-    let are = states-are ps _ (named .names .ensures) _ (judged .right .ensures) _ (counted .states .ensures) in
-    no-room ps _ (named .names .ensures) _ (judged .right .ensures) (now (start .args .table)) _ _ (not-false _ (counted .before .if1 .left)) (bytes-are ps _ are) (c .before .if2 .taken) (c .refused2 .ensures)
+    let are = states-are ps _ (isNamed .names .ensures) _ (judged .right .ensures) _ (counted .states .ensures) in
+    no-room ps _ (isNamed .names .ensures) _ (judged .right .ensures) (now (start .args .table)) _ _ (not-false _ (counted .before .if1 .left)) (bytes-are ps _ are) (c .before .if2 .taken) (c .refused2 .ensures)
 
 fill-requires : tie.Need-fill-requires
 fill-requires c κs =
     let counted = c .before .before in
     let judged = counted .before .before in
-    let named = judged .before in
-    let ps = now (named .before .before .before .args .pairs) in
-    let are = states-are ps _ (named .names .ensures) _ (judged .right .ensures) _ (counted .states .ensures) in
-    (fit-of ps _ (named .names .ensures) _ (judged .right .ensures) (not-false _ (counted .before .if1 .left)), bytes-are ps _ are, c .before .if2 .left)
+    let isNamed = judged .before in
+    let ps = now (isNamed .before .before .before .args .pairs) in
+    let are = states-are ps _ (isNamed .names .ensures) _ (judged .right .ensures) _ (counted .states .ensures) in
+    (fit-of ps _ (isNamed .names .ensures) _ (judged .right .ensures) (not-false _ (counted .before .if1 .left)), bytes-are ps _ are, c .before .if2 .left)
 
 taken-requires : tie.Need-taken-requires
 taken-requires c κs =
     let counted = c .before .before .before .before .before in
     let judged = counted .before .before in
-    let named = judged .before in
-    let ps = now (named .before .before .before .args .pairs) in
-    (fit-of ps _ (named .names .ensures) _ (judged .right .ensures) (not-false _ (counted .before .if1 .left)), states-are ps _ (named .names .ensures) _ (judged .right .ensures) _ (counted .states .ensures))
+    let isNamed = judged .before in
+    let ps = now (isNamed .before .before .before .args .pairs) in
+    (fit-of ps _ (isNamed .names .ensures) _ (judged .right .ensures) (not-false _ (counted .before .if1 .left)), states-are ps _ (isNamed .names .ensures) _ (judged .right .ensures) _ (counted .states .ensures))
 
 same-length : tie.Need-same-length
 same-length c = search needs
@@ -75,11 +75,11 @@ returns-3 c =
     let roomy = filled .before .before in
     let counted = roomy .before in
     let judged = counted .before .before in
-    let named = judged .before in
-    let start = named .before .before .before in
+    let isNamed = judged .before in
+    let start = isNamed .before .before .before in
     let ps = now (start .args .pairs) in
-    let are = states-are ps _ (named .names .ensures) _ (judged .right .ensures) _ (counted .states .ensures) in
-    makes ps _ (named .names .ensures) _ (judged .right .ensures) (now (start .args .table)) _ _ _ (not-false _ (counted .before .if1 .left)) (bytes-are ps _ are) (roomy .if2 .left) (filled .fill .ensures) (c .taken .ensures)
+    let are = states-are ps _ (isNamed .names .ensures) _ (judged .right .ensures) _ (counted .states .ensures) in
+    makes ps _ (isNamed .names .ensures) _ (judged .right .ensures) (now (start .args .table)) _ _ _ (not-false _ (counted .before .if1 .left)) (bytes-are ps _ are) (roomy .if2 .left) (filled .fill .ensures) (c .taken .ensures)
 
 pub make-spec : {M : Type 1} → statement M
 make-spec =
