@@ -14,7 +14,7 @@ use Rattle.policy_maps.specs.Maps.{build}
 use Rattle.policy_maps.proofs.Maps.{length-build}
 use Rattle.policy_maps.proofs.Tables.{fill-none, fill-more}
 use Rattle.policy_exploration.specs.declared.Found.{Found}
-use Rattle.policy_exploration.specs.Reach.{place, known, meet, target, met, nodes, stateOf, entryOf, statesOf, tableOf, reachAnswer, reachOf, reachTable}
+use Rattle.policy_exploration.specs.Reach.{place, known, meet, target, met, nodes, stateOf, byteOf, statesOf, tableOf, reachAnswer, reachOf, reachTable}
 use Rattle.policy_exploration.specs.Founds.{Sized, foundAt, listOf, moreOf, stepOf, Holds, Explored, writtenAnswer, writtenOf, writtenTable}
 use Rattle.policy_exploration.specs.Claims.{Arrows}
 use Rattle.policy_exploration.proofs.Places.{place-le, place-append, place-new, Meets, none, again, anew, meets, met-known}
@@ -72,7 +72,7 @@ going f k b e t = let m = more-few f k (sym e ∙ t) in (m .0, omega arith)
 
 module _ (next : ℕ → ℕ → ℕ) (q : ℕ) (ok : Arrows next q) where
   pub holds-start : (f : Found) → f ≡ foundAt q → Holds next q f 0
-  holds-start f e = rw e (record { sized = record { most = omega arith; nodes = refl; arrows = refl }; count = ap length (sym (met-zero next q)); list = sym (met-zero next q); arrows = fill-none (entryOf next (nodes next q)) (replicate (events * mostStates) 0); taken = omega arith; few = omega arith })
+  holds-start f e = rw e (record { sized = record { most = omega arith; nodes = refl; arrows = refl }; count = ap length (sym (met-zero next q)); list = sym (met-zero next q); arrows = fill-none (byteOf next (nodes next q)) (replicate (events * mostStates) 0); taken = omega arith; few = omega arith })
 
   module _ (f : Found) (k : ℕ) (h : Holds next q f k) where
     module _ (b : Bool) (m : b ≡ moreOf f k) (t : b ≡ true) (y x : ℕ) (e : y ≡ getD (f .nodes) (k / events) 0) (g : x ≡ next y (k % events)) where
@@ -91,7 +91,7 @@ module _ (next : ℕ → ℕ → ℕ) (q : ℕ) (ok : Arrows next q) where
           rw n (ap₂ meet (h .list) is-target ∙ sym (met-suc next q k))
 
       -- the number written stays
-      entry : stateOf (listOf f) x ≡ entryOf next (nodes next q) k
+      entry : stateOf (listOf f) x ≡ byteOf next (nodes next q) k
       entry =
           let all = events * mostStates in
           let w : k + (all - k) ≡ all = omega (arith, low, few) in
@@ -116,7 +116,7 @@ module _ (next : ℕ → ℕ → ℕ) (q : ℕ) (ok : Arrows next q) where
             sized = record { most = omega (arith, u .at-most, few); nodes = u .nodes ∙ s .nodes; arrows = u .arrows ∙ s .arrows };
             count = sym (length-take-le (stepOf f k x .count) (stepOf f k x .nodes) (omega (arith, u .at-most, few, u .nodes, s .nodes))) ∙ ap length l;
             list = l;
-            arrows = step-arrows f k x ∙ fill-more (entryOf next (nodes next q)) (replicate (events * mostStates) 0) (f .arrows) k (stateOf (listOf f) x) (h .arrows) (omega (arith, low, few, length-replicate {A = ℕ} (events * mostStates) 0)) entry;
+            arrows = step-arrows f k x ∙ fill-more (byteOf next (nodes next q)) (replicate (events * mostStates) 0) (f .arrows) k (stateOf (listOf f) x) (h .arrows) (omega (arith, low, few, length-replicate {A = ℕ} (events * mostStates) 0)) entry;
             taken = omega (arith, low, u .at-least);
             few = omega (arith, low, few);
           }
@@ -152,7 +152,7 @@ module _ (next : ℕ → ℕ → ℕ) (q : ℕ) (ok : Arrows next q) (f : Found)
       let w : k + (all - k) ≡ all = omega (arith, h .few) in
       let n : nodes next q ≡ met next q k = ap (met next q) (sym w) ∙ rests next q ok k (all - k) (omega (arith, e, h .count)) in
       let c : f .count ≡ statesOf next q = h .count ∙ ap length (sym n) in
-      let a = entryOf next (nodes next q) in
+      let a = byteOf next (nodes next q) in
       record {
         few = t;
         few-nodes = ap (λ (x : ℕ). leb x mostStates) (sym c) ∙ t;

@@ -12,7 +12,7 @@ use Rattle.rules.specs.Names.{mostStates, events, noArrow}
 use Rattle.rules.specs.Policies.{arrow, allowedFrom, allowed, entryRight, rightPolicy}
 use Rattle.policy_maps.proofs.Maps.{length-build, build-at}
 use Rattle.policy_maps.proofs.Tables.{entries-build}
-use Rattle.policy_exploration.specs.Reach.{place, meet, target, met, nodes, stateOf, entryOf, statesOf, tableOf, policyFrom, few, reachAnswer, reachOf, reachTable, after}
+use Rattle.policy_exploration.specs.Reach.{place, meet, target, met, nodes, stateOf, byteOf, statesOf, tableOf, policyFrom, few, reachAnswer, reachOf, reachTable, after}
 use Rattle.policy_exploration.specs.Claims.{Arrows, Reached, Exactly, NodesExact, Makes, TakenReaches, ReachRight, AllowedReaches}
 use Rattle.policy_exploration.proofs.Places.{pigeons, place-at, place-of, place-append, place-new, Meets, none, again, anew, meets, meet-none, met-known, More, meet-more}
 use Rattle.rules.proofs.Bools.{or-left, or-right}
@@ -232,7 +232,7 @@ module _ (next : ℕ → ℕ → ℕ) (q : ℕ) where
       let n = events * i + e in
       let u : n / events ≡ i = omega arith in
       let v : n % events ≡ e = omega arith in
-      rw (lt-ltb e events k) (build-at (entryOf next (nodes next q)) (events * statesOf next q) n noArrow (omega arith) ∙ ap₂ (λ (y d : ℕ). stateOf (nodes next q) (next (getD (nodes next q) y 0) d)) u v)
+      rw (lt-ltb e events k) (build-at (byteOf next (nodes next q)) (events * statesOf next q) n noArrow (omega arith) ∙ ap₂ (λ (y d : ℕ). stateOf (nodes next q) (next (getD (nodes next q) y 0) d)) u v)
 
   module _ (ok : Arrows next q) where
     -- an event above 15 leads nowhere, in the policy too
@@ -257,7 +257,7 @@ module _ (next : ℕ → ℕ → ℕ) (q : ℕ) where
               let n : eqb (place (nodes next q) y) noArrow ≡ false = ne-eqb (place (nodes next q) y) noArrow (λ z. omega arith) in
               rw (ne-eqb y 0 f, n) (r (place (nodes next q) y) p ∙ ap (λ (x : ℕ). not (eqb (after next x es) 0)) g)
 
-      entry-right : (k : ℕ) → k < events * statesOf next q → entryRight (statesOf next q) (entryOf next (nodes next q) k) ≡ true
+      entry-right : (k : ℕ) → k < events * statesOf next q → entryRight (statesOf next q) (byteOf next (nodes next q) k) ≡ true
       entry-right k h = go (target next (nodes next q) k) (leads next q ok s (k / events) (k % events) (omega arith))
         where
           go : (y : ℕ) → Leads next q ok s (k / events) (k % events) y → entryRight (statesOf next q) (stateOf (nodes next q) y) ≡ true
@@ -266,7 +266,7 @@ module _ (next : ℕ → ℕ → ℕ) (q : ℕ) where
 
 length-table : (next : ℕ → ℕ → ℕ) (q : ℕ) → length (tableOf next q) ≡ events * statesOf next q
 unfolding tableOf
-length-table next q = length-build (entryOf next (nodes next q)) (events * statesOf next q)
+length-table next q = length-build (byteOf next (nodes next q)) (events * statesOf next q)
 
 pub allowed-reaches : AllowedReaches
 unfolding allowed
@@ -276,7 +276,7 @@ pub reach-right : ReachRight
 unfolding rightPolicy tableOf
 reach-right next q lay ok t e =
     rw (eq-eqb (statesOf next q) (lay .states) (sym e), eq-eqb (length (tableOf next q)) (events * statesOf next q) (length-table next q), lt-ltb 0 (statesOf next q) (some-state next q ok))
-    (entries-build (statesOf next q) (entryOf next (nodes next q)) (events * statesOf next q) (entry-right next q ok (leb-true _ _ t)))
+    (entries-build (statesOf next q) (byteOf next (nodes next q)) (events * statesOf next q) (entry-right next q ok (leb-true _ _ t)))
 
 pub taken-reaches : TakenReaches
 unfolding reachAnswer reachOf reachTable

@@ -11,7 +11,7 @@ use Rattle.rules.specs.Names.{mostStates, events, refusal, ifTaken, outputOf, r
 use Rattle.policy_maps.specs.Maps.{build}
 use Rattle.policy_exploration.specs.declared.Found.{Found}
 use Rattle.policy_exploration.specs.declared.Made.{Made}
-use Rattle.policy_exploration.specs.Reach.{known, stateOf, entryOf, met, nodes, madeWith}
+use Rattle.policy_exploration.specs.Reach.{known, stateOf, byteOf, met, nodes, madeWith}
 
 -- room for one node too many
 abbrev pub capacity : ℕ
@@ -50,7 +50,7 @@ pub record Holds (next : ℕ → ℕ → ℕ) (q : ℕ) (f : Found) (k : ℕ) : 
   pub sized : Sized f
   pub count : f .count ≡ length (met next q k)
   pub list : listOf f ≡ met next q k
-  pub arrows : f .arrows ≡ build (entryOf next (nodes next q)) k ++ drop k (replicate (events * mostStates) 0)
+  pub arrows : f .arrows ≡ build (byteOf next (nodes next q)) k ++ drop k (replicate (events * mostStates) 0)
   pub taken : k ≤ events * f .count
   pub few : k ≤ events * mostStates
 

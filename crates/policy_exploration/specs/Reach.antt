@@ -42,14 +42,14 @@ abbrev pub stateOf : List ℕ → ℕ → ℕ
 stateOf ns x = cond (eqb x 0) noArrow (place ns x)
 
 -- byte k of the table
-abbrev pub entryOf : (ℕ → ℕ → ℕ) → List ℕ → ℕ → ℕ
-entryOf next ns k = stateOf ns (target next ns k)
+abbrev pub byteOf : (ℕ → ℕ → ℕ) → List ℕ → ℕ → ℕ
+byteOf next ns k = stateOf ns (target next ns k)
 
 abbrev pub statesOf : (ℕ → ℕ → ℕ) → ℕ → ℕ
 statesOf next q = length (nodes next q)
 
 unfoldable pub tableOf : (ℕ → ℕ → ℕ) → ℕ → List ℕ
-tableOf next q = build (entryOf next (nodes next q)) (events * statesOf next q)
+tableOf next q = build (byteOf next (nodes next q)) (events * statesOf next q)
 
 -- the policy whose states are the nodes; the start is the first met
 abbrev pub policyFrom : (ℕ → ℕ → ℕ) → ℕ → Policy

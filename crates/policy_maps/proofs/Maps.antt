@@ -14,7 +14,7 @@ use lib.Pow.{pow-add, pow-pos, pow-lt, pow-mono, high, low, split, mod-mod-pow, 
 use lib.Seq.{getD-at, set-at, drop-cons, append-snoc}
 use borrow.Author.Tests.{eqb-true, eqb-false, ne-eqb, ltb-true, ltb-false}
 use Rattle.rules.proofs.Bools.{both, either, no, or-left, or-right}
-use Rattle.policy_maps.specs.Maps.{every, some, count, mapOf, bit, build}
+use Rattle.policy_maps.specs.Maps.{every, some, count, mapWhere, bit, build}
 
 -- ---- every and some
 
@@ -111,12 +111,12 @@ count-sub-less p q (suc n) k f h x y = go (eqb k n) refl (p n) (q n) refl refl (
 
 -- ---- maps
 
-map-step : (p : ℕ → Bool) (n : ℕ) (b : Bool) → mapOf p n < 2 ^ n → mapOf p n + cond b (2 ^ n) 0 < 2 ^ suc n
+map-step : (p : ℕ → Bool) (n : ℕ) (b : Bool) → mapWhere p n < 2 ^ n → mapWhere p n + cond b (2 ^ n) 0 < 2 ^ suc n
 map-step p n true h = omega (arith, pow-suc 2 n)
 map-step p n false h = omega (arith, pow-suc 2 n)
 
-pub map-lt : (p : ℕ → Bool) (n : ℕ) → mapOf p n < 2 ^ n
-unfolding mapOf
+pub map-lt : (p : ℕ → Bool) (n : ℕ) → mapWhere p n < 2 ^ n
+unfolding mapWhere
 map-lt p zero = omega arith
 map-lt p (suc n) = map-step p n (p n) (map-lt p n)
 
@@ -124,11 +124,11 @@ abbrev bit-of : Bool → ℕ
 bit-of b = cond b 1 0
 
 -- a map is its top bit and the rest
-top : (p : ℕ → Bool) (n : ℕ) → mapOf p (suc n) ≡ bit-of (p n) * 2 ^ n + mapOf p n
-unfolding mapOf
+top : (p : ℕ → Bool) (n : ℕ) → mapWhere p (suc n) ≡ bit-of (p n) * 2 ^ n + mapWhere p n
+unfolding mapWhere
 top p n = go (p n)
   where
-    go : (b : Bool) → mapOf p n + cond b (2 ^ n) 0 ≡ bit-of b * 2 ^ n + mapOf p n
+    go : (b : Bool) → mapWhere p n + cond b (2 ^ n) 0 ≡ bit-of b * 2 ^ n + mapWhere p n
     go true = omega arith
     go false = omega arith
 
@@ -138,49 +138,49 @@ or-bits true false = refl
 or-bits false true = refl
 or-bits false false = refl
 
-pub map-or : (p q : ℕ → Bool) (n : ℕ) → bitOr (mapOf p n) (mapOf q n) ≡ mapOf (λ x. p x || q x) n
-unfolding mapOf
+pub map-or : (p q : ℕ → Bool) (n : ℕ) → bitOr (mapWhere p n) (mapWhere q n) ≡ mapWhere (λ x. p x || q x) n
+unfolding mapWhere
 map-or p q zero = refl
 map-or p q (suc n) =
     ap₂ bitOr (top p n) (top q n)
-    ∙ or-block n (bit-of (p n)) (bit-of (q n)) (mapOf p n) (mapOf q n) (map-lt p n) (map-lt q n)
+    ∙ or-block n (bit-of (p n)) (bit-of (q n)) (mapWhere p n) (mapWhere q n) (map-lt p n) (map-lt q n)
     ∙ ap₂ (λ (x y : ℕ). x * 2 ^ n + y) (or-bits (p n) (q n)) (map-or p q n)
     ∙ sym (top (λ x. p x || q x) n)
 
-pub map-none : (e n : ℕ) → n ≤ e → mapOf (eqb e) n ≡ 0
-unfolding mapOf
+pub map-none : (e n : ℕ) → n ≤ e → mapWhere (eqb e) n ≡ 0
+unfolding mapWhere
 map-none e zero h = refl
 map-none e (suc n) h = rw (ne-eqb e n (λ g. omega arith), map-none e n (omega arith))
 
-pub map-one : (e n : ℕ) → e < n → mapOf (eqb e) n ≡ 2 ^ e
-unfolding mapOf
+pub map-one : (e n : ℕ) → e < n → mapWhere (eqb e) n ≡ 2 ^ e
+unfolding mapWhere
 map-one e zero h = absurd (omega arith)
 map-one e (suc n) h = go (eqb e n) refl (λ k. map-one e n k)
   where
-    go : (b : Bool) → eqb e n ≡ b → (e < n → mapOf (eqb e) n ≡ 2 ^ e) → mapOf (eqb e) n + cond b (2 ^ n) 0 ≡ 2 ^ e
+    go : (b : Bool) → eqb e n ≡ b → (e < n → mapWhere (eqb e) n ≡ 2 ^ e) → mapWhere (eqb e) n + cond b (2 ^ n) 0 ≡ 2 ^ e
     go true g k =
-        let z : mapOf (eqb e) n ≡ 0 = map-none e n (omega (arith, eqb-true e n g)) in
+        let z : mapWhere (eqb e) n ≡ 0 = map-none e n (omega (arith, eqb-true e n g)) in
         let t : 2 ^ n ≡ 2 ^ e = ap (λ (x : ℕ). 2 ^ x) (sym (eqb-true e n g)) in
         omega arith
     go false g k = omega (arith, k (omega (arith, eqb-false e n g)))
 
-pub map-ones : (p : ℕ → Bool) (n : ℕ) → ones (mapOf p n) ≡ count p n
-unfolding mapOf count ones
+pub map-ones : (p : ℕ → Bool) (n : ℕ) → ones (mapWhere p n) ≡ count p n
+unfolding mapWhere count ones
 map-ones p zero = refl
-map-ones p (suc n) = ap ones (top p n) ∙ ones-cat n (bit-of (p n)) (mapOf p n) (map-lt p n) ∙ go (p n) (map-ones p n)
+map-ones p (suc n) = ap ones (top p n) ∙ ones-cat n (bit-of (p n)) (mapWhere p n) (map-lt p n) ∙ go (p n) (map-ones p n)
   where
-    go : (b : Bool) → ones (mapOf p n) ≡ count p n → ones (bit-of b) + ones (mapOf p n) ≡ count p n + cond b 1 0
+    go : (b : Bool) → ones (mapWhere p n) ≡ count p n → ones (bit-of b) + ones (mapWhere p n) ≡ count p n + cond b 1 0
     go true e = omega (arith, e)
     go false e = omega (arith, e)
 
 -- the low bits of a map are the map of the low numbers
-pub map-low : (p : ℕ → Bool) (d n : ℕ) → mapOf p (n + d) % 2 ^ n ≡ mapOf p n
+pub map-low : (p : ℕ → Bool) (d n : ℕ) → mapWhere p (n + d) % 2 ^ n ≡ mapWhere p n
 map-low p zero n = let e : n + 0 ≡ n = omega arith in rw e (mod-eq-of-lt (map-lt p n))
 map-low p (suc d) n =
     let e : n + suc d ≡ suc (n + d) = omega arith in
     let s : n + d ≡ d + n = omega arith in
-    let m = mapOf p (suc (n + d)) in
-    let l : m % 2 ^ (n + d) ≡ mapOf p (n + d) = ap (λ (x : ℕ). x % 2 ^ (n + d)) (top p (n + d)) ∙ low (bit-of (p (n + d))) (n + d) (map-lt p (n + d)) in
+    let m = mapWhere p (suc (n + d)) in
+    let l : m % 2 ^ (n + d) ≡ mapWhere p (n + d) = ap (λ (x : ℕ). x % 2 ^ (n + d)) (top p (n + d)) ∙ low (bit-of (p (n + d))) (n + d) (map-lt p (n + d)) in
     rw e (sym (mod-mod-pow m d n) ∙ ap (λ (x : ℕ). m % 2 ^ x % 2 ^ n) (sym s) ∙ ap (λ (x : ℕ). x % 2 ^ n) l ∙ map-low p d n)
 
 -- ---- bits
@@ -238,13 +238,13 @@ bit-other j k ne = go (ltb j k) refl
         rw (e, r)
 
 -- bit e of a map says whether e passes
-pub bit-map : (p : ℕ → Bool) (n e : ℕ) → e < n → bit (mapOf p n) e ≡ p e
+pub bit-map : (p : ℕ → Bool) (n e : ℕ) → e < n → bit (mapWhere p n) e ≡ p e
 unfolding bit
 bit-map p n e h =
     let s : suc e + (n - suc e) ≡ n = omega arith in
     let q : 1 + e ≡ suc e = omega arith in
-    let l : mapOf p n % 2 ^ suc e ≡ mapOf p (suc e) = rw s at (map-low p (n - suc e) (suc e)) in
-    let f : mapOf p n / 2 ^ e % 2 ^ 1 ≡ bit-of (p e) = sym (field (mapOf p n) 1 e) ∙ ap (λ (x : ℕ). mapOf p n % 2 ^ x / 2 ^ e) q ∙ ap (λ (x : ℕ). x / 2 ^ e) (l ∙ top p e) ∙ high (bit-of (p e)) e (map-lt p e) in
+    let l : mapWhere p n % 2 ^ suc e ≡ mapWhere p (suc e) = rw s at (map-low p (n - suc e) (suc e)) in
+    let f : mapWhere p n / 2 ^ e % 2 ^ 1 ≡ bit-of (p e) = sym (field (mapWhere p n) 1 e) ∙ ap (λ (x : ℕ). mapWhere p n % 2 ^ x / 2 ^ e) q ∙ ap (λ (x : ℕ). x / 2 ^ e) (l ∙ top p e) ∙ high (bit-of (p e)) e (map-lt p e) in
     ap (λ (x : ℕ). eqb x 1) f ∙ go (p e)
   where
     go : (b : Bool) → eqb (bit-of b) 1 ≡ b

@@ -8,7 +8,7 @@ use lib.ListN.{length, getD, length-map}
 use borrow.Author.Tests.{eqb-true, eqb-false, eq-eqb, ne-eqb}
 use Rattle.rules.specs.Names.{mostStates, events, noArrow}
 use Rattle.policy_maps.specs.Maps.{build}
-use Rattle.policy_exploration.specs.Reach.{place, known, meet, target, met, nodes, stateOf, entryOf, statesOf, tableOf}
+use Rattle.policy_exploration.specs.Reach.{place, known, meet, target, met, nodes, stateOf, byteOf, statesOf, tableOf}
 use Rattle.policy_exploration.proofs.Places.{Meets, none, again, anew, meets}
 
 -- name renames the nodes of f from q, which are all in P, to those of g
@@ -89,13 +89,13 @@ module _ (f g : ℕ → ℕ → ℕ) (q : ℕ) (name : ℕ → ℕ) (P : ℕ →
   pub states-name : statesOf g (name q) ≡ statesOf f q
   states-name = ap length (met-name (events * mostStates)) ∙ length-map (nodes f q) name
 
-  entry-name : (k : ℕ) → entryOf g (nodes g (name q)) k ≡ entryOf f (nodes f q) k
+  entry-name : (k : ℕ) → byteOf g (nodes g (name q)) k ≡ byteOf f (nodes f q) k
   entry-name k =
       let ns = nodes f q in
       let a = met-in (events * mostStates) in
       let x = target f ns k in
       let h : P x = re .next-in (getD ns (k / events) 0) (k % events) (a (k / events)) in
-      ap (λ (l : List ℕ). entryOf g l k) (met-name (events * mostStates))
+      ap (λ (l : List ℕ). byteOf g l k) (met-name (events * mostStates))
       ∙ ap (stateOf (map name ns)) (target-name ns k a)
       ∙ ap₂ (λ (b : Bool) (p : ℕ). cond b noArrow p) (eqb-none x h) (place-name ns x a h)
 

@@ -16,8 +16,8 @@ use Rattle.rules.specs.declared.Answer.{Answer}
 use Rattle.rules.specs.Names.{events, noArrow, answer, refusal}
 use Rattle.rules.proofs.Bools.{both}
 use Rattle.policy_precedence.specs.declared.Made.{Made}
-use Rattle.policy_maps.specs.Maps.{every, some, mapOf, bit, build}
-use Rattle.policy_precedence.specs.Precedence.{Fit, namedIn, isNamed, knownIn, known, mostNamed, firstAt, pairsIn, place, firstsIn, statesOf, tableBytes, namedCount, arrowOf, entryOf, stuck, onOf, turnsOf, fullOf, neverOf, pairsRight, makeAnswer, madeWith, makeOf, makeTable}
+use Rattle.policy_maps.specs.Maps.{every, some, mapWhere, bit, build}
+use Rattle.policy_precedence.specs.Precedence.{Fit, namedIn, isNamed, knownIn, known, mostNamed, firstAt, pairsIn, place, firstsIn, statesOf, tableBytes, namedCount, arrowOf, byteOf, stuck, onOf, turnsOf, fullOf, neverOf, pairsRight, makeAnswer, madeWith, makeOf, makeTable}
 use Rattle.policy_maps.proofs.Maps.{every-at, map-or, map-one, map-none, map-low, map-ones, bit-map, count-less, map-lt, length-build}
 
 pub known-none : (ps : List ℕ) → knownIn ps 0 ≡ true
@@ -36,24 +36,24 @@ pub shifted-some : (k : ℕ) → k < events → 1 ≤ (1 * 2 ^ k) % 2 ^ 64
 shifted-some k h = rw (shifted k h) (pow-pos k)
 
 -- the map of one event
-pub one-in : (e : ℕ) → e < events → (1 * 2 ^ e) % 2 ^ 64 ≡ mapOf (eqb e) events
+pub one-in : (e : ℕ) → e < events → (1 * 2 ^ e) % 2 ^ 64 ≡ mapWhere (eqb e) events
 one-in e h = shifted e h ∙ sym (map-one e events h)
 
-pub one-out : (e : ℕ) → events ≤ e → 0 ≡ mapOf (eqb e) events
+pub one-out : (e : ℕ) → events ≤ e → 0 ≡ mapWhere (eqb e) events
 one-out e h = sym (map-none e events h)
 
-pub names-none : (ps : List ℕ) → 0 ≡ mapOf (namedIn ps 0) events
-unfolding namedIn some mapOf
+pub names-none : (ps : List ℕ) → 0 ≡ mapWhere (namedIn ps 0) events
+unfolding namedIn some mapWhere
 names-none ps = refl
 
-pub names-more : (ps : List ℕ) (i m x o : ℕ) → m ≡ mapOf (namedIn ps i) events → x ≡ getD ps i 0 → o ≡ mapOf (eqb x) events → bitOr m o ≡ mapOf (namedIn ps (i + 1)) events
+pub names-more : (ps : List ℕ) (i m x o : ℕ) → m ≡ mapWhere (namedIn ps i) events → x ≡ getD ps i 0 → o ≡ mapWhere (eqb x) events → bitOr m o ≡ mapWhere (namedIn ps (i + 1)) events
 unfolding namedIn some
 names-more ps i m x o e f g =
     let n : i + 1 ≡ suc i = omega arith in
     rw (n, e, g, f) (map-or (namedIn ps i) (eqb (getD ps i 0)) events)
 
-pub names-done : (ps : List ℕ) (i m : ℕ) → m ≡ mapOf (namedIn ps i) events → length ps ≤ i → i ≤ length ps → m ≡ mapOf (isNamed ps) events
-names-done ps i m e h k = let q : i ≡ length ps = omega arith in e ∙ ap (λ (j : ℕ). mapOf (namedIn ps j) events) q
+pub names-done : (ps : List ℕ) (i m : ℕ) → m ≡ mapWhere (namedIn ps i) events → length ps ≤ i → i ≤ length ps → m ≡ mapWhere (isNamed ps) events
+names-done ps i m e h k = let q : i ≡ length ps = omega arith in e ∙ ap (λ (j : ℕ). mapWhere (namedIn ps j) events) q
 
 pub known-done : (ps : List ℕ) (i : ℕ) (ok : Bool) → ok ≡ knownIn ps i → length ps ≤ i → i ≤ length ps → ok ≡ known ps
 known-done ps i ok e h k = let q : i ≡ length ps = omega arith in e ∙ ap (knownIn ps) q
@@ -76,7 +76,7 @@ module _ (ps : List ℕ) (m : ℕ) (fit : Fit ps m) where
   pub place-is : (e k : ℕ) → e < events → k ≡ ones-below m e → k ≡ place ps e
   place-is e k h f =
       let s : e + (events - e) ≡ events = omega arith in
-      let l : mapOf (isNamed ps) events % 2 ^ e ≡ mapOf (isNamed ps) e = rw s at (map-low (isNamed ps) (events - e) e) in
+      let l : mapWhere (isNamed ps) events % 2 ^ e ≡ mapWhere (isNamed ps) e = rw s at (map-low (isNamed ps) (events - e) e) in
       f ∙ ap ones (and-mask m e ∙ ap (λ (x : ℕ). x % 2 ^ e) (fit .map) ∙ l) ∙ map-ones (isNamed ps) e
 
   pub event-below : (i : ℕ) → i < length ps → getD ps i 0 < events
@@ -220,33 +220,33 @@ module _ (ps : List ℕ) (s e a : ℕ) (g : a ≡ arrowOf ps s e) where
   pub stuck-no : (a ≡ noArrow → ⊥) → 0 ≡ cond (stuck ps s e) (2 ^ e) 0
   stuck-no t = rw (ne-eqb (arrowOf ps s e) noArrow (λ z. t (g ∙ z)))
 
-pub all-none : (p : ℕ → Bool) → 0 ≡ mapOf p 0
-unfolding mapOf
+pub all-none : (p : ℕ → Bool) → 0 ≡ mapWhere p 0
+unfolding mapWhere
 all-none p = refl
 
-pub all-more : (p : ℕ → Bool) (e m r : ℕ) → m ≡ mapOf p e → r ≡ cond (p e) (2 ^ e) 0 → m + r ≡ mapOf p (e + 1)
-unfolding mapOf
+pub all-more : (p : ℕ → Bool) (e m r : ℕ) → m ≡ mapWhere p e → r ≡ cond (p e) (2 ^ e) 0 → m + r ≡ mapWhere p (e + 1)
+unfolding mapWhere
 all-more p e m r f g = let n : e + 1 ≡ suc e = omega arith in rw (n, f, g)
 
-pub all-fits : (p : ℕ → Bool) (e m r : ℕ) → m ≡ mapOf p e → r ≡ cond (p e) (2 ^ e) 0 → e < events → m + r < 2 ^ 64
+pub all-fits : (p : ℕ → Bool) (e m r : ℕ) → m ≡ mapWhere p e → r ≡ cond (p e) (2 ^ e) 0 → e < events → m + r < 2 ^ 64
 all-fits p e m r f g h =
-    let l : mapOf p (e + 1) < 2 ^ (e + 1) = map-lt p (e + 1) in
+    let l : mapWhere p (e + 1) < 2 ^ (e + 1) = map-lt p (e + 1) in
     let b : 2 ^ (e + 1) < 2 ^ 64 = pow-lt {i = e + 1} {j = 64} (omega arith) in
     omega (arith, all-more p e m r f g)
 
-pub all-done : (p : ℕ → Bool) (e m : ℕ) → m ≡ mapOf p e → events ≤ e → e ≤ events → m ≡ mapOf p events
-all-done p e m f h k = let q : e ≡ events = omega arith in f ∙ ap (mapOf p) q
+pub all-done : (p : ℕ → Bool) (e m : ℕ) → m ≡ mapWhere p e → events ≤ e → e ≤ events → m ≡ mapWhere p events
+all-done p e m f h k = let q : e ≡ events = omega arith in f ∙ ap (mapWhere p) q
 
 -- ---- making
 
-pub ones-fit : (p : ℕ → Bool) (m : ℕ) → m ≡ mapOf p events → ones m < 2 ^ 64
-ones-fit p m e = rw e (omega (arith, ones-le events (mapOf p events) (map-lt p events)))
+pub ones-fit : (p : ℕ → Bool) (m : ℕ) → m ≡ mapWhere p events → ones m < 2 ^ 64
+ones-fit p m e = rw e (omega (arith, ones-le events (mapWhere p events) (map-lt p events)))
 
-pub right-is : (ps : List ℕ) (m : ℕ) (r : Bool) → m ≡ mapOf (isNamed ps) events → r ≡ known ps → ((r && eqb (length ps % 2) 0) && leb (ones m) mostNamed) ≡ pairsRight ps
+pub right-is : (ps : List ℕ) (m : ℕ) (r : Bool) → m ≡ mapWhere (isNamed ps) events → r ≡ known ps → ((r && eqb (length ps % 2) 0) && leb (ones m) mostNamed) ≡ pairsRight ps
 unfolding pairsRight
 right-is ps m r e f = rw (f, e, map-ones (isNamed ps) events)
 
-module _ (ps : List ℕ) (m : ℕ) (e : m ≡ mapOf (isNamed ps) events) (r : Bool) (g : r ≡ pairsRight ps) where
+module _ (ps : List ℕ) (m : ℕ) (e : m ≡ mapWhere (isNamed ps) events) (r : Bool) (g : r ≡ pairsRight ps) where
   pub fit-of : r ≡ true → Fit ps m
   unfolding pairsRight
   fit-of t =
@@ -271,20 +271,20 @@ module _ (ps : List ℕ) (m : ℕ) (e : m ≡ mapOf (isNamed ps) events) (r : Bo
   unfolding makeOf makeTable makeAnswer
   no-room t made b f z h q = let l : ltb (length t) (tableBytes ps) ≡ true = lt-ltb (length t) (tableBytes ps) (rw z at h) in rw (← g, f, l) (q, refl)
 
-  pub makes : (t t′ : List ℕ) (made : Made) (b : ℕ) → r ≡ true → b ≡ tableBytes ps → b ≤ length t → t′ ≡ build (entryOf ps) b ++ drop b t → made ≡ madeWith (answer 0 b) (statesOf ps) (neverOf ps) → Makes t made t′
+  pub makes : (t t′ : List ℕ) (made : Made) (b : ℕ) → r ≡ true → b ≡ tableBytes ps → b ≤ length t → t′ ≡ build (byteOf ps) b ++ drop b t → made ≡ madeWith (answer 0 b) (statesOf ps) (neverOf ps) → Makes t made t′
   unfolding makeOf makeTable makeAnswer
   makes t t′ made b f z h w q =
       let l : ltb (length t) (tableBytes ps) ≡ false = le-ltb (length t) (tableBytes ps) (rw z at h) in
-      rw (← g, f, l, length-build (entryOf ps) (tableBytes ps)) (rw z at q, rw z at w)
+      rw (← g, f, l, length-build (byteOf ps) (tableBytes ps)) (rw z at q, rw z at w)
 
 pub states-fit : (ps : List ℕ) (m s : ℕ) → Fit ps m → s ≡ statesOf ps → s < 2 ^ 32
 states-fit ps m s fit e = omega (arith, states-most ps m fit)
 
-pub never-fits : (p : ℕ → Bool) (x : ℕ) → x ≡ mapOf p events → x < 2 ^ 16
+pub never-fits : (p : ℕ → Bool) (x : ℕ) → x ≡ mapWhere p events → x < 2 ^ 16
 never-fits p x e = rw e (map-lt p events)
 
-pub taken-is : (ps : List ℕ) (b s r x : ℕ) → s ≡ statesOf ps → r ≡ fullOf ps → x ≡ mapOf (stuck ps r) events → (a : Answer) → a ≡ answer 0 b → madeWith a s x ≡ madeWith (answer 0 b) (statesOf ps) (neverOf ps)
-taken-is ps b s r x e f g a ea = let h : x ≡ neverOf ps = g ∙ ap (λ (y : ℕ). mapOf (stuck ps y) events) f in rw (ea, e, h)
+pub taken-is : (ps : List ℕ) (b s r x : ℕ) → s ≡ statesOf ps → r ≡ fullOf ps → x ≡ mapWhere (stuck ps r) events → (a : Answer) → a ≡ answer 0 b → madeWith a s x ≡ madeWith (answer 0 b) (statesOf ps) (neverOf ps)
+taken-is ps b s r x e f g a ea = let h : x ≡ neverOf ps = g ∙ ap (λ (y : ℕ). mapWhere (stuck ps y) events) f in rw (ea, e, h)
 
 pub bytes-are : (ps : List ℕ) (s : ℕ) → s ≡ statesOf ps → events * s ≡ tableBytes ps
 bytes-are ps s e = rw e

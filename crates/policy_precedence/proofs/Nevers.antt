@@ -14,7 +14,7 @@ use borrow.Author.Tests.{ltb-true, ltb-false, leb-true, leb-false, eqb-true, eqb
 use Rattle.rules.specs.Names.{events, noArrow}
 use Rattle.rules.specs.Policies.{Policy, arrow, stateFrom, allowedFrom, allowed}
 use Rattle.rules.proofs.Bools.{no, cases, both, either, join, or-left, or-right}
-use Rattle.policy_maps.specs.Maps.{count, mapOf, bit}
+use Rattle.policy_maps.specs.Maps.{count, mapWhere, bit}
 use Rattle.policy_precedence.specs.Precedence.{Fit, mostNamed, isNamed, namedCount, pairsIn, firstAt, place, statesOf, firstsIn, arrowOf, stuck, onOf, turnsOf, fullOf, neverOf, madePolicy}
 use Rattle.policy_precedence.specs.Claims.{Unheard, NeverLaws, NeverAllowed}
 use Rattle.policy_maps.proofs.Maps.{bit-or, bit-same, bit-zero, bit-map, bit-high, bit-kept, map-lt, count-le, count-sub-less}
@@ -252,4 +252,4 @@ module _ (ps : List ℕ) (m : ℕ) (fit : Fit ps m) where
       low t = ⊎-elim (λ l. ltb-true e events l) (λ l. no (sym (bit-high (neverOf ps) events e (map-lt (stuck ps (fullOf ps)) events) (ltb-false e events l)) ∙ t)) (cases (ltb e events))
 
 pub never-allowed : NeverAllowed
-never-allowed ps e t = never-laws ps (mapOf (isNamed ps) events) (fit-right ps t) e
+never-allowed ps e t = never-laws ps (mapWhere (isNamed ps) events) (fit-right ps t) e

@@ -14,7 +14,7 @@ use borrow.Author.Tests.{ltb-true, ltb-false, eqb-true, eqb-false, eq-eqb, not-t
 use Rattle.rules.specs.Names.{events}
 use Rattle.rules.specs.Policies.{allowedFrom, allowed}
 use Rattle.rules.proofs.Bools.{no, cases, both, either, join, or-left, or-right}
-use Rattle.policy_maps.specs.Maps.{mapOf, bit}
+use Rattle.policy_maps.specs.Maps.{mapWhere, bit}
 use Rattle.policy_precedence.specs.Precedence.{Fit, namedIn, isNamed, namedCount, pairsIn, firstAt, secondAt, place, statesOf, firstsIn, arrowOf, stuck, onOf, madePolicy}
 use Rattle.policy_precedence.specs.Claims.{Among, AreEvents, OrderLaws, AllowedInOrder}
 use Rattle.policy_maps.proofs.Maps.{every-at, every-all, some-at, count-less, bit-or, bit-same, bit-other, bit-zero}
@@ -186,4 +186,4 @@ module _ (ps es : List ℕ) (m : ℕ) (fit : Fit ps m) where
     }
 
 pub allowed-in-order : AllowedInOrder
-allowed-in-order ps es t are = order-laws ps es (mapOf (isNamed ps) events) (fit-right ps t) are
+allowed-in-order ps es t are = order-laws ps es (mapWhere (isNamed ps) events) (fit-right ps t) are

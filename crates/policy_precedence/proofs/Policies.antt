@@ -11,16 +11,16 @@ use lib.Pow.{pow-pos}
 use borrow.Author.Tests.{eq-eqb, lt-ltb, le-ltb}
 use Rattle.rules.specs.Names.{events, mostStates, noArrow}
 use Rattle.rules.specs.Policies.{Policy, arrow, entryRight, rightPolicy}
-use Rattle.policy_maps.specs.Maps.{mapOf}
-use Rattle.policy_precedence.specs.Precedence.{Fit, isNamed, namedCount, statesOf, tableBytes, arrowOf, entryOf, stuck, tableOf, madePolicy, pairsRight, makeAnswer, makeOf, makeTable}
+use Rattle.policy_maps.specs.Maps.{mapWhere}
+use Rattle.policy_precedence.specs.Precedence.{Fit, isNamed, namedCount, statesOf, tableBytes, arrowOf, byteOf, stuck, tableOf, madePolicy, pairsRight, makeAnswer, makeOf, makeTable}
 use Rattle.policy_precedence.specs.Claims.{Makes, TakenMakes, MadeRight}
 use Rattle.policy_maps.proofs.Tables.{entries-build}
 use Rattle.policy_maps.proofs.Maps.{length-build, build-at}
 use Rattle.policy_precedence.proofs.Laws.{fit-of, states-most, on-below}
 use Rattle.rules.proofs.Bools.{or-left, or-right}
 
-pub fit-right : (ps : List ℕ) → pairsRight ps ≡ true → Fit ps (mapOf (isNamed ps) events)
-fit-right ps t = fit-of ps (mapOf (isNamed ps) events) refl (pairsRight ps) refl t
+pub fit-right : (ps : List ℕ) → pairsRight ps ≡ true → Fit ps (mapWhere (isNamed ps) events)
+fit-right ps t = fit-of ps (mapWhere (isNamed ps) events) refl (pairsRight ps) refl t
 
 pub taken-makes : TakenMakes
 unfolding makeAnswer makeOf makeTable
@@ -34,7 +34,7 @@ taken-makes ps table t = go (pairsRight ps) refl (ltb (length table) (tableBytes
           right = e;
           states = rw (e, f);
           start = rw (e, f);
-          leaves = rw (e, f) (take-at (tableOf ps) (drop (length (tableOf ps)) table) (tableBytes ps) (length-build (entryOf ps) (tableBytes ps)));
+          leaves = rw (e, f) (take-at (tableOf ps) (drop (length (tableOf ps)) table) (tableBytes ps) (length-build (byteOf ps) (tableBytes ps)));
           never = rw (e, f);
         }
 
@@ -46,7 +46,7 @@ place-most ps room = go (pairsRight ps) refl (ltb room (tableBytes ps)) refl
     go : (r : Bool) → pairsRight ps ≡ r → (l : Bool) → ltb room (tableBytes ps) ≡ l → makeOf ps room .answer .place ≤ events * mostStates
     go false e l f = rw e (omega arith)
     go true e true f = rw (e, f) (omega arith)
-    go true e false f = rw (e, f) (omega (arith, states-most ps (mapOf (isNamed ps) events) (fit-right ps e)))
+    go true e false f = rw (e, f) (omega (arith, states-most ps (mapWhere (isNamed ps) events) (fit-right ps e)))
 
 -- the policy's arrow is the one defined
 pub arrow-is : (ps : List ℕ) (s e : ℕ) → s < statesOf ps → e < events → arrow (madePolicy ps) s e ≡ arrowOf ps s e
@@ -54,14 +54,14 @@ arrow-is ps s e h k =
     let i = events * s + e in
     let q : i / events ≡ s = omega arith in
     let r : i % events ≡ e = omega arith in
-    rw (lt-ltb e events k) (build-at (entryOf ps) (tableBytes ps) i noArrow (omega arith) ∙ ap₂ (arrowOf ps) q r)
+    rw (lt-ltb e events k) (build-at (byteOf ps) (tableBytes ps) i noArrow (omega arith) ∙ ap₂ (arrowOf ps) q r)
 
 -- an event above 15 has none
 pub arrow-above : (pol : Policy) (s e : ℕ) → events ≤ e → arrow pol s e ≡ noArrow
 arrow-above pol s e h = rw (le-ltb e events h)
 
 -- an arrow leads to a state
-entry-right : (ps : List ℕ) (m : ℕ) → Fit ps m → (i : ℕ) → i < tableBytes ps → entryRight (statesOf ps) (entryOf ps i) ≡ true
+entry-right : (ps : List ℕ) (m : ℕ) → Fit ps m → (i : ℕ) → i < tableBytes ps → entryRight (statesOf ps) (byteOf ps i) ≡ true
 entry-right ps m fit i h = go (stuck ps s e) refl (on-below ps m fit s e (omega arith) (omega arith))
   where
     s : ℕ
@@ -78,5 +78,5 @@ pub made-right : MadeRight
 unfolding rightPolicy
 made-right ps lay t e =
     let fit = fit-right ps t in
-    rw (eq-eqb (statesOf ps) (lay .states) (sym e), eq-eqb (length (tableOf ps)) (events * statesOf ps) (length-build (entryOf ps) (tableBytes ps)), lt-ltb 0 (statesOf ps) (pow-pos (namedCount ps)))
-    (entries-build (statesOf ps) (entryOf ps) (tableBytes ps) (entry-right ps (mapOf (isNamed ps) events) fit))
+    rw (eq-eqb (statesOf ps) (lay .states) (sym e), eq-eqb (length (tableOf ps)) (events * statesOf ps) (length-build (byteOf ps) (tableBytes ps)), lt-ltb 0 (statesOf ps) (pow-pos (namedCount ps)))
+    (entries-build (statesOf ps) (byteOf ps) (tableBytes ps) (entry-right ps (mapWhere (isNamed ps) events) fit))

@@ -10,7 +10,7 @@ use Rattle.rules.specs.declared.Answer.{Answer}
 use Rattle.rules.specs.declared.Refusal.the-variants.{BadPair}
 use Rattle.rules.specs.Names.{events, noArrow, refusal, ifTaken, outputOf, roomFor, first}
 use Rattle.rules.specs.Policies.{Policy, policyOf}
-use Rattle.policy_maps.specs.Maps.{every, some, count, mapOf, bit, build}
+use Rattle.policy_maps.specs.Maps.{every, some, count, mapWhere, bit, build}
 use Rattle.policy_precedence.specs.declared.Made.{Made}
 
 -- 'more than four named events' are too many
@@ -53,7 +53,7 @@ pairsRight ps = known ps && eqb (length ps % 2) 0 && leb (namedCount ps) mostNam
 pub record Fit (ps : List ℕ) (m : ℕ) : Type 0 where
   pub below : known ps ≡ true
   pub few : namedCount ps ≤ mostNamed
-  pub map : m ≡ mapOf (isNamed ps) events
+  pub map : m ≡ mapWhere (isNamed ps) events
 
 -- 'bit k stands for the k-th smallest named event, counted from 0': as many named events are smaller
 abbrev pub place : List ℕ → ℕ → ℕ
@@ -72,14 +72,14 @@ unfoldable pub arrowOf : List ℕ → ℕ → ℕ → ℕ
 arrowOf ps s e = cond (isNamed ps e) (cond (firstsIn ps s e (pairsIn ps)) (bitOr s (2 ^ place ps e)) noArrow) s
 
 -- byte 16 × s + e of the table
-abbrev pub entryOf : List ℕ → ℕ → ℕ
-entryOf ps i = arrowOf ps (i / events) (i % events)
+abbrev pub byteOf : List ℕ → ℕ → ℕ
+byteOf ps i = arrowOf ps (i / events) (i % events)
 
 abbrev pub tableBytes : List ℕ → ℕ
 tableBytes ps = events * statesOf ps
 
 abbrev pub tableOf : List ℕ → List ℕ
-tableOf ps = build (entryOf ps) (tableBytes ps)
+tableOf ps = build (byteOf ps) (tableBytes ps)
 
 -- 'the policy in which the second of a pair has an arrow only once the first has been recorded'; 'the start state is 0'
 abbrev pub madePolicy : List ℕ → Policy
@@ -104,7 +104,7 @@ fullOf ps = turnsOf ps (mostNamed * events)
 
 -- 'a 16-bit map of the events that no allowed word holds': those without an arrow even then
 abbrev pub neverOf : List ℕ → ℕ
-neverOf ps = mapOf (stuck ps (fullOf ps)) events
+neverOf ps = mapWhere (stuck ps (fullOf ps)) events
 
 -- '17 .. comes first. 9 follows it'
 unfoldable pub makeAnswer : List ℕ → ℕ → Answer

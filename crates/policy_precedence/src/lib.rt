@@ -12,8 +12,8 @@ ghost use lib.Bits.{bitAnd};
 ghost use lib.Dec.{eqb};
 ghost use lib.Count.{ones};
 ghost use Rattle.rules.specs.Names.{events, answer};
-ghost use Rattle.policy_maps.specs.Maps.{mapOf, build};
-ghost use Rattle.policy_precedence.specs.Precedence.{Fit, isNamed, known, mostNamed, pairsIn, pairsRight, statesOf, firstsIn, arrowOf, entryOf, tableBytes, stuck, onOf, fullOf, neverOf, madeWith, makeOf, makeTable};
+ghost use Rattle.policy_maps.specs.Maps.{mapWhere, build};
+ghost use Rattle.policy_precedence.specs.Precedence.{Fit, isNamed, known, mostNamed, pairsIn, pairsRight, statesOf, firstsIn, arrowOf, byteOf, tableBytes, stuck, onOf, fullOf, neverOf, madeWith, makeOf, makeTable};
 
 // The most events that a list of pairs may name.
 const MOST_NAMED: usize = 4;
@@ -46,14 +46,14 @@ fn events_known(pairs: &[u8]) -> bool
 
 // The map of one event; of no event if it is above 15.
 fn one(e: usize) -> usize
-    ensures { λ r. ⌜ r ≡ mapOf (eqb e) events ⌝ }
+    ensures { λ r. ⌜ r ≡ mapWhere (eqb e) events ⌝ }
 {
     if e < EVENTS { 1 << e } else { 0 }
 }
 
 // The map of the events that the pairs name.
 fn names(pairs: &[u8]) -> usize
-    ensures { λ r. ⌜ r ≡ mapOf (isNamed (now (pairs .entry))) events ⌝ }
+    ensures { λ r. ⌜ r ≡ mapWhere (isNamed (now (pairs .entry))) events ⌝ }
 {
     let mut map: usize = 0;
     let mut i: usize = 0;
@@ -106,7 +106,7 @@ fn arrow(names: usize, pairs: &[u8], s: usize, e: usize) -> usize
 // The table of as many bytes as the states have entries, from the table's start.
 fn fill(names: usize, pairs: &[u8], table: &mut [u8], bytes: usize)
     requires { ⌜ Fit (now pairs) names × (bytes ≡ tableBytes (now pairs)) × (bytes ≤ length (now table)) ⌝ }
-    ensures { λ _. ⌜ now (table .exit) ≡ build (entryOf (now (pairs .entry))) bytes ++ drop bytes (now (table .entry)) ⌝ }
+    ensures { λ _. ⌜ now (table .exit) ≡ build (byteOf (now (pairs .entry))) bytes ++ drop bytes (now (table .entry)) ⌝ }
 {
     let mut i: usize = 0;
     while i < bytes {
@@ -153,7 +153,7 @@ fn stuck_one(names: usize, pairs: &[u8], s: usize, e: usize) -> usize
 // The map of the events that have no arrow in a state.
 fn stuck_all(names: usize, pairs: &[u8], s: usize) -> usize
     requires { ⌜ Fit (now pairs) names × (s < statesOf (now pairs)) ⌝ }
-    ensures { λ r. ⌜ r ≡ mapOf (stuck (now (pairs .entry)) s) events ⌝ }
+    ensures { λ r. ⌜ r ≡ mapWhere (stuck (now (pairs .entry)) s) events ⌝ }
 {
     let mut map: usize = 0;
     let mut e: usize = 0;
@@ -166,7 +166,7 @@ fn stuck_all(names: usize, pairs: &[u8], s: usize) -> usize
 
 // Whether 17 does not refuse the pairs.
 fn right(names: usize, pairs: &[u8]) -> bool
-    requires { ⌜ names ≡ mapOf (isNamed (now pairs)) events ⌝ }
+    requires { ⌜ names ≡ mapWhere (isNamed (now pairs)) events ⌝ }
     ensures { λ r. ⌜ r ≡ pairsRight (now (pairs .entry)) ⌝ }
 {
     events_known(pairs) & (pairs.len() % 2 == 0) & (usize::count_ones(names) as usize <= MOST_NAMED)

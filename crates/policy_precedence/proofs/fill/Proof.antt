@@ -6,7 +6,7 @@ use denote.Ref.{now}
 use borrow.Author.Needs.{needs}
 use lib.ListN.{length, drop}
 use Rattle.policy_maps.specs.Maps.{build}
-use Rattle.policy_precedence.specs.Precedence.{entryOf}
+use Rattle.policy_precedence.specs.Precedence.{byteOf}
 use Rattle.policy_maps.proofs.Tables.{fill-none, fill-more, fill-done}
 use Rattle.policy_precedence.proofs.Laws.{row-below}
 use Rattle.policy_precedence.proofs.fill.Statement.{statement}
@@ -14,7 +14,7 @@ use Rattle.policy_precedence.proofs.fill.Tie as tie
 
 -- the entries so far, over what was there
 abbrev Inv-loop : tie.InvT-loop
-Inv-loop names pairs table₀ bytes i₀ table i = (table ≡ build (entryOf pairs) i ++ drop i table₀) × (i ≤ bytes) × (length table ≡ length table₀)
+Inv-loop names pairs table₀ bytes i₀ table i = (table ≡ build (byteOf pairs) i ++ drop i table₀) × (i ≤ bytes) × (length table ≡ length table₀)
 
 abbrev μ-loop : tie.MeasureT-loop
 μ-loop names pairs table₀ bytes i₀ table i = bytes - i
@@ -26,7 +26,7 @@ loop-again : tie.Need-loop-again Inv-loop μ-loop
 loop-again c =
     let start = c .before .before .before .before .before in
     let at = c .before .before .loop in
-    (fill-more (entryOf (now (start .args .pairs))) (now (start .args .table)) (at .table) (at .i) _ (at .inv .0) (omega (arith, start .pre .2)) (c .arrow .ensures .0), search needs, search needs)
+    (fill-more (byteOf (now (start .args .pairs))) (now (start .args .table)) (at .table) (at .i) _ (at .inv .0) (omega (arith, start .pre .2)) (c .arrow .ensures .0), search needs, search needs)
 
 returns : tie.Need-returns Inv-loop μ-loop
 returns c = search (fill-done, needs)

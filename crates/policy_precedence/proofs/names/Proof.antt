@@ -3,7 +3,7 @@ use mathlib.Core.Path.{_≡_}
 use borrow.Author.Needs.{needs}
 use lib.ListN.{length}
 use Rattle.rules.specs.Names.{events}
-use Rattle.policy_maps.specs.Maps.{mapOf}
+use Rattle.policy_maps.specs.Maps.{mapWhere}
 use Rattle.policy_precedence.specs.Precedence.{namedIn}
 use Rattle.policy_precedence.proofs.Laws.{names-none, names-more, names-done}
 use Rattle.policy_precedence.proofs.names.Statement.{statement}
@@ -11,7 +11,7 @@ use Rattle.policy_precedence.proofs.names.Tie as tie
 
 -- the events so far
 abbrev Inv-loop : tie.InvT-loop
-Inv-loop pairs map₀ i₀ map i = (map ≡ mapOf (namedIn pairs i) events) × (i ≤ length pairs)
+Inv-loop pairs map₀ i₀ map i = (map ≡ mapWhere (namedIn pairs i) events) × (i ≤ length pairs)
 
 abbrev μ-loop : tie.MeasureT-loop
 μ-loop pairs map₀ i₀ map i = length pairs - i

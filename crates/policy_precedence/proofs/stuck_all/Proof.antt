@@ -3,7 +3,7 @@ use mathlib.Core.Path.{_≡_}
 use denote.Ref.{now}
 use borrow.Author.Needs.{needs}
 use Rattle.rules.specs.Names.{events}
-use Rattle.policy_maps.specs.Maps.{mapOf}
+use Rattle.policy_maps.specs.Maps.{mapWhere}
 use Rattle.policy_precedence.specs.Precedence.{stuck}
 use Rattle.policy_precedence.proofs.Laws.{all-none, all-more, all-fits, all-done}
 use Rattle.policy_precedence.proofs.stuck_all.Statement.{statement}
@@ -11,7 +11,7 @@ use Rattle.policy_precedence.proofs.stuck_all.Tie as tie
 
 -- the events so far
 abbrev Inv-loop : tie.InvT-loop
-Inv-loop names pairs s map₀ e₀ map e = (map ≡ mapOf (stuck pairs s) e) × (e ≤ events)
+Inv-loop names pairs s map₀ e₀ map e = (map ≡ mapWhere (stuck pairs s) e) × (e ≤ events)
 
 abbrev μ-loop : tie.MeasureT-loop
 μ-loop names pairs s map₀ e₀ map e = events - e
