@@ -53,7 +53,7 @@ returns-4 c =
     let l = m .before .before in
     let p = l .before .before in
     let f = p .before .before in
-    laid _ _ _ _ _ _ _ (f .fits2 .ensures) (not-false _ (p .before .if1 .left)) _ (p .policy-right .ensures) (not-false _ (l .before .if2 .left)) _ (l .landings-right .ensures) (not-false _ (m .before .if3 .left)) _ (n .new .ensures) _ (c .taken .ensures) _ (m .landing-cells .ensures) _ (k .poke .ensures) _ (b .store-bytes .ensures) _ (s .store-cells .ensures)
+    laid _ _ _ _ _ _ _ (f .fits2 .ensures) (not-false _ (p .before .if1 .left)) _ (p .policy-right .ensures) (not-false _ (l .before .if2 .left)) _ (l .landings-right .ensures) (not-false _ (m .before .if3 .left)) _ (n .new .ensures) _ (search needs) _ (m .landing-cells .ensures) _ (k .poke .ensures) _ (b .store-bytes .ensures) _ (s .store-cells .ensures)
 
 pub install-spec : {M : Type 1} → statement M
 install-spec =

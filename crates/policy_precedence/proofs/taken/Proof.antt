@@ -15,4 +15,4 @@ taken-spec =
     (λ c. record { fits = never-fits _ _ (c .before .stuck-all .ensures) })
     (λ c.
     let start = c .before .before .before .before in
-    taken-is (now (start .args .pairs)) (start .args .bytes) _ _ _ (start .pre .1) (c .before .before .full .ensures .0) (c .before .stuck-all .ensures) _ (c .taken .ensures)))
+    taken-is (now (start .args .pairs)) (start .args .bytes) _ _ _ (start .pre .1) (c .before .before .full .ensures .0) (c .before .stuck-all .ensures) _ (search needs)))
