@@ -3,7 +3,7 @@ use Rattle.engine_rules.specs.Proved.{Proved}
 use Rattle.engine_rules.proofs.Rule.{engine-rule, engine-machine, engine-paused}
 use Rattle.engine_rules.proofs.Together.{engine-next, engine-endings}
 use Rattle.engine_rules.proofs.Isolation.{engine-reaches, engine-recorded, engine-ceilings, engine-isolation, engine-cell}
-use Rattle.engine_rules.proofs.Moments.{engine-splits}
+use Rattle.engine_rules.proofs.Moments.{engine-splits, engine-cuts}
 use Rattle.engine_rules.proofs.Paused.{engine-pauses}
 use Rattle.engine_rules.proofs.Ordered.{engine-order, engine-refuses, engine-rewriter, engine-takes}
 use Rattle.engine_rules.proofs.Samples.{sample-holds}
@@ -22,6 +22,7 @@ proved =
       engineNext = engine-next;
       engineReaches = engine-reaches;
       engineSplits = engine-splits;
+      engineCuts = engine-cuts;
       engineEndings = engine-endings;
       engineRecorded = engine-recorded;
       engineCeilings = engine-ceilings;
