@@ -20,27 +20,27 @@ use Rattle.engine_rules.specs.Engines.{sendOf, actOf, nextFor, movedOf, 
 use Rattle.engine_rules.specs.Claims.{runOn, afterTaken, afterRun, afterRuns, runsOf, after, Served, Beside}
 use Rattle.engine_rules.specs.Sample.{left, runs, SampleHolds}
 
-served-with : (x : ℕ) → Served layout policy code (memory x) (runs x)
-unfolding ones rightLayout rightPolicy rightLandings installAnswer inBox inTable inLandings protected afterRun judgeOf judgeAt firstRefused refusalBy
-served-with x =
+served-with : (x y : ℕ) → Served layout policy code (memory x) (runs y)
+unfolding ones rightLayout rightPolicy rightLandings installAnswer inBox inTable inLandings protected installMemory landingsOf runOn afterTaken afterRun judgeOf judgeAt firstRefused refusalBy
+served-with x y =
     record {
       taken = refl;
       installed = refl;
-      lends = (λ l i s. refl, (λ l. absurd (let z : _≡_ {A = ℕ} 0 1024 = l in omega arith), (λ l. free-set (left x) 600 x refl, tt)));
+      lends = (λ l. machine-holds .matches y x, (λ l. absurd (let z : _≡_ {A = ℕ} 0 1024 = l in omega arith), (λ l. free-set (left y) 600 y refl, tt)));
     }
 
-nothing-used : (x : ℕ) → after layout policy code (memory x) (runs x) .used ≡ []
+nothing-used : (x y : ℕ) → after layout policy code (memory x) (runs y) .used ≡ []
 unfolding ones leadingZeros rightLayout rightPolicy rightLandings bitsFrom landingsOf judgeOf judgeAt firstRefused instrOf routine bundlesFor plainOf installAnswer installMemory applyOf sendOf actOf nextFor movedOf effectOn runFrom refusalBy runOf runOn afterTaken afterRun afterRuns
-nothing-used x = refl
+nothing-used x y = refl
 
-beside-with : (x : ℕ) → Beside layout policy code (memory x) 32 (machineRuns x) (runs x)
+beside-with : (x y : ℕ) → Beside layout policy code (memory x) 32 (machineRuns x) (runs y)
 unfolding rightLayout ones judgeOf judgeAt firstRefused rewriteAnswer placeAnswer bundlesFor leadingZeros
-beside-with x =
+beside-with x y =
     record {
       rewritten = refl;
       machine = machine-holds .served x;
-      engine = served-with x;
-      readings = λ i m n. absurd (let z : i < length (after layout policy code (memory x) (runs x) .used) = n in omega (arith, ap (λ (us : List ℕ). length us) (nothing-used x)));
+      engine = served-with x y;
+      readings = λ i m n. absurd (let z : i < length (after layout policy code (memory x) (runs y) .used) = n in omega (arith, ap (λ (us : List ℕ). length us) (nothing-used x y)));
     }
 
 -- the machine, given no log
@@ -56,9 +56,9 @@ unread x = refl
 waits-with : (x : ℕ) → Beside layout policy code (memory x) 32 (pausedRun x ∷ []) (pausedRun x ∷ [])
 waits-with x =
     record {
-      rewritten = beside-with x .rewritten;
+      rewritten = beside-with x x .rewritten;
       machine = record { passed = machine-holds .served x .passed; installed = machine-holds .served x .installed; lends = (λ l i s. refl, tt) };
-      engine = record { taken = served-with x .taken; installed = served-with x .installed; lends = (λ l i s. refl, tt) };
+      engine = record { taken = served-with x x .taken; installed = served-with x x .installed; lends = (λ l i s. refl, tt) };
       readings = λ i m n. absurd (let z : i < length (after layout policy code (memory x) (pausedRun x ∷ []) .used) = n in omega (arith, ap (λ (us : List ℕ). length us) (unread x)));
     }
 
@@ -66,8 +66,8 @@ pub sample-holds : SampleHolds
 unfolding ones leadingZeros rightLayout rightPolicy rightLandings bitsFrom landingsOf judgeOf judgeAt firstRefused instrOf routine bundlesFor plainOf installAnswer installMemory applyOf sendOf actOf nextFor movedOf effectOn runFrom refusalBy runOf runOn afterTaken afterRun afterRuns runsOf rewriteAnswer placeAnswer
 sample-holds =
     record {
-      served = served-with;
-      beside = λ x y. beside-with x;
+      served = λ x. served-with x x;
+      beside = beside-with;
       answers = λ x. refl;
       counted = λ x. refl;
       recorded = λ x. refl;

@@ -30,11 +30,11 @@ answersIn rs = map (λ r. r .ran .outcome .answer) rs
 abbrev pub countsIn : List Run → List ℕ
 countsIn rs = map (λ r. r .ran .outcome .steps) rs
 
--- whatever x free cells and logs held, the runs are on the premise, beside the machine's runs of the same routine; four instructions in all,
--- and the last run stops where gas has no arrow
+-- whatever x free cells and logs held, the runs are on the premise, and whatever y, beside the machine's runs of the same routine;
+-- four instructions in all, and the last run stops where gas has no arrow
 pub record SampleHolds : Type 0 where
   pub served : (x : ℕ) → Served layout policy code (memory x) (runs x)
-  pub beside : (x y : ℕ) → Beside layout policy code (memory x) 32 (machineRuns x) (runs x)
+  pub beside : (x y : ℕ) → Beside layout policy code (memory x) 32 (machineRuns x) (runs y)
   pub answers : (x : ℕ) → answersIn (allRuns layout policy code (memory x) (runs x)) ≡ answer 25 0 ∷ answer 7 0 ∷ answer 21 0 ∷ []
   pub counted : (x : ℕ) → countsIn (allRuns layout policy code (memory x) (runs x)) ≡ 2 ∷ 0 ∷ 2 ∷ []
   pub recorded : (x : ℕ) → recordedIn (allRuns layout policy code (memory x) (runs x)) ≡ pairOf 0 70 ∷ pairOf 2 70 ∷ []
