@@ -3,7 +3,7 @@ use mathlib.Core.Path.{_≡_, refl, sym, _∙_, ap}
 use mathlib.Core.Bool.{Bool, true, false}
 use mathlib.Core.Logic.{_⊎_, inl, inr, ⊎-elim}
 use mathlib.Core.List.{List, [], _∷_}
-use Prim.Native.Nat.{ℕ, _/_, _≤_}
+use Prim.Native.Nat.{ℕ, _+_, _*_, _/_, _≤_}
 use native.Mathlib.Omega.{arith}
 use borrow.Author.Tests.{eq-eqb}
 use lib.ListN.{length}
@@ -27,8 +27,8 @@ use Rattle.rules.proofs.Sim.{Sim, over, live}
 use Rattle.rules.proofs.Track.{tracks}
 use Rattle.rules.proofs.Isolation.{stays}
 use Rattle.forward_rules.specs.Forward.{checkForwardAnswer}
-use Rattle.forward_rules.specs.Claims.{mostSteps, stepsIn, Resumed, GoesOn, Over, paidFor, paidBy, paidIn, Finishes, FinishesIn}
-use Rattle.forward_rules.proofs.Runs.{pauses, steps-some, ran-before, all-spent}
+use Rattle.forward_rules.specs.Claims.{mostSteps, stepsIn, Resumed, pauses, ResumedAfter, GoesOn, Over, paidFor, paidBy, paidIn, Finishes, FinishesIn}
+use Rattle.forward_rules.proofs.Runs.{steps-some, ran-before, all-spent}
 use Rattle.forward_rules.proofs.Bound.{ahead-all}
 
 -- ---- one run that is not refused
@@ -150,3 +150,41 @@ step-each lay ws right c (g ∷ gs) ok b e =
 pub finishes-in : FinishesIn
 finishes-in lay pol ws mem gs f v ok b l =
     over-by lay pol ws mem gs f v (λ run. omega (arith, step-each lay ws (layout-of lay ws (v .passed)) (atFirst lay pol mem) gs ok b run))
+
+-- ---- the same if only those that follow a pause are resumed: any other takes a step or pauses, and the next is resumed
+-- a run more, unless the run before paused
+abbrev spare : Bool → ℕ
+spare true = 0
+spare false = 1
+
+module _ (lay : Layout) (ws : List ℕ) (right : rightLayout lay ≡ true) where
+  abbrev Sized : Given → Type 0
+  Sized g = length (g .memory) ≡ lay .size
+
+  -- what a run adds, by whether the one before paused and whether it does
+  adds : (p q : Bool) (x y n : ℕ) → (p ≡ true → 1 ≤ x) → (q ≡ false → 1 ≤ x) → n ≤ 2 * y + spare q → n + 1 ≤ 2 * (x + y) + spare p
+  adds true true x y n a b l = omega (arith, a refl)
+  adds true false x y n a b l = omega (arith, a refl)
+  adds false true x y n a b l = omega arith
+  adds false false x y n a b l = omega (arith, b refl)
+
+  step-two : (p : Bool) (c : Carried) (gs : List Given) → ResumedAfter lay p (runsOf lay ws c gs) → Every Sized gs → Every (λ (g : Given). 1 ≤ g .budget) gs → afterRuns lay ws c gs .machine .status ≡ Running → length gs ≤ 2 * stepsIn (runsOf lay ws c gs) + spare p
+  unfolding afterRuns runsOf
+  step-two p c [] ok m b e = omega arith
+  step-two p c (g ∷ gs) ok m b e =
+      let fit : fits lay (g .memory) ≡ true = rw (right, eq-eqb _ _ (m .0)) in
+      let later = ran-all lay ws (afterRun lay ws c g) gs e in
+      let run = was-running lay ws c g _ refl later in
+      let q = pauses (runOn lay ws c g .outcome .answer .ending) in
+      let rest = step-two q (afterRun lay ws c g) gs (ok .1) (m .1) (b .1) e in
+      omega (
+        arith,
+        adds p q (runOn lay ws c g .outcome .answer .steps) (stepsIn (runsOf lay ws (afterRun lay ws c g) gs)) (length gs)
+            (λ t. let r = ok .0 t in one-step lay ws c g fit run (r .log) (r .readings) (b .0))
+            (λ t. omega (arith, spent lay ws c g fit later t, b .0))
+            rest,
+      )
+
+pub over-resumed : (lay : Layout) (pol : Policy) (ws mem : List ℕ) (gs : List Given) → checkForwardAnswer lay ws .number ≡ 0 → Served lay pol ws mem gs → ResumedAfter lay false (allRuns lay pol ws mem gs) → Every (λ (g : Given). length (g .memory) ≡ lay .size) gs → Every (λ (g : Given). 1 ≤ g .budget) gs → 2 * mostSteps (length ws / bundleLength) ≤ length gs → Over (after lay pol ws mem gs .machine)
+over-resumed lay pol ws mem gs f v ok m b l =
+    over-by lay pol ws mem gs f v (λ run. omega (arith, step-two lay ws (layout-of lay ws (v .passed)) false (atFirst lay pol mem) gs ok m b run))

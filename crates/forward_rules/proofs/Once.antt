@@ -26,8 +26,8 @@ use Rattle.rules.proofs.Loops.{Goes}
 use Rattle.rules.proofs.Endings.{goes, run-ind}
 use Rattle.rules.proofs.Conditions.{bundled-of, right-of, layout-of}
 use Rattle.rules.proofs.Progress.{Still, still, quiet}
-use Rattle.forward_rules.specs.Claims.{stepsIn, FinishesAtOnce}
-use Rattle.forward_rules.proofs.Runs.{pauses, ending-plain, all-spent}
+use Rattle.forward_rules.specs.Claims.{stepsIn, FinishesAtOnce, pauses}
+use Rattle.forward_rules.proofs.Runs.{ending-plain, all-spent}
 use Rattle.forward_rules.proofs.Class.{AllForward, class-of}
 use Rattle.forward_rules.proofs.Bound.{Leads, Ahead, ahead-step, on-by-one, split, below-end, next-leads, ahead-all}
 use Rattle.forward_rules.proofs.Finish.{going-or-over}

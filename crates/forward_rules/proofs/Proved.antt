@@ -3,7 +3,7 @@ use Rattle.forward_rules.specs.Proved.{Proved}
 use Rattle.forward_rules.proofs.Bound.{bounded}
 use Rattle.forward_rules.proofs.Finish.{goes-on, finishes, finishes-in}
 use Rattle.forward_rules.proofs.Once.{finishes-at-once}
-use Rattle.forward_rules.proofs.Agree.{checks-agree, forward-written, forward-read, always-finish}
+use Rattle.forward_rules.proofs.Agree.{checks-agree, forward-written, forward-read, always-finish, finishes-resumed, finishes-served}
 use Rattle.forward_rules.proofs.Samples.{answers, reaches}
 
 pub proved : Proved
@@ -18,6 +18,8 @@ proved =
       finishesIn = finishes-in;
       finishesAtOnce = finishes-at-once;
       alwaysFinish = always-finish;
+      finishesResumed = finishes-resumed;
+      finishesServed = finishes-served;
       answers = answers;
       reaches = reaches;
     }

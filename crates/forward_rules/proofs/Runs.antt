@@ -9,24 +9,13 @@ use Rattle.rules.specs.declared.Layout.{Layout}
 use Rattle.rules.specs.declared.Status.{Status}
 use Rattle.rules.specs.declared.Status.the-variants.{Running, Ended, Stopped, Faulted, Strayed}
 use Rattle.rules.specs.declared.Ending.{Ending}
-use Rattle.rules.specs.declared.Ending.the-variants.{Done, NoArrow, Fault, LogFull, Silent, Spent, NoLanding, Refused}
 use Rattle.rules.specs.declared.Effect.the-variants.{Wait}
 use Rattle.rules.specs.Commands.{fetchOf}
 use Rattle.rules.specs.Machines.{State, Ran, seen, nextOf, stepOf, endingOf, runFrom}
 use Rattle.rules.proofs.Bools.{no}
 use Rattle.rules.proofs.Loops.{Goes}
 use Rattle.rules.proofs.Endings.{Pauses, pauses as pauses-only, run-ind}
-
--- 23 and 24
-abbrev pub pauses : Ending → Bool
-pauses Done = false
-pauses NoArrow = false
-pauses Fault = false
-pauses LogFull = true
-pauses Silent = true
-pauses Spent = false
-pauses NoLanding = false
-pauses Refused = false
+use Rattle.forward_rules.specs.Claims.{pauses}
 
 -- what a status ends with is no pause
 pub ending-plain : (t : Status) → pauses (endingOf t) ≡ false

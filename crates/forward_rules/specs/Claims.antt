@@ -1,6 +1,7 @@
 -- What is claimed of the class. Each claim is a type; its proof has the claim's name in small letters, in proofs/.
 use Prim.Native.Nat.{ℕ, _+_, _-_, _*_, _/_, _≤_}
 use mathlib.Core.Path.{_≡_}
+use mathlib.Core.Bool.{Bool, true, false}
 use mathlib.Core.Logic.{_⊎_}
 use mathlib.Core.List.{List, [], _∷_, _++_}
 use lib.ListN.{length}
@@ -65,6 +66,23 @@ pub record Resumed (lay : Layout) (g : Given) : Type 0 where
   pub log : 2 ≤ length (g .log)
   pub readings : 1 ≤ length (g .readings)
 
+-- 23 and 24
+abbrev pub pauses : Ending → Bool
+pauses Done = false
+pauses NoArrow = false
+pauses Fault = false
+pauses LogFull = true
+pauses Silent = true
+pauses Spent = false
+pauses NoLanding = false
+pauses Refused = false
+
+-- of the runs of a list: each that follows a pause resumes it so; `paused` says whether the run before the list paused
+abbrev pub ResumedAfter : Layout → Bool → List Run → Type 0
+ResumedAfter lay paused [] = Unit {0}
+ResumedAfter lay paused (r ∷ rs) =
+    (paused ≡ true → Resumed lay (r .given)) × ResumedAfter lay (pauses (r .ran .outcome .answer .ending)) rs
+
 -- a machine that still runs takes a step, if it is so resumed and has a budget
 abbrev pub GoesOn : Type 0
 GoesOn =
@@ -123,14 +141,37 @@ FinishesAtOnce =
     (lay : Layout) (pol : Policy) (ws mem : List ℕ) (gs : List Given) (g : Given) → checkForwardAnswer lay ws .number ≡ 0 →
     Served lay pol ws mem (gs ++ (g ∷ [])) → AmpleFor lay (length ws / bundleLength) g → Over (after lay pol ws mem (gs ++ (g ∷ [])) .machine)
 
--- 'A rewritten routine of this class ends or stops within 4 × (N − 1) + 1 counted steps over all its runs, provided that demand 3's premise
--- holds, each pause is resumed with a free pair and a reading and the budgets suffice'
+-- ---- the same of rewritten words
+
+-- 'A rewritten routine of this class ends or stops within 4 × (N − 1) + 1 counted steps over all its runs'
 pub record Finished (lay : Layout) (pol : Policy) (code mem : List ℕ) (gs : List Given) : Type 0 where
   pub over : Over (after lay pol (commandsOf lay code) mem gs .machine)
   pub within : stepsIn (allRuns lay pol (commandsOf lay code) mem gs) ≤ mostSteps (bundlesFor (length code))
 
+-- 'provided that demand 3's premise holds .. and the budgets suffice', by what the runs pay: a pause, resumed or not, pays the steps that it
+-- counted; that it is resumed is the premise of `FinishesResumed`
 abbrev pub AlwaysFinish : Type 0
 AlwaysFinish =
     (lay : Layout) (pol : Policy) (code mem : List ℕ) (room : ℕ) (gs : List Given) →
     rewriteAnswer lay code room .number ≡ 0 → forwardAnswer code .number ≡ 0 → Served lay pol (commandsOf lay code) mem gs →
     mostSteps (bundlesFor (length code)) ≤ paidIn (allRuns lay pol (commandsOf lay code) mem gs) → Finished lay pol code mem gs
+
+-- 'provided that demand 3's premise holds, each pause is resumed with a free pair and a reading and the budgets suffice', by the count of
+-- runs: none refused for its memory, each with a budget of at least 1; only a run that pauses at once counts no step, and the next one,
+-- resumed, counts one, so that two runs for each step are enough
+abbrev pub FinishesResumed : Type 0
+FinishesResumed =
+    (lay : Layout) (pol : Policy) (code mem : List ℕ) (room : ℕ) (gs : List Given) →
+    let ws = commandsOf lay code in
+    rewriteAnswer lay code room .number ≡ 0 → forwardAnswer code .number ≡ 0 → Served lay pol ws mem gs →
+    ResumedAfter lay false (allRuns lay pol ws mem gs) →
+    Every (λ (g : Given). length (g .memory) ≡ lay .size) gs → Every (λ (g : Given). 1 ≤ g .budget) gs →
+    2 * mostSteps (bundlesFor (length code)) ≤ length gs → Finished lay pol code mem gs
+
+-- and if each run has a free pair and a reading, one run for each step
+abbrev pub FinishesServed : Type 0
+FinishesServed =
+    (lay : Layout) (pol : Policy) (code mem : List ℕ) (room : ℕ) (gs : List Given) →
+    let ws = commandsOf lay code in
+    rewriteAnswer lay code room .number ≡ 0 → forwardAnswer code .number ≡ 0 → Served lay pol ws mem gs →
+    Every (Resumed lay) gs → Every (λ (g : Given). 1 ≤ g .budget) gs → mostSteps (bundlesFor (length code)) ≤ length gs → Finished lay pol code mem gs

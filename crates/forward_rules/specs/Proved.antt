@@ -1,5 +1,5 @@
 -- Every claim of this crate, a field each: its one term is `proved`, in proofs/Proved.antt.
-use Rattle.forward_rules.specs.Claims.{ChecksAgree, ForwardWritten, ForwardRead, Bounded, GoesOn, Finishes, FinishesIn, FinishesAtOnce, AlwaysFinish}
+use Rattle.forward_rules.specs.Claims.{ChecksAgree, ForwardWritten, ForwardRead, Bounded, GoesOn, Finishes, FinishesIn, FinishesAtOnce, AlwaysFinish, FinishesResumed, FinishesServed}
 use Rattle.forward_rules.specs.Sample.{Answers, Reaches}
 
 pub record Proved : Type 0 where
@@ -12,5 +12,7 @@ pub record Proved : Type 0 where
   pub finishesIn : FinishesIn
   pub finishesAtOnce : FinishesAtOnce
   pub alwaysFinish : AlwaysFinish
+  pub finishesResumed : FinishesResumed
+  pub finishesServed : FinishesServed
   pub answers : Answers
   pub reaches : Reaches
