@@ -1,4 +1,4 @@
-// The stepping machine: runs and steps, the record by value.
+// The stepping machine: runs, the record by value; a step is a run of budget 1.
 use rules::Layout;
 use rules::Machine;
 use rules::Outcome;
@@ -22,18 +22,4 @@ pub fn run_value(
         return Outcome::refused(machine);
     }
     machine_loop::run_on(layout, commands, machine, memory, budget, readings, log)
-}
-
-// One step: a run of budget 1.
-pub fn step_value(
-    layout: Layout,
-    commands: &[u64],
-    machine: Machine,
-    memory: &mut [u32],
-    readings: &[u32],
-    log: &mut [u32],
-) -> Outcome
-    ensures { λ r. ⌜ ranOf r (now (memory .exit)) (now (log .exit)) ≡ runOf layout (now (commands .entry)) machine (now (memory .entry)) 1 (now (readings .entry)) (now (log .entry)) ⌝ }
-{
-    run_value(layout, commands, machine, memory, 1, readings, log)
 }

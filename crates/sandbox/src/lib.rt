@@ -21,7 +21,7 @@ pub fn run(
     machine_lent::run_lent(layout, commands, machine, memory, budget, readings, log)
 }
 
-// One step of it.
+// One step of it, a run of budget 1: the record is lent in the same way.
 pub fn step(
     layout: Layout,
     commands: &[u64],
@@ -32,5 +32,5 @@ pub fn step(
 ) -> Outcome
     ensures { λ r. ⌜ ranOf r (now (memory .exit)) (now (log .exit)) ≡ runOf layout (now (commands .entry)) machine (now (memory .entry)) 1 (now (readings .entry)) (now (log .entry)) ⌝ }
 {
-    machine::step_value(layout, commands, machine, memory, readings, log)
+    machine_lent::run_lent(layout, commands, machine, memory, 1, readings, log)
 }
