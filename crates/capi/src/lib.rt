@@ -222,7 +222,11 @@ pub extern "C" fn hemdroas_engine(
 
 // Makes the policy of pairs of events, each first before its second.
 #[no_mangle]
-pub extern "C" fn hemdroas_precedence(pairs: &[u8], table: &mut [u8], made: &mut [u32; 4])
+pub extern "C" fn hemdroas_precedence(
+    pairs: &[u8],
+    table: &mut [u8],
+    made: &mut [u32; capi_precedence::MADE],
+)
     ensures made { λ _. ⌜ now (made .exit) ≡ madeTo (makeOf (now (pairs .entry)) (length (now (table .entry)))) ⌝ }
     ensures table { λ _. ⌜ now (table .exit) ≡ makeTable (now (pairs .entry)) (now (table .entry)) ⌝ }
 {
@@ -236,7 +240,7 @@ pub extern "C" fn hemdroas_determinise(
     starts: u32,
     arrows: &[u16],
     table: &mut [u8],
-    made: &mut [u32; 4],
+    made: &mut [u32; capi_determinise::MADE],
 )
     ensures made { λ _. ⌜ now (made .exit) ≡ policyTo (determiniseOf (drawingOf states starts (now (arrows .entry))) (length (now (table .entry)))) ⌝ }
     ensures table { λ _. ⌜ now (table .exit) ≡ determiniseTable (drawingOf states starts (now (arrows .entry))) (now (table .entry)) ⌝ }

@@ -16,7 +16,10 @@ fn starts_of(map: u32) -> u16
     if map < MAPS { map as u16 } else { 0 }
 }
 
-fn made_of(m: Made) -> [u32; 4]
+// How many numbers a made policy has.
+pub const MADE: usize = 4;
+
+fn made_of(m: Made) -> [u32; MADE]
     requires { ⌜ m .answer .place < 2 ^ 32 ⌝ }
     ensures { λ r. ⌜ r ≡ madeTo m ⌝ }
 {
@@ -30,7 +33,13 @@ fn made_of(m: Made) -> [u32; 4]
 }
 
 // Makes the policy of a drawing.
-pub fn determinise(states: u32, starts: u32, arrows: &[u16], table: &mut [u8], made: &mut [u32; 4])
+pub fn determinise(
+    states: u32,
+    starts: u32,
+    arrows: &[u16],
+    table: &mut [u8],
+    made: &mut [u32; MADE],
+)
     ensures made { λ _. ⌜ now (made .exit) ≡ madeTo (determiniseOf (drawingOf states starts (now (arrows .entry))) (length (now (table .entry)))) ⌝ }
     ensures table { λ _. ⌜ now (table .exit) ≡ determiniseTable (drawingOf states starts (now (arrows .entry))) (now (table .entry)) ⌝ }
 {

@@ -6,7 +6,10 @@ ghost use lib.ListN.{length};
 ghost use Rattle.policy_precedence.specs.Precedence.{makeOf, makeTable};
 ghost use Rattle.capi_precedence.specs.Hosts.{madeTo};
 
-fn made_of(m: Made) -> [u32; 4]
+// How many numbers a made policy has.
+pub const MADE: usize = 4;
+
+fn made_of(m: Made) -> [u32; MADE]
     requires { ⌜ m .answer .place < 2 ^ 32 ⌝ }
     ensures { λ r. ⌜ r ≡ madeTo m ⌝ }
 {
@@ -20,7 +23,7 @@ fn made_of(m: Made) -> [u32; 4]
 }
 
 // Makes the policy of pairs of events, each first before its second.
-pub fn make(pairs: &[u8], table: &mut [u8], made: &mut [u32; 4])
+pub fn make(pairs: &[u8], table: &mut [u8], made: &mut [u32; MADE])
     ensures made { λ _. ⌜ now (made .exit) ≡ madeTo (makeOf (now (pairs .entry)) (length (now (table .entry)))) ⌝ }
     ensures table { λ _. ⌜ now (table .exit) ≡ makeTable (now (pairs .entry)) (now (table .entry)) ⌝ }
 {
