@@ -12,7 +12,7 @@ use Rattle.rules.specs.declared.Answer.{Answer}
 use Rattle.rules.specs.declared.Instr.{Instr}
 use Rattle.rules.specs.declared.Instr.the-variants.{GOIF}
 use Rattle.rules.specs.declared.Refusal.the-variants.{Taken, Oversize, NotForward}
-use Rattle.rules.specs.Names.{mostInstructions, bundleLength, numberOf, answer, refusal}
+use Rattle.rules.specs.Names.{mostInstructions, bundleLength, numberOf, answer, refusal, command}
 use Rattle.rules.specs.Words.{kindOf, vOf, judgeAt, firstRefused, instrOf, routine}
 use Rattle.rules.specs.Bundles.{readOff, bundleAt, checkAnswer}
 use Rattle.rules.proofs.Bools.{cond-ind}
@@ -61,19 +61,19 @@ module _ (lay : Layout) (h w y z : ℕ) where
   abbrev Read : Type 0
   Read = forwardWord lay h w ≡ forwardAt h (readOff lay w y z)
 
-  module _ (e1 : eqb (kindOf w) 1 ≡ false) (e9 : eqb (kindOf w) 9 ≡ false) where
-    read-far : (s t u : Bool) → eqb (kindOf w) 14 ≡ s → eqb (kindOf w) 11 ≡ t → eqb (kindOf w) 16 ≡ u → Read
+  module _ (e1 : eqb (kindOf w) (command .halt) ≡ false) (e9 : eqb (kindOf w) (command .andi) ≡ false) where
+    read-far : (s t u : Bool) → eqb (kindOf w) (command .goif) ≡ s → eqb (kindOf w) (command .shl) ≡ t → eqb (kindOf w) (command .look) ≡ u → Read
     unfolding forwardWord readOff forwardAt
     read-far true t u e14 e11 e16 = rw (e1, e9, e14)
     read-far false true u e14 e11 e16 = rw (e1, e9, e14, e11)
     read-far false false true e14 e11 e16 = rw (e1, e9, e14, e11, e16)
     read-far false false false e14 e11 e16 = rw (e1, e9, e14, e11, e16)
 
-  read-near : (s t : Bool) → eqb (kindOf w) 1 ≡ s → eqb (kindOf w) 9 ≡ t → Read
+  read-near : (s t : Bool) → eqb (kindOf w) (command .halt) ≡ s → eqb (kindOf w) (command .andi) ≡ t → Read
   unfolding forwardWord readOff forwardAt
-  read-near true t e1 e9 = let q : kindOf w ≡ 1 = eqb-true _ _ e1 in rw q
+  read-near true t e1 e9 = let q : kindOf w ≡ command .halt = eqb-true _ _ e1 in rw q
   read-near false true e1 e9 =
-      let q : kindOf w ≡ 9 = eqb-true _ _ e9 in
+      let q : kindOf w ≡ command .andi = eqb-true _ _ e9 in
       rw q (sym (cond-ind (λ (i : Instr). forwardAt h i ≡ true) (eqb (kindOf y) 12) (λ _. refl) (λ _. refl)))
   read-near false false e1 e9 = read-far e1 e9 _ _ _ refl refl refl
 
@@ -82,15 +82,15 @@ module _ (lay : Layout) (h w y z : ℕ) where
 
 -- a first word that is no GOIF, a GOIF to below the base, and one to an address from there on
 module _ (lay : Layout) (h w : ℕ) where
-  pub word-other : (kindOf w ≡ 14 → ⊥) → not (eqb (kindOf w) 11) ≡ forwardWord lay h w
+  pub word-other : (kindOf w ≡ command .goif → ⊥) → not (eqb (kindOf w) (command .shl)) ≡ forwardWord lay h w
   unfolding forwardWord
-  word-other f = rw (ne-eqb (kindOf w) 14 f)
+  word-other f = rw (ne-eqb (kindOf w) (command .goif) f)
 
-  pub word-below : kindOf w ≡ 14 → vOf w < lay .base → false ≡ forwardWord lay h w
+  pub word-below : kindOf w ≡ command .goif → vOf w < lay .base → false ≡ forwardWord lay h w
   unfolding forwardWord
   word-below e l = let z : (vOf w - lay .base) / bundleLength ≡ 0 = omega arith in rw (e, z) (sym (le-ltb h 0 (omega arith)))
 
-  pub word-jump : kindOf w ≡ 14 → ltb h ((vOf w - lay .base) / bundleLength) ≡ forwardWord lay h w
+  pub word-jump : kindOf w ≡ command .goif → ltb h ((vOf w - lay .base) / bundleLength) ≡ forwardWord lay h w
   unfolding forwardWord
   word-jump e = rw e
 

@@ -3,6 +3,7 @@
 use checker::check;
 use rules::Answer;
 use rules::Bundle;
+use rules::Command;
 use rules::Instr;
 use rules::Layout;
 use rules::Refusal;
@@ -15,11 +16,6 @@ ghost use Rattle.rules.specs.Names.{bundleLength};
 ghost use Rattle.rules.specs.Words.{routine};
 ghost use Rattle.rules.specs.Bundles.{bundleAt};
 ghost use Rattle.forward_rules.specs.Forward.{forwardAt, forwardWord, forwardFrom, forwardAnswer, checkForwardAnswer};
-
-// Kinds of a bundle's first command: a jump to an address, and the shift with which a GOX begins.
-const GOIF: u64 = 14;
-
-const SHL: u64 = 11;
 
 // Commands of a bundle.
 const LENGTH: u64 = Bundle::LENGTH as u64;
@@ -39,15 +35,15 @@ fn forward_at(h: usize, i: Instr) -> bool
     }
 }
 
-// Whether bundle h is forward, by its first word.
+// Whether bundle h is forward, by its first word: a GOX begins with a shift.
 fn forward_word(l: Layout, h: usize, w: u64) -> bool
     ensures { λ r. ⌜ r ≡ forwardWord l h w ⌝ }
 {
     let kind = w % 256;
     let to = w >> 32;
     let base = l.base as u64;
-    if kind != GOIF {
-        return kind != SHL;
+    if kind != Command::GOIF {
+        return kind != Command::SHL;
     }
     if to < base {
         return false;

@@ -9,7 +9,7 @@ use Rattle.rules.specs.declared.Answer.{Answer}
 use Rattle.rules.specs.declared.Instr.{Instr}
 use Rattle.rules.specs.declared.Instr.the-variants.{HALT, PLAIN, LOAD, STORE, GOIF, GOX, EVENT}
 use Rattle.rules.specs.declared.Refusal.the-variants.{Taken, Oversize, NotForward}
-use Rattle.rules.specs.Names.{mostInstructions, bundleLength, numberOf, answer, refusal, orElse, first}
+use Rattle.rules.specs.Names.{mostInstructions, bundleLength, numberOf, answer, refusal, orElse, first, command}
 use Rattle.rules.specs.Words.{kindOf, vOf, judgeAt, firstRefused, routine}
 use Rattle.rules.specs.Bundles.{bundleAt, checkAnswer}
 
@@ -40,4 +40,4 @@ checkForwardAnswer lay ws = orElse (checkAnswer lay ws) (forwardFrom (bundleAt l
 
 -- a bundle's first word shows whether it is forward: GOIF to an address, or the SHL with which a GOX begins
 unfoldable pub forwardWord : Layout → ℕ → ℕ → Bool
-forwardWord lay h w = cond (eqb (kindOf w) 14) (ltb h ((vOf w - lay .base) / bundleLength)) (not (eqb (kindOf w) 11))
+forwardWord lay h w = cond (eqb (kindOf w) (command .goif)) (ltb h ((vOf w - lay .base) / bundleLength)) (not (eqb (kindOf w) (command .shl)))
