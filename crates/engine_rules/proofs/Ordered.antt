@@ -25,8 +25,8 @@ use Rattle.rules.specs.Machines.{State, applyOf, seen, endingOf, eventEffect}
 use Rattle.rules.proofs.Bools.{no, cases}
 use Rattle.rules.proofs.Loops.{over-from, wait-from, go-from, keeps}
 use Rattle.rules.proofs.Refusals.{refused-map, else-kept, else-none}
-use Rattle.engine_rules.specs.Engines.{sendOf, actOf, nextFor, nextOf, entryAt, movedOf, effectOn, Ran, endedIn, leftIn, runFrom, startOf, refusalBy, runOf}
-use Rattle.engine_rules.specs.Order.{addressOf, only, EngineOrder, EngineRefuses, EngineRewriter, EngineTakes}
+use Rattle.engine_rules.specs.Engines.{sendOf, actOf, nextFor, nextOf, entryAddress, entryAt, movedOf, effectOn, Ran, endedIn, leftIn, runFrom, startOf, refusalBy, runOf}
+use Rattle.engine_rules.specs.Order.{only, EngineOrder, EngineRefuses, EngineRewriter, EngineTakes}
 use Rattle.engine_rules.proofs.Runs.{engineLoop, taken-size}
 use Rattle.engine_rules.proofs.Moments.{engine-splits}
 
@@ -86,12 +86,12 @@ module _ (lay : Layout) (ws rd : List ℕ) (k : ℕ) (s : State) (size : length 
     unfolding nextFor actOf
     sends = rw (lt-ltb _ _ l, e)
 
-    faulted : lay .size ≤ addressOf lay (s .mem) v → nextOf lay ws rd s ≡ End Faulted
+    faulted : lay .size ≤ entryAddress lay (s .mem) v → nextOf lay ws rd s ≡ End Faulted
     unfolding sendOf
-    faulted h = sends ∙ rw (le-ltb (addressOf lay (s .mem) v) (length (s .mem)) (omega (arith, size)))
+    faulted h = sends ∙ rw (le-ltb (entryAddress lay (s .mem) v) (length (s .mem)) (omega (arith, size)))
 
-    module _ (h : addressOf lay (s .mem) v < lay .size) where
-      inside : addressOf lay (s .mem) v < length (s .mem)
+    module _ (h : entryAddress lay (s .mem) v < lay .size) where
+      inside : entryAddress lay (s .mem) v < length (s .mem)
       inside = omega (arith, size)
 
       stopped : entryAt lay (s .mem) v ≡ noArrow → nextOf lay ws rd s ≡ End Stopped
