@@ -1,4 +1,5 @@
 pub mod Pauses
+pub mod Runs
 pub mod Before
 pub mod OldOrder
 pub mod Proved

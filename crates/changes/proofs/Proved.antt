@@ -1,8 +1,9 @@
 -- Every claim of this crate is proved.
 use Rattle.changes.specs.Proved.{Proved}
 use Rattle.changes.proofs.Pauses.{silent-first}
+use Rattle.changes.proofs.Runs.{silent-runs}
 use Rattle.changes.proofs.Before.{lists-before}
 use Rattle.changes.proofs.OldOrder.{old-refused}
 
 pub proved : Proved
-proved = record { silentFirst = silent-first; listsBefore = lists-before; oldRefused = old-refused }
+proved = record { silentFirst = silent-first; silentRuns = silent-runs; listsBefore = lists-before; oldRefused = old-refused }

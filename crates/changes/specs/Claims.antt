@@ -1,5 +1,5 @@
 -- What the change requests changed of answers given before them: what is claimed, and what was before.
-use Prim.Native.Nat.{ℕ, _+_, _-_, _*_, _/_, _<_, _≤_}
+use Prim.Native.Nat.{ℕ, zero, suc, _+_, _-_, _*_, _/_, _<_, _≤_}
 use mathlib.Core.Path.{_≡_}
 use mathlib.Core.Bool.{Bool, true, false, _&&_, cond}
 use mathlib.Core.List.{List, [], _∷_}
@@ -8,16 +8,18 @@ use lib.Dec.{eqb, ltb}
 use Rattle.rules.specs.declared.Layout.{Layout}
 use Rattle.rules.specs.declared.Instr.{Instr}
 use Rattle.rules.specs.declared.Instr.the-variants.{HALT, PLAIN, LOAD, STORE, GOIF, GOX, EVENT}
-use Rattle.rules.specs.declared.Command.the-variants.{Look, StopIf, Keep, Event}
+use Rattle.rules.specs.declared.Command.{Command}
+use Rattle.rules.specs.declared.Command.the-variants.{Nop, Halt, Plain, Load, Store, GoIf, GoReg, Look, StopIf, Keep, Event, Stray}
 use Rattle.rules.specs.declared.Effect.{Effect}
 use Rattle.rules.specs.declared.Effect.the-variants.{Order, Probe, Wait}
-use Rattle.rules.specs.declared.Ending.the-variants.{LogFull, Silent}
+use Rattle.rules.specs.declared.Ending.the-variants.{LogFull, Silent, Refused}
+use Rattle.rules.specs.declared.Machine.{Machine}
 use Rattle.rules.specs.declared.Refusal.the-variants.{BadLayout, BadBundle, BadCount, BadBase}
 use Rattle.rules.specs.Names.{orders, bundleLength, hidden, numberOf, answer}
 use Rattle.rules.specs.Layouts.{rightLayout}
-use Rattle.rules.specs.Commands.{wordOf}
+use Rattle.rules.specs.Commands.{fetchOf, wordOf}
 use Rattle.rules.specs.Bundles.{shapeWith, valid, bundleAt, baseRight, countRight, checkAnswer}
-use Rattle.rules.specs.Machines.{View, ifRoom, effectOf}
+use Rattle.rules.specs.Machines.{View, ifRoom, effectOf, State, applyOf, seen, endingOf, Ran, ranOf, outcomeOf, endedIn, leftIn, unlessOver, unlessWait, startOf, fits, runOf}
 
 -- ---- [4]: which pause comes first
 
@@ -37,6 +39,60 @@ pub record PauseLaws (v : ℕ) (s : View) : Type 0 where
 
 abbrev pub SilentFirst : Type 0
 SilentFirst = (v : ℕ) (s : View) → PauseLaws v s
+
+-- what each command did before: EVENT as above, any other what it does
+abbrev pub effectBefore : Command → View → Effect
+effectBefore Nop s = effectOf Nop s
+effectBefore Halt s = effectOf Halt s
+effectBefore (Plain k d a b v) s = effectOf (Plain k d a b v) s
+effectBefore (Load d a) s = effectOf (Load d a) s
+effectBefore (Store a b) s = effectOf (Store a b) s
+effectBefore (GoIf a b c v) s = effectOf (GoIf a b c v) s
+effectBefore (GoReg d a b c) s = effectOf (GoReg d a b c) s
+effectBefore (Look d v) s = effectOf (Look d v) s
+effectBefore (StopIf d) s = effectOf (StopIf d) s
+effectBefore (Keep d) s = effectOf (Keep d) s
+effectBefore (Event v) s = eventBefore v (s .free) (s .left)
+effectBefore Stray s = effectOf Stray s
+
+abbrev pub nextBefore : Layout → List ℕ → List ℕ → State → Effect
+nextBefore lay ws reads s = effectBefore (fetchOf ws (lay .base) (s .pc)) (seen lay reads s)
+
+-- a run as it was before, in all else that of today (`runFrom`, `runOf`)
+unfoldable pub runFromBefore : Layout → List ℕ → List ℕ → ℕ → ℕ → State → Ran
+runFromBefore lay ws reads zero k s = endedIn (endingOf (s .status)) k s
+runFromBefore lay ws reads (suc n) k s =
+    let next = nextBefore lay ws reads s in
+    unlessOver (s .status) (endedIn (endingOf (s .status)) k s)
+    (unlessWait next (λ e. endedIn e k s) (runFromBefore lay ws reads n (k + 1) (applyOf (lay .ceilings) reads next s)))
+
+unfoldable pub runBefore : Layout → List ℕ → Machine → List ℕ → ℕ → List ℕ → List ℕ → Ran
+runBefore lay ws m mem budget reads log =
+    cond (fits lay mem) (runFromBefore lay ws reads budget 0 (startOf m mem log)) (ranOf (outcomeOf m Refused 0 0 0) mem log)
+
+-- it answered 23, and left the machine on 'a reading event with no readings left and fewer than two free log cells'
+pub record PausedBoth (lay : Layout) (ws reads : List ℕ) (r : Ran) : Type 0 where
+  pub full : r .outcome .answer .ending ≡ LogFull
+  pub event : ℕ
+  pub stands : fetchOf ws (lay .base) (r .outcome .machine .pc) ≡ Event event
+  pub both : BothPause event (seen lay reads (leftIn r))
+
+-- the same run with answer 24: record, steps, pairs, readings used, memory and log are as they were
+abbrev pub silentInstead : Ran → Ran
+silentInstead r =
+    let a = r .outcome .answer in
+    ranOf (outcomeOf (r .outcome .machine) Silent (a .steps) (a .pairs) (a .used)) (r .mem) (r .log)
+
+-- of a run of today, `now`, and the same run before: 'The one old answer that changes .. gave 23 and gives 24'
+pub record RunLaws (lay : Layout) (ws reads : List ℕ) (now old : Ran) : Type 0 where
+  pub gives : PausedBoth lay ws reads old → now ≡ silentInstead old
+  pub same : (PausedBoth lay ws reads old → ⊥) → now ≡ old
+
+-- of every run: any layout, commands, record, memory, budget, readings and log
+abbrev pub SilentRuns : Type 0
+SilentRuns =
+    (lay : Layout) (ws : List ℕ) (m : Machine) (mem : List ℕ) (budget : ℕ) (reads log : List ℕ) →
+    RunLaws lay ws reads (runOf lay ws m mem budget reads log) (runBefore lay ws m mem budget reads log)
 
 -- ---- [6]: lists written when register 8 was the hidden one
 

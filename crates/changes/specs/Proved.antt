@@ -1,7 +1,8 @@
 -- Every claim of this crate, a field each: its one term is `proved`, in proofs/Proved.antt.
-use Rattle.changes.specs.Claims.{SilentFirst, ListsBefore, OldRefused}
+use Rattle.changes.specs.Claims.{SilentFirst, SilentRuns, ListsBefore, OldRefused}
 
 pub record Proved : Type 0 where
   pub silentFirst : SilentFirst
+  pub silentRuns : SilentRuns
   pub listsBefore : ListsBefore
   pub oldRefused : OldRefused
