@@ -42,7 +42,7 @@ callsOf lay ws xs (g ∷ gs) =
 abbrev pub ranTo : Ran → HostRan
 ranTo r = hostRan (answerTo (r .outcome)) (engineTo (r .outcome .engine)) (r .mem) (r .log)
 
--- a record 'at first all zeros'
+-- a record 'at first zeros and running'
 abbrev pub zeros : List ℕ
 zeros = replicate (guestRegisters + 2) 0
 

@@ -4,6 +4,7 @@ use Prim.Native.Nat.{ℕ}
 use mathlib.Core.Path.{_≡_}
 use mathlib.Core.List.{List, [], _∷_, _++_, map}
 use lib.ListN.{set, replicate}
+use Rattle.rules.specs.Names.{orders, topWord}
 use Rattle.rules.specs.Policies.{Policy, policyOf}
 use Rattle.rules.specs.Runs.{Given, Carried, carriedOf, afterRun, Lends}
 use Rattle.capi_numbers.specs.Numbers.{layoutFrom, machineFrom}
@@ -12,7 +13,7 @@ use Rattle.capi_numbers.specs.Claims.{callsOf, counted, Ready}
 
 -- U 128, SL 96, SH 127, M 0, P 16, S 2, B 32, Q 64, no limits
 abbrev pub layout : List ℕ
-layout = 128 ∷ 96 ∷ 127 ∷ 0 ∷ 16 ∷ 2 ∷ 32 ∷ 64 ∷ replicate 8 4294967295
+layout = 128 ∷ 96 ∷ 127 ∷ 0 ∷ 16 ∷ 2 ∷ 32 ∷ 64 ∷ replicate orders topWord
 
 -- the door's event 2 goes to state 1, which has no arrow for event 0, gas; and a policy that allows everything
 abbrev pub policy : Policy
@@ -44,7 +45,7 @@ left = afterRun (layoutFrom layout) (counted lot) first firstCall .memory
 abbrev pub calls : List Given
 calls = firstCall ∷ given [] 6 ∷ given (set left 8 5) 1000 ∷ []
 
--- the next lot: the other policy installed in what was left
+-- the next lot: the other policy installed in what the first call left
 abbrev pub next : HostInstalled
 next = installFor layout other left
 

@@ -32,8 +32,11 @@ pub fn landings_right(landings: &[u32]) -> bool
     true
 }
 
+// How many cells hold a bit for each landing.
+pub const CELLS: usize = Layout::LANDING_CELLS as usize;
+
 // A landing's bit set.
-fn mark(cells: &mut [u32; 32], x: u32)
+fn mark(cells: &mut [u32; CELLS], x: u32)
     requires { ⌜ (x < mostBundles) × (length (now cells) ≡ landingCells) ⌝ }
     ensures { λ _. ⌜ now (cells .exit) ≡ set (now (cells .entry)) (x / cellBits) (bitOr (getD (now (cells .entry)) (x / cellBits) 0) (2 ^ (x % cellBits))) ⌝ }
 {
@@ -42,11 +45,11 @@ fn mark(cells: &mut [u32; 32], x: u32)
 }
 
 // The landing cells of a list: landing 32k + j is bit j of cell k.
-pub fn landing_cells(landings: &[u32]) -> [u32; 32]
+pub fn landing_cells(landings: &[u32]) -> [u32; CELLS]
     requires { ⌜ rightLandings (now landings) ≡ true ⌝ }
     ensures { λ r. ⌜ r ≡ landingsOf (now (landings .entry)) ⌝ }
 {
-    let mut cells = [0u32; 32];
+    let mut cells = [0u32; CELLS];
     let mut i: usize = 0;
     while i < landings.len() {
         mark(&mut cells, landings[i]);

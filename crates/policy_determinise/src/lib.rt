@@ -54,7 +54,7 @@ fn below(m: u16, states: usize) -> bool
     (m as u32) < (1 << states)
 }
 
-// Whether no map of a list has.
+// Whether no map of a list has a bit at or above the state count.
 fn maps_right(states: usize, arrows: &[u16]) -> bool
     requires { ⌜ states ≤ mostStates ⌝ }
     ensures { λ r. ⌜ r ≡ mapsRight states (now (arrows .entry)) ⌝ }

@@ -200,7 +200,7 @@ Cuts =
 abbrev pub Stands : Layout → Machine → Type 0
 Stands lay m = (positionOf lay (m .pc) ≡ 0) ⊎ (m .status ≡ Running → ⊥)
 
--- 'on ending, r0 to r14, sandbox, state cell, records and readings used'; and on the instruction to come, in whose bundle pc is at position p.
+-- 'on ending, r0 to' r14 (since request 6), 'sandbox, state cell, records and readings used'; and on the instruction to come, in whose bundle pc is at position p.
 -- The ending is the record's status: by Endings a run answers 20, 21 or 26 exactly where it has ended, stopped or strayed
 pub record AgreesAt (lay : Layout) (p : ℕ) (g : Guest) (c : Carried) : Type 0 where
   pub ending : c .machine .status ≡ g .status
@@ -339,7 +339,7 @@ NoWrap = (lay : Layout) (pol : Policy) (ws mem : List ℕ) (gs : List Given) →
 
 -- ---- the state cell
 
--- 'the state cell is the policy's state over the recorded events … but for one point. With pc on the fourth command of an event bundle
+-- 'the state cell is the policy's state over the recorded events … but for one point. With pc on the fourth command of an event bundle …
 -- it is behind by that one event': it is the state over `kept`, the recorded events without that one, which is the last
 pub record CellLaws (lay : Layout) (pol : Policy) (ws : List ℕ) (c : Carried) : Type 0 where
   pub kept : List ℕ

@@ -15,9 +15,6 @@ ghost use lib.ListN.{length};
 ghost use Rattle.rules.specs.Policies.{policyOf};
 ghost use Rattle.sandbox_rules.specs.Loading.{loadOf, loadCommands, loadMemory};
 
-// The most commands of a list.
-const MOST_COMMANDS: usize = Bundle::LENGTH * Bundle::MOST;
-
 // Loads a routine: its first refusal by reading, rewriting, checking or installing; or 0 and the
 // count of its commands, which then stand at the start of `commands`, and the machine's record.
 pub fn load(
@@ -34,7 +31,7 @@ pub fn load(
     ensures memory { λ _. ⌜ now (memory .exit) ≡ loadMemory layout (policyOf (policy .states) (policy .start) (now (table .entry)) (now (landings .entry))) (now (bytes .entry)) (length (now (commands .entry))) (now (memory .entry)) ⌝ }
     ensures within { λ r. ⌜ (r .answer .number ≡ 0 → r .answer .place ≤ length (now (commands .exit))) ⌝ }
 {
-    let mut list = [0u64; MOST_COMMANDS];
+    let mut list = [0u64; Bundle::MOST_COMMANDS];
     let a = translate(layout, bytes, commands.len(), &mut list);
     let refused = a.number;
     if refused != Refusal::TAKEN {

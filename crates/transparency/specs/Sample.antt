@@ -14,7 +14,7 @@ use Rattle.samples.specs.Sample.{layout}
 use Rattle.transparency.specs.Raw.{Raw, rawAfter, rawStart, BehavesFor}
 use Rattle.transparency.specs.Claims.{SameBox, Begins}
 
--- rules' sample policy, with instruction 6 as the one landing
+-- the policy of `samples`, with instruction 6 as the one landing
 abbrev pub policy : Policy
 policy = policyOf 2 0 (0 ∷ 0 ∷ 1 ∷ replicate 13 0 ++ 255 ∷ replicate 15 1) (6 ∷ [])
 
@@ -40,7 +40,7 @@ run = record { memory = installMemory layout policy memory; budget = 1000; readi
 abbrev pub rawAt : ℕ → Raw
 rawAt k = rawAfter layout (routine code) readings (rawStart memory) k
 
--- 'A sample shows that the premises can be met': the caged run comes to its end, and so the raw one, after the same eight instructions
+-- the premises can be met: the caged run comes to its end, and so the raw one, after the same eight instructions
 pub record SampleHolds : Type 0 where
   pub rewritten : rewriteAnswer layout code 64 .number ≡ 0
   pub served : Served layout policy commands memory (run ∷ [])

@@ -9,6 +9,4 @@ pub use words_guest::judge_all;
 pub use words_guest::judge_at;
 pub use words_guest::judge_word;
 pub use words_refusals::TOP_CONDITION;
-pub use words_refusals::TOP_SHIFT;
-pub use words_refusals::TOP_WORD;
 pub use words_refusals::judge;
