@@ -79,7 +79,7 @@ engine-one lay ws rd s v f u run z =
     ap (λ (x : Status). endingNumber (endingOf x)) t ∙ sym (q .0))
 
 -- the machine on the third command of an event's bundle
-machine-next : (lay : Layout) (code rd : List ℕ) (room : ℕ) (s : State) (h v : ℕ) → rewriteAnswer lay code room .number ≡ 0 → h < bundlesFor (length code) → routine code h ≡ EVENT v → s .pc ≡ addressOf lay h + 2 → machineNext lay (commandsOf lay code) rd s ≡ eventEffect v (length (s .log) - 2 * s .pairs) (length rd - s .used)
+pub machine-next : (lay : Layout) (code rd : List ℕ) (room : ℕ) (s : State) (h v : ℕ) → rewriteAnswer lay code room .number ≡ 0 → h < bundlesFor (length code) → routine code h ≡ EVENT v → s .pc ≡ addressOf lay h + 2 → machineNext lay (commandsOf lay code) rd s ≡ eventEffect v (length (s .log) - 2 * s .pairs) (length rd - s .used)
 unfolding effectOf shapeOf
 machine-next lay code rd room s h v z l e pc =
     let N = bundlesFor (length code) in

@@ -5,6 +5,7 @@ use Rattle.engine_rules.proofs.Together.{engine-next, engine-endings}
 use Rattle.engine_rules.proofs.Isolation.{engine-reaches, engine-recorded, engine-ceilings, engine-isolation, engine-cell}
 use Rattle.engine_rules.proofs.Moments.{engine-splits, engine-cuts}
 use Rattle.engine_rules.proofs.Paused.{engine-pauses}
+use Rattle.engine_rules.proofs.Waits.{engine-waits}
 use Rattle.engine_rules.proofs.Ordered.{engine-order, engine-refuses, engine-rewriter, engine-takes}
 use Rattle.engine_rules.proofs.Samples.{sample-holds}
 
@@ -19,6 +20,7 @@ proved =
       engineMachine = engine-machine;
       enginePaused = engine-paused;
       enginePauses = engine-pauses;
+      engineWaits = engine-waits;
       engineNext = engine-next;
       engineReaches = engine-reaches;
       engineSplits = engine-splits;

@@ -1,0 +1,297 @@
+-- Where the engine pauses before its next instruction, the machine pauses in the bundle.
+use mathlib.Core.Path.{_≡_, refl, sym, _∙_, ap, ap₂, subst}
+use mathlib.Core.Bool.{true, false}
+use mathlib.Core.Logic.{_⊎_, inl, inr}
+use mathlib.Core.List.{List, [], _∷_, _++_, append-nil}
+use Prim.Native.Nat.{ℕ, suc, _+_, _-_, _*_, _%_, _^_, _<_, _≤_}
+use native.Mathlib.Omega.{arith}
+use borrow.Author.Tests.{lt-ltb, eq-eqb, ne-eqb, eqb-false}
+use lib.Dec.{eqb, ltb, lit<}
+use lib.ListN.{length, getD, take, set}
+use lib.Seq.{getD-set-same}
+use Rattle.rules.specs.declared.Layout.{Layout}
+use Rattle.rules.specs.declared.Status.{Status}
+use Rattle.rules.specs.declared.Status.the-variants.{Running, Ended, Stopped, Faulted, Strayed}
+use Rattle.rules.specs.declared.Ending.{Ending}
+use Rattle.rules.specs.declared.Instr.{Instr}
+use Rattle.rules.specs.declared.Instr.the-variants.{HALT, PLAIN, LOAD, STORE, GOIF, GOX, EVENT}
+use Rattle.rules.specs.declared.Command.{Command}
+use Rattle.rules.specs.declared.Command.the-variants.{Look, StopIf}
+use Rattle.rules.specs.declared.Effect.{Effect}
+use Rattle.rules.specs.declared.Effect.the-variants.{Go, Put, Wait}
+use Rattle.rules.specs.Names.{events, noArrow, hidden, registers, bundleLength, endingNumber}
+use Rattle.rules.specs.Policies.{Policy}
+use Rattle.rules.specs.Landings.{marked}
+use Rattle.rules.specs.Words.{routine, bundlesFor}
+use Rattle.rules.specs.Commands.{fetchOf, holdsOf}
+use Rattle.rules.specs.Bundles.{shapeOf, addressOf, positionOf, bundleAt, commandsOf, rewriteAnswer}
+use Rattle.rules.specs.Machines.{View, regAt, cellAt, entryOf, State, stateOf, machineOf, onward, applyOf, effectOf, eventEffect, endingOf, seen, fits, nextOf as machineNext, Ran as MachineRan, endedIn as machineEnded, startOf as machineStart, runFrom as machineFrom, runOf as machineRunOf, installMemory}
+use Rattle.rules.specs.Guests.{Guest, guestAfter, guestStart}
+use Rattle.rules.specs.Runs.{Given, Carried as MachineCarried, carriedOf as machineCarried, pairsOf, waitingAt, begins, begunFrom, eventIn, runOn as machineOn, afterTaken as machineTaken, afterRun as machineRun, after as machineAfter, atFirst as machineFirst, Lent as MachineLent}
+use Rattle.rules.specs.Claims.{Stands, Waiting, givenFor}
+use Rattle.rules.proofs.Bools.{no, cond-ind}
+use Rattle.rules.proofs.Facts.{Valid}
+use Rattle.rules.proofs.Loops.{loop-ind, go-from, wait-from, begunLoop}
+use Rattle.rules.proofs.Conditions.{taken-of as rewritten-of, routine-word, routine-valid, routine-last, bundled-routine, right-routine}
+use Rattle.rules.proofs.Passing.{back}
+use Rattle.rules.proofs.Track.{first-yes, first-no, lent-cell, tracks, event-at, enter as machine-enter}
+use Rattle.rules.proofs.Isolation.{guest-rule, stays as machine-stays}
+use Rattle.engine_rules.specs.Engines.{sendOf, actOf, nextFor, nextOf, stepOf, entryAddress, Ran, endedIn, startOf, runFrom, runOf, refusalOf, refusalBy}
+use Rattle.engine_rules.specs.Claims.{Carried, carriedOf, atFirst, runOn, afterTaken, afterRun, after, Lent, Follows, InTurn, Meets, Beside, PausedBy, EngineWaits}
+use Rattle.engine_rules.proofs.Runs.{run-none, engineLoop, taken-size, enter}
+use Rattle.engine_rules.proofs.Rule.{taken-of, ready-of, routine-of, stays, engine-rule, engine-machine, engine-paused, meet}
+use Rattle.engine_rules.proofs.Together.{runs-more, lends-more, machine-more, machine-lends}
+use Rattle.engine_rules.proofs.Paused.{machine-next}
+
+-- ---- the engine: a run of one instruction that pauses is before an event that has its arrow
+
+-- what a status answers is no pause
+status-answers : (t : Status) → PausedBy (endingNumber (endingOf t)) → ⊥
+status-answers Running (inl h) = omega arith
+status-answers Running (inr h) = omega arith
+status-answers Ended (inl h) = omega arith
+status-answers Ended (inr h) = omega arith
+status-answers Stopped (inl h) = omega arith
+status-answers Stopped (inr h) = omega arith
+status-answers Faulted (inl h) = omega arith
+status-answers Faulted (inr h) = omega arith
+status-answers Strayed (inl h) = omega arith
+status-answers Strayed (inr h) = omega arith
+
+paused-waits : (lay : Layout) (ws rd : List ℕ) (s : State) → s .status ≡ Running → PausedBy (runFrom lay ws rd 1 0 s .outcome .answer .number) → (w : Ending) × (nextOf lay ws rd s ≡ Wait w)
+paused-waits lay ws rd s run =
+    loop-ind (engineLoop lay ws rd) 0 0 s (λ (r : Ran). PausedBy (r .outcome .answer .number) → (w : Ending) × (nextOf lay ws rd s ≡ Wait w)) (λ o. absurd (o run)) (λ _ w z p. (w, z))
+    (λ _ go p. absurd (status-answers (stepOf lay ws rd s .status) (subst (λ (r : Ran). PausedBy (r .outcome .answer .number)) (run-none lay ws rd 1 (stepOf lay ws rd s)) p)))
+
+act-waits : (lay : Layout) (N : ℕ) (i : Instr) (s : View) (w : Ending) → actOf lay N i s ≡ Wait w → (v : ℕ) × (i ≡ EVENT v)
+unfolding actOf
+act-waits lay N HALT s w z = no (cc)
+act-waits lay N (PLAIN k d a b v) s w z = no (cc)
+act-waits lay N (LOAD d a) s w z = no (cc)
+act-waits lay N (STORE a b) s w z = no (cc)
+act-waits lay N (GOIF a b c v) s w z =
+    let P : Effect → Type 0 = λ x. x ≡ Wait w → (e : ℕ) × (GOIF a b c v ≡ EVENT e) in
+    cond-ind P (holdsOf c (regAt s a) (regAt s b)) (λ _ y. no (cc)) (λ _ y. no (cc)) z
+act-waits lay N (GOX d a b c) s w z =
+    let P : Effect → Type 0 = λ x. x ≡ Wait w → (e : ℕ) × (GOX d a b c ≡ EVENT e) in
+    cond-ind P (holdsOf c (regAt s a) (regAt s b)) (λ _. cond-ind P (marked (s .mem) (s .landings) (regAt s d % N)) (λ _ y. no (cc)) (λ _ y. no (cc))) (λ _ y. no (cc)) z
+act-waits lay N (EVENT v) s w z = (v, refl)
+
+send-waits : (v : ℕ) (s : View) (w : Ending) → sendOf v s ≡ Wait w → (cellAt s (entryOf s v) ≡ noArrow → ⊥) × (eventEffect v (s .free) (s .left) ≡ Wait w)
+unfolding sendOf
+send-waits v s w =
+    let P : Effect → Type 0 = λ x. x ≡ Wait w → (cellAt s (entryOf s v) ≡ noArrow → ⊥) × (eventEffect v (s .free) (s .left) ≡ Wait w) in
+    cond-ind P (ltb (entryOf s v) (length (s .mem))) (λ _. cond-ind P (eqb (cellAt s (entryOf s v)) noArrow) (λ _ y. no (cc)) (λ f y. (eqb-false _ _ f, y))) (λ _ y. no (cc))
+
+-- the instruction that waits
+record Waited (lay : Layout) (ws rd : List ℕ) (s : State) (w : Ending) : Type 0 where
+  event : ℕ
+  is : routine ws (s .pc) ≡ EVENT event
+  some : getD (s .mem) (entryAddress lay (s .mem) event) 0 ≡ noArrow → ⊥
+  pauses : eventEffect event (length (s .log) - 2 * s .pairs) (length rd - s .used) ≡ Wait w
+
+waited : (lay : Layout) (ws rd : List ℕ) (s : State) (w : Ending) → s .pc < bundlesFor (length ws) → nextOf lay ws rd s ≡ Wait w → Waited lay ws rd s w
+unfolding nextFor actOf
+waited lay ws rd s w l z =
+    let N = bundlesFor (length ws) in
+    let here : actOf lay N (routine ws (s .pc)) (seen lay rd s) ≡ Wait w = rw (lt-ltb (s .pc) N l) at z in
+    let i = act-waits lay N (routine ws (s .pc)) (seen lay rd s) w here in
+    let y = send-waits (i .0) (seen lay rd s) w (sym (ap (λ (x : Instr). actOf lay N x (seen lay rd s)) (i .1)) ∙ here) in
+    record { event = i .0; is = i .1; some = y .0; pauses = y .1 }
+
+-- ---- the machine: before such an event it takes two steps and pauses
+
+-- one on from position p of bundle h
+goes-on : (base n h p pc : ℕ) → base + bundleLength * n ≤ 2 ^ 32 → h < n → p < 3 → pc ≡ base + bundleLength * h + p → onward pc ≡ base + bundleLength * h + suc p
+goes-on base n h p pc room lh lp e = omega arith
+
+not-first : (base h pc : ℕ) → pc ≡ base + bundleLength * h + 1 → (pc - base) % bundleLength ≡ 0 → ⊥
+not-first base h pc e z = omega arith
+
+module _ (lay : Layout) (code rd : List ℕ) (room : ℕ) (s : State) (h v : ℕ) (w : Ending) (z : rewriteAnswer lay code room .number ≡ 0) (top : lay .base + bundleLength * bundlesFor (length code) ≤ 2 ^ 32)
+    (l : h < bundlesFor (length code)) (e : routine code h ≡ EVENT v) (pc : s .pc ≡ addressOf lay h + 0) (run : s .status ≡ Running) (regs : length (s .regs) ≡ registers)
+    (cell : lay .cell < length (s .mem)) (inside : entryAddress lay (s .mem) v < length (s .mem)) (some : getD (s .mem) (entryAddress lay (s .mem) v) 0 ≡ noArrow → ⊥)
+    (pauses : eventEffect v (length (s .log) - 2 * s .pairs) (length rd - s .used) ≡ Wait w) where
+  abbrev ws : List ℕ
+  ws = commandsOf lay code
+
+  abbrev entry : ℕ
+  entry = getD (s .mem) (entryAddress lay (s .mem) v) 0
+
+  -- after the first command, and after the second
+  abbrev second : State
+  second = stateOf (set (s .regs) hidden entry) (onward (s .pc)) (s .status) (s .mem) (s .log) (s .pairs) (s .used)
+
+  abbrev pub third : State
+  third = stateOf (set (s .regs) hidden entry) (onward (onward (s .pc))) (s .status) (s .mem) (s .log) (s .pairs) (s .used)
+
+  second-pc : onward (s .pc) ≡ addressOf lay h + 1
+  second-pc = goes-on (lay .base) (bundlesFor (length code)) h 0 (s .pc) top l (lit< tt) pc
+
+  pub third-pc : onward (onward (s .pc)) ≡ addressOf lay h + 2
+  third-pc = goes-on (lay .base) (bundlesFor (length code)) h 1 (onward (s .pc)) top l (lit< tt) second-pc
+
+  looks : machineNext lay ws rd s ≡ Put hidden entry
+  unfolding effectOf shapeOf
+  looks =
+      let at : fetchOf ws (lay .base) (s .pc) ≡ Look hidden v =
+      ap (fetchOf ws (lay .base)) pc ∙ bundled-routine lay code room z .each h 0 l (lit< tt) ∙ ap (λ (i : Instr). shapeOf lay (bundlesFor (length code)) i 0) e in
+      ap (λ (c : Command). effectOf c (seen lay rd s)) at ∙ rw (lt-ltb (lay .cell) (length (s .mem)) cell, lt-ltb (entryAddress lay (s .mem) v) (length (s .mem)) inside)
+
+  passes : machineNext lay ws rd second ≡ Go (onward (onward (s .pc)))
+  unfolding effectOf shapeOf
+  passes =
+      let at : fetchOf ws (lay .base) (onward (s .pc)) ≡ StopIf hidden =
+      ap (fetchOf ws (lay .base)) second-pc ∙ bundled-routine lay code room z .each h 1 l (lit< tt) ∙ ap (λ (i : Instr). shapeOf lay (bundlesFor (length code)) i 1) e in
+      let held : getD (set (s .regs) hidden entry) hidden 0 ≡ entry = getD-set-same (s .regs) hidden entry 0 (omega (arith, regs)) in
+      ap (λ (c : Command). effectOf c (seen lay rd second)) at ∙ rw (held, ne-eqb entry noArrow some)
+
+  abbrev pub paused : ℕ → ℕ → MachineRan × ℕ
+  paused k b = (machineEnded w (k + 1 + 1) third, b + begins lay (s .pc) + begins lay (onward (s .pc)))
+
+  pub third-pauses : (n k b : ℕ) → _≡_ {A = MachineRan × ℕ} (machineFrom lay ws rd (suc (suc (suc n))) k s, begunFrom lay ws rd (suc (suc (suc n))) b s) (paused k b)
+  unfolding applyOf
+  third-pauses n k b =
+      let m = begunLoop lay ws rd in
+      go-from m (suc (suc n)) (k, b) s run (λ x y. let q : Put hidden entry ≡ Wait x = sym looks ∙ y in no (cc))
+      ∙ ap (λ (x : Effect). m .from (suc (suc n)) (k + 1, b + begins lay (s .pc)) (applyOf (lay .ceilings) rd x s)) looks
+      ∙ go-from m (suc n) (k + 1, b + begins lay (s .pc)) second run (λ x y. let q : Go (onward (onward (s .pc))) ≡ Wait x = sym passes ∙ y in no (cc))
+      ∙ ap (λ (x : Effect). m .from (suc n) (k + 1 + 1, b + begins lay (s .pc) + begins lay (onward (s .pc))) (applyOf (lay .ceilings) rd x second)) passes
+      ∙ wait-from m n (k + 1 + 1, b + begins lay (s .pc) + begins lay (onward (s .pc))) third w run (machine-next lay code rd room third h v z l e third-pc ∙ pauses)
+
+  pub one-begun : begins lay (s .pc) + begins lay (onward (s .pc)) ≡ 1
+  one-begun = ap₂ (λ (x y : ℕ). x + y) (first-yes lay (s .pc) (omega arith)) (first-no lay (onward (s .pc)) (not-first (lay .base) h (onward (s .pc)) second-pc))
+
+-- ---- what is carried on after a run that left r, the machine's with b bundles begun
+machine-left : (lay : Layout) (ws : List ℕ) (c : MachineCarried) (g : Given) (r : MachineRan) (b : ℕ) → fits lay (g .memory) ≡ true → (let s = machineStart (c .machine) (g .memory) (g .log) in _≡_ {A = MachineRan × ℕ} (machineFrom lay ws (g .readings) (g .budget) 0 s, begunFrom lay ws (g .readings) (g .budget) (c .begun) s) (r, b)) → (machineOn lay ws c g ≡ r) × (machineRun lay ws c g ≡ machineCarried (r .outcome .machine) (r .mem) (c .records ++ pairsOf (r .log) (r .outcome .answer .pairs)) (c .used ++ take (r .outcome .answer .used) (g .readings)) b)
+unfolding machineOn machineRunOf machineTaken machineRun
+machine-left lay ws c g r b t e =
+    rw t
+    (ap (λ (x : MachineRan × ℕ). x .0) e, ap (λ (x : MachineRan × ℕ). machineCarried (x .0 .outcome .machine) (x .0 .mem) (c .records ++ pairsOf (x .0 .log) (x .0 .outcome .answer .pairs)) (c .used ++ take (x .0 .outcome .answer .used) (g .readings)) (x .1)) e)
+
+engine-left : (lay : Layout) (ws : List ℕ) (c : Carried) (g : Given) (r : Ran) → refusalOf lay ws (g .memory) .number ≡ 0 → runFrom lay ws (g .readings) (g .budget) 0 (startOf (c .engine) (g .memory) (g .log)) ≡ r → (runOn lay ws c g ≡ r) × (afterRun lay ws c g ≡ carriedOf (r .outcome .engine) (r .mem) (c .records ++ pairsOf (r .log) (r .outcome .pairs)) (c .used ++ take (r .outcome .used) (g .readings)) (c .counted + r .outcome .steps))
+unfolding runOn runOf afterTaken afterRun
+engine-left lay ws c g r z e =
+    rw (eq-eqb _ _ z)
+    (e, ap (λ (x : Ran). carriedOf (x .outcome .engine) (x .mem) (c .records ++ pairsOf (x .log) (x .outcome .pairs)) (c .used ++ take (x .outcome .used) (g .readings)) (c .counted + x .outcome .steps)) e)
+
+-- ---- both pause, and neither uses a reading
+record Pause (lay : Layout) (code : List ℕ) (c : MachineCarried) (n : Carried) (g h : Given) : Type 0 where
+  answers : endingNumber (machineOn lay (commandsOf lay code) c g .outcome .answer .ending) ≡ runOn lay code n h .outcome .answer .number
+  waiting : Waiting lay (commandsOf lay code) (machineRun lay (commandsOf lay code) c g .machine)
+  begun : machineRun lay (commandsOf lay code) c g .begun ≡ c .begun + 1
+  machine : machineRun lay (commandsOf lay code) c g .used ≡ c .used
+  counted : afterRun lay code n h .counted ≡ n .counted
+  engine : afterRun lay code n h .used ≡ n .used
+
+both-pause : (lay : Layout) (pol : Policy) (code mem : List ℕ) (room : ℕ) (gs es : List Given) → Beside lay pol code mem room gs es →
+    let c = machineAfter lay pol (commandsOf lay code) mem gs in
+    let e = after lay pol code mem es in
+    Stands lay (c .machine) → c .begun ≡ e .counted → c .machine .status ≡ Running →
+    (g h : Given) → MachineLent lay c g → Lent lay e h → length (g .memory) ≡ lay .size → length (h .memory) ≡ lay .size →
+    length (h .log) ≡ length (g .log) → length (h .readings) ≡ length (g .readings) → 3 ≤ g .budget →
+    PausedBy (runOn lay code e (givenFor h 1) .outcome .answer .number) → Pause lay code c e g (givenFor h 1)
+unfolding runOn runOf
+both-pause lay pol code mem room gs es v x count run g h lg lh sg sh logs readings few p =
+    let ws = commandsOf lay code in
+    let N = bundlesFor (length code) in
+    let c = machineAfter lay pol ws mem gs in
+    let n = after lay pol code mem es in
+    let h′ = givenFor h 1 in
+    let g0 = guestStart lay pol (installMemory lay pol mem) in
+    let now : Meets lay c n = engine-machine lay pol code mem room gs es v x count in
+    let a = guest-rule lay pol code mem room gs (v .rewritten) (v .machine) x in
+    let G = guestAfter lay pol N (routine code) (c .used) g0 (c .begun) in
+    let f : Follows lay (guestAfter lay pol N (routine code) (n .used) g0 (c .begun)) n = subst (λ (j : ℕ). Follows lay (guestAfter lay pol N (routine code) (n .used) g0 j) n) (sym count) (engine-rule lay pol code mem es (v .engine)) in
+    let same = meet lay pol N (routine code) g0 (c .used) (n .used) (c .begun) (v .readings) (a .used) (f .used) in
+    let at : n .engine .at ≡ G .at = f .at ∙ sym (ap (λ (y : Guest). y .at) same) in
+    let runs : n .engine .status ≡ Running = sym (now .ending) ∙ run in
+    -- the engine
+    let t = taken-of lay code mem (v .engine .taken) in
+    let ok = ready-of lay pol code mem t (v .engine .installed) in
+    let rt = routine-of code (t .sound) in
+    let known = enter lay pol code ok rt g0 n h sh lh (stays lay pol code mem es ok rt (v .engine)) in
+    let m = known .fine .memory in
+    let size : length (h .memory) ≡ length mem = sh ∙ sym (taken-size lay code mem (v .engine .taken)) in
+    let z : refusalOf lay code (h .memory) .number ≡ 0 = ap (λ (k : ℕ). refusalBy lay code k .number) size ∙ v .engine .taken in
+    let s = startOf (n .engine) (h .memory) (h .log) in
+    let within : n .engine .at < N = known .fine .within runs in
+    let wait = paused-waits lay code (h .readings) s runs (rw (eq-eqb _ _ z) at p) in
+    let w = wait .0 in
+    let y = waited lay code (h .readings) s w within (wait .1) in
+    let e = y .event in
+    let there : runFrom lay code (h .readings) 1 0 s ≡ endedIn w 0 s = wait-from (engineLoop lay code (h .readings)) 0 0 s w runs (wait .1) in
+    -- the machine
+    let right = right-routine lay pol code mem room (v .rewritten) (v .machine .installed) in
+    let bs = bundled-routine lay code room (v .rewritten) in
+    let s′ = machineStart (c .machine) (g .memory) (g .log) in
+    let tr = tracks lay pol ws N (routine code) right bs (c .records) (c .used) (g .readings) g0 (c .begun) s′ (machine-enter lay pol ws N (routine code) right bs g0 c g sg lg (machine-stays lay pol ws mem gs N (routine code) right bs (v .machine))) in
+    let guarded = tr .1 .agree .memory .guarded in
+    let q = getD (h .memory) (lay .cell) 0 in
+    let q′ = getD (g .memory) (lay .cell) 0 in
+    let cells : q′ ≡ q = lg sg (lay .cell) (lent-cell lay) ∙ now .state ∙ sym (lh sh (lay .cell) (lent-cell lay)) in
+    let event : routine code (G .at) ≡ EVENT e = ap (routine code) (sym at) ∙ y .is in
+    let valid : e < events = subst (Valid N) (y .is) (rt .valid (n .engine .at)) in
+    let i : lay .table + events * q + e ≡ lay .table + (events * q + e) = omega arith in
+    let i′ : lay .table + events * q′ + e ≡ lay .table + (events * q + e) = omega (arith, cells) in
+    let below : events * q + e < events * lay .states = omega (arith, m .below) in
+    let entries : getD (g .memory) (lay .table + events * q′ + e) 0 ≡ getD (h .memory) (lay .table + events * q + e) 0 =
+    ap (λ (k : ℕ). getD (g .memory) k 0) i′ ∙ guarded .table (events * q + e) below ∙ sym (ap (λ (k : ℕ). getD (h .memory) k 0) i ∙ m .guarded .table (events * q + e) below) in
+    let free : eventEffect e (length (g .log) - 2 * 0) (length (g .readings) - 0) ≡ Wait w = ap₂ (λ (k l : ℕ). eventEffect e (k - 2 * 0) (l - 0)) (sym logs) (sym readings) ∙ y .pauses in
+    let fit : fits lay (g .memory) ≡ true = rw (t .right, eq-eqb (length (g .memory)) (lay .size) sg) in
+    let top = right .room in
+    let pc : c .machine .pc ≡ addressOf lay (G .at) + 0 = a .next run in
+    let inn : G .at < N = subst (λ (k : ℕ). k < N) at within in
+    let regs = tr .1 .agree .regs .machine in
+    let cell : lay .cell < length (g .memory) = omega (arith, sg, ok .cell) in
+    let inside : lay .table + events * q′ + e < length (g .memory) = omega (arith, sg, ok .table, below, i′) in
+    let some : getD (g .memory) (lay .table + events * q′ + e) 0 ≡ noArrow → ⊥ = λ k. y .some (sym entries ∙ k) in
+    let here = third-pauses lay code (g .readings) room s′ (G .at) e w (v .rewritten) top inn event pc run regs cell inside some free (g .budget - 3) 0 (c .begun) in
+    let to = third-pc lay code (g .readings) room s′ (G .at) e w (v .rewritten) top inn event pc run regs cell inside some free in
+    let one = one-begun lay code (g .readings) room s′ (G .at) e w (v .rewritten) top inn event pc run regs cell inside some free in
+    let s2 = third lay code (g .readings) room s′ (G .at) e w (v .rewritten) top inn event pc run regs cell inside some free in
+    let budget : g .budget ≡ suc (suc (suc (g .budget - 3))) = omega (arith, few) in
+    let mm = machine-left lay ws c g (machineEnded w 2 s2) (c .begun + begins lay (c .machine .pc) + begins lay (onward (c .machine .pc))) fit (ap (λ (k : ℕ). (machineFrom lay ws (g .readings) k 0 s′, begunFrom lay ws (g .readings) k (c .begun) s′)) budget ∙ here) in
+    let me = engine-left lay code n h′ (endedIn w 0 s) z there in
+    let read : (k : ℕ) → k < N → bundleAt lay ws k ≡ routine code k =
+    let y = rewritten-of lay code room (v .rewritten) in back lay N ws (routine code) (routine-word lay code y) (λ k _. routine-valid lay code y k) (routine-last lay code y) in
+    let stands : waitingAt lay ws (machineOf (s2 .regs) (s2 .pc) (s2 .status)) ≡ e ∷ [] = event-at lay pol ws N (routine code) right bs read (machineOf (s2 .regs) (s2 .pc) (s2 .status)) (G .at) 2 2 inn (lit< tt) to ∙ ap eventIn event in
+    record {
+      answers = ap (λ (r : MachineRan). endingNumber (r .outcome .answer .ending)) (mm .0) ∙ sym (ap (λ (r : Ran). r .outcome .answer .number) (me .0));
+      waiting = subst (λ (k : MachineCarried). Waiting lay ws (k .machine)) (sym (mm .1)) (record { running = run; event = e; third = stands });
+      begun = ap (λ (k : MachineCarried). k .begun) (mm .1) ∙ omega (arith, one);
+      machine = ap (λ (k : MachineCarried). k .used) (mm .1) ∙ append-nil (c .used);
+      counted = ap (λ (k : Carried). k .counted) (me .1) ∙ omega arith;
+      engine = ap (λ (k : Carried). k .used) (me .1) ∙ append-nil (n .used);
+    }
+
+pub engine-waits : EngineWaits
+engine-waits lay pol code mem room gs es v x count run g h lg lh sg sh logs readings few p =
+    let ws = commandsOf lay code in
+    let c = machineAfter lay pol ws mem gs in
+    let n = after lay pol code mem es in
+    let h′ = givenFor h 1 in
+    let y = both-pause lay pol code mem room gs es v x count run g h lg lh sg sh logs readings few p in
+    let mg = machine-more lay ws (machineFirst lay pol mem) gs g in
+    let mh = runs-more lay code (atFirst lay pol mem) es h′ in
+    let us : machineAfter lay pol ws mem (gs ++ (g ∷ [])) .used ≡ c .used = ap (λ (k : MachineCarried). k .used) mg ∙ y .machine in
+    let vs : after lay pol code mem (es ++ (h′ ∷ [])) .used ≡ n .used = ap (λ (k : Carried). k .used) mh ∙ y .engine in
+    let more : Beside lay pol code mem room (gs ++ (g ∷ [])) (es ++ (h′ ∷ [])) =
+    record {
+      rewritten = v .rewritten;
+      machine =
+          record { passed = v .machine .passed; installed = v .machine .installed; lends = machine-lends lay ws (machineFirst lay pol mem) gs g (v .machine .lends) lg };
+      engine =
+          record { taken = v .engine .taken; installed = v .engine .installed; lends = lends-more lay code (atFirst lay pol mem) es h′ (v .engine .lends) lh };
+      readings = subst (λ (k : List ℕ). InTurn k (after lay pol code mem (es ++ (h′ ∷ [])) .used)) (sym us) (subst (λ (k : List ℕ). InTurn (c .used) k) (sym vs) (v .readings));
+    } in
+    let begun : machineRun lay ws c g .begun ≡ afterRun lay code n h′ .counted + 1 = omega (arith, y .begun, y .counted, count) in
+    let one : machineAfter lay pol ws mem (gs ++ (g ∷ [])) .begun ≡ after lay pol code mem (es ++ (h′ ∷ [])) .counted + 1 =
+    ap (λ (k : MachineCarried). k .begun) mg ∙ begun ∙ sym (ap (λ (k : Carried). k .counted + 1) mh) in
+    let met = engine-paused lay pol code mem room (gs ++ (g ∷ [])) (es ++ (h′ ∷ [])) more (subst (λ (k : MachineCarried). Waiting lay ws (k .machine)) (sym mg) (y .waiting)) one in
+    record {
+      answers = y .answers;
+      waiting = y .waiting;
+      begun = begun;
+      meets = subst (λ (k : MachineCarried). Meets lay k (afterRun lay code n h′)) mg (subst (λ (k : Carried). Meets lay (machineAfter lay pol ws mem (gs ++ (g ∷ []))) k) mh met);
+    }
