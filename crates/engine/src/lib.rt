@@ -1,8 +1,8 @@
 // The engine of request 5: it runs guest words directly under the guest rule.
-use engine_apply::Point;
 use engine_loop::turns;
 use engine_rules::Engine;
 use engine_rules::EngineOutcome;
+use machine_points::Point;
 use rules::Answer;
 use rules::Ending;
 use rules::Layout;
@@ -31,13 +31,13 @@ fn end_answer(ending: Ending) -> Answer
 }
 
 fn finish(regs: [u32; Engine::REGISTERS], at: Point, ending: Ending, steps: u32) -> EngineOutcome
-    ensures { λ r. ⌜ r ≡ outcomeOf (engineOf regs (at .at) (at .status)) (endAnswer ending) steps (at .pairs) (at .used) ⌝ }
+    ensures { λ r. ⌜ r ≡ outcomeOf (engineOf regs (at .pc) (at .status)) (endAnswer ending) steps (at .pairs) (at .used) ⌝ }
 {
     let status = at.status;
     EngineOutcome {
         engine: Engine {
             regs,
-            at: at.at,
+            at: at.pc,
             status,
         },
         answer: end_answer(ending),

@@ -1,23 +1,21 @@
 // An effect applied: the state that it leaves.
 use engine_rules::Engine;
+use machine_points::Point;
+use machine_points::ended;
+use machine_points::landed;
+use machine_points::onward;
+use machine_points::ordered;
+use machine_points::probed;
+use machine_points::read;
 use rules::Effect;
 use rules::Layout;
-use rules::Status;
 ghost use mathlib.Core.Path.{_≡_};
-ghost use Prim.Native.Nat.{_+_, _<_, _^_};
+ghost use Prim.Native.Nat.{_<_, _^_};
 ghost use lib.ListN.{length, getD, set};
 ghost use Rattle.rules.specs.Names.{guestRegisters};
-ghost use Rattle.rules.specs.Machines.{onward as onwardOf, withPair};
+ghost use Rattle.rules.specs.Machines.{withPair};
 ghost use Rattle.engine_rules.specs.Engines.{Puts, entryAt, effectOn};
-ghost use Rattle.engine_apply.specs.Points.{pointOf, stateAt};
-
-// A run's state beside registers, memory and log.
-pub struct Point {
-    pub at: u32,
-    pub status: Status,
-    pub pairs: usize,
-    pub used: usize,
-}
+ghost use Rattle.machine_points.specs.Points.{stateAt};
 
 // A register set.
 fn put(regs: &mut [u32; Engine::REGISTERS], i: usize, x: u32)
@@ -35,55 +33,13 @@ fn keep(layout: Layout, v: u32, memory: &mut [u32])
     words_arith::poke(memory, layout.cell as usize, x);
 }
 
-fn onward(mut at: Point) -> Point
-    ensures { λ r. ⌜ r ≡ pointOf (onwardOf (at .at)) (at .status) (at .pairs) (at .used) ⌝ }
-{
-    at.at = std::num::wrapping_add_u32(at.at, 1);
-    at
-}
-
-fn landed(mut at: Point, to: u32) -> Point
-    ensures { λ r. ⌜ r ≡ pointOf to (at .status) (at .pairs) (at .used) ⌝ }
-{
-    at.at = to;
-    at
-}
-
-fn ended(at: Point, status: Status) -> Point
-    ensures { λ r. ⌜ r ≡ pointOf (at .at) status (at .pairs) (at .used) ⌝ }
-{
-    Point {
-        at: at.at,
-        status,
-        pairs: at.pairs,
-        used: at.used,
-    }
-}
-
-fn ordered(mut at: Point) -> Point
-    requires { ⌜ at .pairs < 2 ^ 62 ⌝ }
-    ensures { λ r. ⌜ r ≡ pointOf (onwardOf (at .at)) (at .status) (at .pairs + 1) (at .used) ⌝ }
-{
-    at.pairs += 1;
-    onward(at)
-}
-
-fn probed(mut at: Point) -> Point
-    requires { ⌜ (at .pairs < 2 ^ 62) × (at .used < 2 ^ 63) ⌝ }
-    ensures { λ r. ⌜ r ≡ pointOf (onwardOf (at .at)) (at .status) (at .pairs + 1) (at .used + 1) ⌝ }
-{
-    at.used += 1;
-    ordered(at)
-}
-
 // A reading into register 0 and the log.
 fn probe(v: u32, regs: &mut [u32; Engine::REGISTERS], at: Point, readings: &[u32], log: &mut [u32])
     requires { ⌜ (at .pairs < 2 ^ 62) × (length (now regs) ≡ guestRegisters) ⌝ }
     ensures { λ _. ⌜ (now (regs .exit) ≡ set (now (regs .entry)) 0 (getD (now (readings .entry)) (at .used) 0)) × (now (log .exit) ≡ withPair (now (log .entry)) (at .pairs) v (getD (now (readings .entry)) (at .used) 0)) ⌝ }
 {
-    let x = words_arith::peek(readings, at.used);
+    let x = read(v, at, readings, log);
     put(regs, 0, x);
-    words_arith::pairs::put(log, at.pairs, v, x);
 }
 
 // The state after an effect. Words that were judged set no register that there is not, so none is tested here.

@@ -9,8 +9,8 @@ use Rattle.rules.specs.declared.Effect.{Effect}
 use Rattle.rules.specs.declared.Effect.the-variants.{Go, Put, Cell, Order, Probe, End, Wait}
 use Rattle.rules.specs.Layouts.{limited}
 use Rattle.rules.specs.Machines.{onward, applyOf, withPair}
-use Rattle.machine_apply.specs.declared.Point.{Point}
-use Rattle.machine_apply.specs.Points.{pointOf, stateAt}
+use Rattle.machine_points.specs.declared.Point.{Point}
+use Rattle.machine_points.specs.Points.{pointOf, stateAt}
 
 module _ (caps rd regs mem log : List ℕ) (at r : Point) (e : Effect) where
   pub goes : (to : ℕ) → e ≡ Go to → r ≡ pointOf to (at .status) (at .pairs) (at .used) → stateAt regs r mem log ≡ applyOf caps rd e (stateAt regs at mem log)

@@ -1,21 +1,19 @@
 // An effect applied: the state that it leaves.
+use machine_points::Point;
+use machine_points::ended;
+use machine_points::landed;
+use machine_points::onward;
+use machine_points::ordered;
+use machine_points::probed;
+use machine_points::read;
 use rules::Effect;
 use rules::Machine;
-use rules::Status;
 ghost use mathlib.Core.Path.{_≡_};
-ghost use Prim.Native.Nat.{_+_, _<_, _^_};
+ghost use Prim.Native.Nat.{_<_, _^_};
 ghost use lib.ListN.{length, getD, set};
 ghost use Rattle.rules.specs.Names.{registers};
-ghost use Rattle.rules.specs.Machines.{onward as onwardOf, applyOf, withPair};
-ghost use Rattle.machine_apply.specs.Points.{pointOf, stateAt};
-
-// A run's state beside registers, memory and log.
-pub struct Point {
-    pub pc: u32,
-    pub status: Status,
-    pub pairs: usize,
-    pub used: usize,
-}
+ghost use Rattle.rules.specs.Machines.{applyOf, withPair};
+ghost use Rattle.machine_points.specs.Points.{stateAt};
 
 // ---- what an effect writes
 
@@ -27,49 +25,6 @@ fn put(regs: &mut [u32; Machine::REGISTERS], i: usize, x: u32)
     if i < Machine::REGISTERS {
         regs[i] = x;
     }
-}
-
-// ---- the point after it
-
-fn onward(mut at: Point) -> Point
-    ensures { λ r. ⌜ r ≡ pointOf (onwardOf (at .pc)) (at .status) (at .pairs) (at .used) ⌝ }
-{
-    at.pc = std::num::wrapping_add_u32(at.pc, 1);
-    at
-}
-
-fn landed(mut at: Point, to: u32) -> Point
-    ensures { λ r. ⌜ r ≡ pointOf to (at .status) (at .pairs) (at .used) ⌝ }
-{
-    at.pc = to;
-    at
-}
-
-fn ended(at: Point, status: Status) -> Point
-    ensures { λ r. ⌜ r ≡ pointOf (at .pc) status (at .pairs) (at .used) ⌝ }
-{
-    Point {
-        pc: at.pc,
-        status,
-        pairs: at.pairs,
-        used: at.used,
-    }
-}
-
-fn ordered(mut at: Point) -> Point
-    requires { ⌜ at .pairs < 2 ^ 62 ⌝ }
-    ensures { λ r. ⌜ r ≡ pointOf (onwardOf (at .pc)) (at .status) (at .pairs + 1) (at .used) ⌝ }
-{
-    at.pairs += 1;
-    onward(at)
-}
-
-fn probed(mut at: Point) -> Point
-    requires { ⌜ (at .pairs < 2 ^ 62) × (at .used < 2 ^ 63) ⌝ }
-    ensures { λ r. ⌜ r ≡ pointOf (onwardOf (at .pc)) (at .status) (at .pairs + 1) (at .used + 1) ⌝ }
-{
-    at.used += 1;
-    ordered(at)
 }
 
 // ---- an effect
@@ -85,9 +40,8 @@ pub fn probe(
     requires { ⌜ (at .pairs < 2 ^ 62) × (length (now regs) ≡ registers) ⌝ }
     ensures { λ _. ⌜ (now (regs .exit) ≡ set (now (regs .entry)) 0 (getD (now (readings .entry)) (at .used) 0)) × (now (log .exit) ≡ withPair (now (log .entry)) (at .pairs) v (getD (now (readings .entry)) (at .used) 0)) ⌝ }
 {
-    let x = words_arith::peek(readings, at.used);
+    let x = read(v, at, readings, log);
     put(regs, 0, x);
-    words_arith::pairs::put(log, at.pairs, v, x);
 }
 
 // The state after an effect.

@@ -8,6 +8,5 @@ probe-spec =
     (tie.spec
     (λ c κs. search needs)
     (λ c κs. search needs)
-    (λ c κs. search needs)
     (λ c. search needs)
-    (λ c. let x = c .before .before .before .before .before .before .peek .ensures in (simp (c .before .before .before .before .put .ensures, x), simp (c .before .before .put2 .ensures, x))))
+    (λ c. let r = c .before .before .before .before .read .ensures in (simp (c .put .ensures, r .0), r .1)))
