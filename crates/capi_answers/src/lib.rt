@@ -19,5 +19,10 @@ pub fn run_answer_of(a: RunAnswer) -> [u32; RUN_ANSWER]
     ensures { λ r. ⌜ r ≡ runAnswerTo a ⌝ }
 {
     let e = a.ending;
-    [e.number() as u32, a.steps, a.pairs as u32, a.used as u32]
+    [
+        machine_endings::number(e) as u32,
+        a.steps,
+        a.pairs as u32,
+        a.used as u32,
+    ]
 }

@@ -25,7 +25,7 @@ fn end_answer(ending: Ending) -> Answer
     ensures { λ r. ⌜ r ≡ endAnswer ending ⌝ }
 {
     Answer {
-        number: ending.number(),
+        number: machine_endings::number(ending),
         place: 0,
     }
 }
@@ -107,7 +107,7 @@ fn run_on(
     }
     EngineOutcome {
         engine,
-        answer: end_answer(Ending::of(status)),
+        answer: end_answer(machine_endings::of(status)),
         steps: 0,
         pairs: 0,
         used: 0,

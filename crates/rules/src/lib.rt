@@ -2,9 +2,9 @@
 ghost use mathlib.Core.Path.{_≡_};
 ghost use Rattle.rules.specs.declared.Ending.the-variants.{Refused};
 ghost use Rattle.rules.specs.declared.Refusal.the-variants.{Taken};
-ghost use Rattle.rules.specs.Names.{numberOf, endingNumber, answer};
+ghost use Rattle.rules.specs.Names.{numberOf, answer};
 ghost use Rattle.rules.specs.Layouts.{layoutOf};
-ghost use Rattle.rules.specs.Machines.{machineAt, machineRefused, endingOf, outcomeOf};
+ghost use Rattle.rules.specs.Machines.{machineAt, machineRefused, outcomeOf};
 
 // The layout of one drum: U, SL, SH, M, P, S, B and Q, and the ceilings of events 0 to 7.
 pub struct Layout {
@@ -367,37 +367,6 @@ pub enum Ending {
     Spent,
     NoLanding,
     Refused,
-}
-
-impl Ending {
-    // What a run answers that ends with this status and no pause.
-    pub fn of(status: Status) -> Ending
-        ensures { λ r. ⌜ r ≡ endingOf status ⌝ }
-    {
-        match status {
-            Status::Running => Ending::Spent,
-            Status::Ended => Ending::Done,
-            Status::Stopped => Ending::NoArrow,
-            Status::Faulted => Ending::Fault,
-            Status::Strayed => Ending::NoLanding,
-        }
-    }
-
-    // Document 01's number of an ending.
-    pub fn number(self) -> u8
-        ensures { λ r. ⌜ r ≡ endingNumber self ⌝ }
-    {
-        match self {
-            Ending::Done => 20,
-            Ending::NoArrow => 21,
-            Ending::Fault => 22,
-            Ending::LogFull => 23,
-            Ending::Silent => 24,
-            Ending::Spent => 25,
-            Ending::NoLanding => 26,
-            Ending::Refused => Refusal::BAD_LAYOUT,
-        }
-    }
 }
 
 // What a run answers: its ending, the steps taken, the pairs recorded and the readings used.

@@ -46,7 +46,7 @@ fn run(layout: Layout, commands: &[u64], start: Machine, memory: &mut [u32; 1024
     let a = out.answer;
     print_events(&log, a.pairs);
     let e = a.ending;
-    print_end(e.number(), a.steps, memory[0]);
+    print_end(machine_endings::number(e), a.steps, memory[0]);
 }
 
 // Landings 0 to 1,023.
