@@ -1,10 +1,12 @@
 -- The premises of the claims can be met, and the definitions compute.
 use mathlib.Core.Path.{_≡_, refl, ap}
+use mathlib.Core.Logic.{inl}
 use mathlib.Core.List.{List, [], _∷_}
 use Prim.Native.Nat.{ℕ, _<_}
 use native.Mathlib.Omega.{arith}
 use lib.Count.{ones, leadingZeros}
 use lib.ListN.{length}
+use Rattle.rules.specs.declared.Status.the-variants.{Running}
 use Rattle.rules.specs.Layouts.{rightLayout, inBox, inTable, inLandings, protected}
 use Rattle.rules.specs.Policies.{rightPolicy}
 use Rattle.rules.specs.Landings.{rightLandings, bitsFrom, landingsOf}
@@ -13,12 +15,12 @@ use Rattle.rules.specs.Commands.{wordOf, isCommand, commandOf, fetchOf, plainOf
 use Rattle.rules.specs.Bundles.{shapeOf, readOff, bundleAt, rewriteAnswer, placeAnswer}
 use Rattle.rules.specs.Machines.{effectOf, installAnswer, installMemory, installMachine, applyOf, runFrom as machineFrom, runOf as machineRunOf}
 use Rattle.rules.specs.Runs.{begins, begunFrom, runOn as machineOn, afterTaken as machineTaken, afterRun as machineRun, afterRuns as machineAll, after as machineAfter}
-use Rattle.rules.specs.Claims.{Waiting}
+use Rattle.rules.specs.Claims.{Stands, Waiting}
 use Rattle.samples.specs.Sample.{layout, policy, code, commands, memory, runs as machineRuns, pausedRun}
 use Rattle.samples.proofs.Samples.{free-set, sample-holds as machine-holds}
 use Rattle.engine_rules.specs.Engines.{sendOf, actOf, nextFor, movedOf, effectOn, runFrom, refusalBy, runOf}
 use Rattle.engine_rules.specs.Claims.{runOn, afterTaken, afterRun, afterRuns, runsOf, after, Served, Beside}
-use Rattle.engine_rules.specs.Sample.{left, runs, SampleHolds}
+use Rattle.engine_rules.specs.Sample.{left, runs, machineOne, engineOne, SampleHolds}
 
 served-with : (x y : ℕ) → Served layout policy code (memory x) (runs y)
 unfolding ones rightLayout rightPolicy rightLandings installAnswer inBox inTable inLandings protected installMemory landingsOf runOn afterTaken afterRun judgeOf judgeAt firstRefused refusalBy
@@ -62,6 +64,24 @@ waits-with x =
       readings = λ i m n. absurd (let z : i < length (after layout policy code (memory x) (pausedRun x ∷ []) .used) = n in omega (arith, ap (λ (us : List ℕ). length us) (unread x)));
     }
 
+-- the machine, after SET
+machine-stands : (x : ℕ) → let c = machineAfter layout policy commands (memory x) (machineOne x ∷ []) in Stands layout (c .machine) × (c .machine .status ≡ Running) × (c .begun ≡ 1)
+unfolding ones leadingZeros rightLayout rightPolicy rightLandings bitsFrom landingsOf instrOf routine bundlesFor wordOf shapeOf readOff bundleAt isCommand commandOf fetchOf plainOf installAnswer installMemory installMachine effectOf applyOf machineFrom machineRunOf begins begunFrom machineOn machineTaken machineRun machineAll
+machine-stands x = (inl refl, refl, refl)
+
+unread-one : (x : ℕ) → after layout policy code (memory x) (engineOne x ∷ []) .used ≡ []
+unfolding ones leadingZeros rightLayout rightPolicy rightLandings bitsFrom landingsOf judgeOf judgeAt firstRefused instrOf routine bundlesFor plainOf installAnswer installMemory applyOf sendOf actOf nextFor movedOf effectOn runFrom refusalBy runOf runOn afterTaken afterRun afterRuns
+unread-one x = refl
+
+level-with : (x : ℕ) → Beside layout policy code (memory x) 32 (machineOne x ∷ []) (engineOne x ∷ [])
+level-with x =
+    record {
+      rewritten = beside-with x x .rewritten;
+      machine = record { passed = machine-holds .served x .passed; installed = machine-holds .served x .installed; lends = (λ l i s. refl, tt) };
+      engine = record { taken = served-with x x .taken; installed = served-with x x .installed; lends = (λ l i s. refl, tt) };
+      readings = λ i m n. absurd (let z : i < length (after layout policy code (memory x) (engineOne x ∷ []) .used) = n in omega (arith, ap (λ (us : List ℕ). length us) (unread-one x)));
+    }
+
 pub sample-holds : SampleHolds
 unfolding ones leadingZeros rightLayout rightPolicy rightLandings bitsFrom landingsOf judgeOf judgeAt firstRefused instrOf routine bundlesFor plainOf installAnswer installMemory applyOf sendOf actOf nextFor movedOf effectOn runFrom refusalBy runOf runOn afterTaken afterRun afterRuns runsOf rewriteAnswer placeAnswer
 sample-holds =
@@ -76,6 +96,11 @@ sample-holds =
       third = λ x. machine-waits x .0;
       behind = λ x. machine-waits x .1;
       paused = λ x. refl;
+      level = level-with;
+      stands = λ x. machine-stands x .0;
+      running = λ x. machine-stands x .1;
+      even = λ x. machine-stands x .2;
+      pauses = λ x. inl refl;
       unknown = refl;
       landing = refl;
     }

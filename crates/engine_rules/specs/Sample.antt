@@ -4,15 +4,16 @@ use mathlib.Core.Path.{_≡_}
 use mathlib.Core.List.{List, [], _∷_, map}
 use lib.ListN.{getD, set}
 use Rattle.rules.specs.declared.Answer.{Answer}
+use Rattle.rules.specs.declared.Status.the-variants.{Running}
 use Rattle.rules.specs.Names.{answer}
 use Rattle.rules.specs.Words.{packOf}
 use Rattle.rules.specs.Machines.{installMemory}
 use Rattle.rules.specs.Guests.{pairOf}
 use Rattle.rules.specs.Runs.{Given, after as machineAfter}
-use Rattle.rules.specs.Claims.{Waiting}
+use Rattle.rules.specs.Claims.{Stands, Waiting, givenFor}
 use Rattle.samples.specs.Sample.{layout, policy, code, commands, memory, given, runs as machineRuns, pausedRun}
 use Rattle.engine_rules.specs.Engines.{refusalOf}
-use Rattle.engine_rules.specs.Claims.{atFirst, afterRun, after, Served, Beside, Run, allRuns, recordedIn}
+use Rattle.engine_rules.specs.Claims.{atFirst, runOn, afterRun, after, Served, Beside, PausedBy, Run, allRuns, recordedIn}
 
 -- two instructions; a memory too short; a thousand, before which the host wrote x to the free cell 600
 abbrev pub firstRun : ℕ → Given
@@ -23,6 +24,13 @@ left x = afterRun layout code (atFirst layout policy (memory x)) (firstRun x) .m
 
 abbrev pub runs : ℕ → List Given
 runs x = firstRun x ∷ given [] 2 x ∷ given (set (left x) 600 x) 1000 x ∷ []
+
+-- SET alone: four steps of the machine, one instruction of the engine
+abbrev pub machineOne : ℕ → Given
+machineOne x = given (installMemory layout policy (memory x)) 4 x
+
+abbrev pub engineOne : ℕ → Given
+engineOne x = given (installMemory layout policy (memory x)) 1 x
 
 abbrev pub answersIn : List Run → List Answer
 answersIn rs = map (λ r. r .ran .outcome .answer) rs
@@ -44,6 +52,12 @@ pub record SampleHolds : Type 0 where
   pub third : (x : ℕ) → Waiting layout commands (machineAfter layout policy commands (memory x) (pausedRun x ∷ []) .machine)
   pub behind : (x : ℕ) → machineAfter layout policy commands (memory x) (pausedRun x ∷ []) .begun ≡ after layout policy code (memory x) (pausedRun x ∷ []) .counted + 1
   pub paused : (x : ℕ) → answersIn (allRuns layout policy code (memory x) (pausedRun x ∷ [])) ≡ answer 23 0 ∷ []
+  -- after SET both are before the first event; given no log the engine pauses there
+  pub level : (x : ℕ) → Beside layout policy code (memory x) 32 (machineOne x ∷ []) (engineOne x ∷ [])
+  pub stands : (x : ℕ) → Stands layout (machineAfter layout policy commands (memory x) (machineOne x ∷ []) .machine)
+  pub running : (x : ℕ) → machineAfter layout policy commands (memory x) (machineOne x ∷ []) .machine .status ≡ Running
+  pub even : (x : ℕ) → machineAfter layout policy commands (memory x) (machineOne x ∷ []) .begun ≡ after layout policy code (memory x) (engineOne x ∷ []) .counted
+  pub pauses : (x : ℕ) → PausedBy (runOn layout code (after layout policy code (memory x) (engineOne x ∷ [])) (givenFor (pausedRun x) 1) .outcome .answer .number)
   -- a kind above 12 in the second word, and a landing beyond
   pub unknown : refusalOf layout (packOf 1 0 0 0 0 70 ∷ packOf 13 0 0 0 0 0 ∷ []) (memory 0) ≡ answer 3 1
   pub landing : refusalOf layout (packOf 10 0 0 0 0 2 ∷ []) (memory 0) ≡ answer 8 0
