@@ -1,7 +1,7 @@
 -- Where the engine pauses before its next instruction, the machine pauses in the bundle.
 use mathlib.Core.Path.{_≡_, refl, sym, _∙_, ap, ap₂, subst}
-use mathlib.Core.Bool.{true, false}
-use mathlib.Core.Logic.{_⊎_, inl, inr}
+use mathlib.Core.Bool.{true}
+use mathlib.Core.Logic.{inl, inr}
 use mathlib.Core.List.{List, [], _∷_, _++_, append-nil}
 use Prim.Native.Nat.{ℕ, suc, _+_, _-_, _*_, _%_, _^_, _<_, _≤_}
 use native.Mathlib.Omega.{arith}
@@ -24,7 +24,7 @@ use Rattle.rules.specs.Policies.{Policy}
 use Rattle.rules.specs.Landings.{marked}
 use Rattle.rules.specs.Words.{routine, bundlesFor}
 use Rattle.rules.specs.Commands.{fetchOf, holdsOf}
-use Rattle.rules.specs.Bundles.{shapeOf, addressOf, positionOf, bundleAt, commandsOf, rewriteAnswer}
+use Rattle.rules.specs.Bundles.{shapeOf, addressOf, bundleAt, commandsOf, rewriteAnswer}
 use Rattle.rules.specs.Machines.{View, regAt, cellAt, entryOf, State, stateOf, machineOf, onward, applyOf, effectOf, eventEffect, endingOf, seen, fits, nextOf as machineNext, Ran as MachineRan, endedIn as machineEnded, startOf as machineStart, runFrom as machineFrom, runOf as machineRunOf, installMemory}
 use Rattle.rules.specs.Guests.{Guest, guestAfter, guestStart}
 use Rattle.rules.specs.Runs.{Given, Carried as MachineCarried, carriedOf as machineCarried, pairsOf, waitingAt, begins, begunFrom, eventIn, runOn as machineOn, afterTaken as machineTaken, afterRun as machineRun, after as machineAfter, atFirst as machineFirst, Lent as MachineLent}
