@@ -139,13 +139,13 @@ module _ (lay : Layout) (s l₀ list : List ℕ) (room : ℕ) (most : mostComman
 
     -- what a caller learns of the answer and the list
     abbrev Translated : Type 0
-    Translated = (r ≡ translateAnswer lay s room) × (r .number ≡ 0 → Listed lay s room list r)
+    Translated = (r ≡ translateAnswer lay s room) × ((r .number ≡ 0 → Listed lay s room list r) × (list ≡ writtenOutput lay s l₀))
 
     refused-by : (b .number ≡ 0 → ⊥) → Translated
     unfolding checkedAnswer
     refused-by h =
         let same : r ≡ b = er ∙ else-kept b _ h in
-        (same ∙ sym (else-kept b last h) ∙ joined, λ z. absurd (h (rw same at z)))
+        (same ∙ sym (else-kept b last h) ∙ joined, (λ z. absurd (h (rw same at z)), el))
 
     passed-by : b .number ≡ 0 → Translated
     unfolding checkedAnswer
@@ -154,7 +154,7 @@ module _ (lay : Layout) (s l₀ list : List ℕ) (room : ℕ) (most : mostComman
         let same : r ≡ orElse C b = er ∙ else-next b _ z ∙ rw (listed z) in
         let is-b : r .number ≡ 0 → r ≡ b = λ y. same ∙ else-next C b (else-none C b (rw same at y) .0) in
         let all : Listed lay s room list b = record { commands = listed z; fits = rw (counted z) (fits z); within = long z } in
-        (same ∙ ap (λ (x : Answer). orElse C x) (counted z) ∙ sym (else-next b last z) ∙ joined, λ y. rw (is-b y) all)
+        (same ∙ ap (λ (x : Answer). orElse C x) (counted z) ∙ sym (else-next b last z) ∙ joined, (λ y. rw (is-b y) all, el))
 
     pub translated : Translated
     translated = ⊎-elim (λ t. passed-by (eqb-true _ _ t)) (λ t. refused-by (eqb-false _ _ t)) (cases (eqb (b .number) 0))

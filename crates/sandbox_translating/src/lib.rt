@@ -59,11 +59,12 @@ fn checked(layout: Layout, list: &[u64], a: Answer) -> Answer
 }
 
 // The routine's commands, passed by the checker, at the list's start; 9 where there are more than
-// `room`.
+// `room`. The list is the caller's own, to work on: where the room or the checker refuses, what was rewritten is left in it.
 pub fn translate(layout: Layout, bytes: &[u8], room: usize, list: &mut [u64]) -> Answer
     requires { ⌜ mostCommands ≤ length (now list) ⌝ }
     ensures answer { λ r. ⌜ r ≡ translateAnswer layout (now (bytes .entry)) room ⌝ }
-    ensures content { λ r. ⌜ (r .number ≡ 0 → Listed layout (now (bytes .entry)) room (now (list .exit)) r) ⌝ }
+    ensures commands { λ r. ⌜ (r .number ≡ 0 → Listed layout (now (bytes .entry)) room (now (list .exit)) r) ⌝ }
+    ensures whole { λ _. ⌜ now (list .exit) ≡ writtenOutput layout (now (bytes .entry)) (now (list .entry)) ⌝ }
 {
     let a = write_commands(layout, bytes, list);
     let b = in_room(a, room);

@@ -42,7 +42,7 @@ returns-2 c =
 listed : (c : tie.After-install) → let t = c .before .before .before .before in let x = t .before .before .before .before .before .before .before .args in Listed (x .layout) (x .bytes .now) (length (x .commands .now)) (t .translate .last .1 .1 .1 .0) (t .translate .result)
 listed c =
     let t = c .before .before .before .before in
-    t .translate .ensures .1 (c .before .before .if1 .left)
+    t .translate .ensures .1 .0 (c .before .before .if1 .left)
 
 array-share-prefix-list : tie.Need-array-share-prefix-list
 array-share-prefix-list c = listed (c .before .before .before .before .before) .within
@@ -68,7 +68,7 @@ returns-3 c =
     let i = n .before .before .before .before in
     let t = i .before .before .before .before in
     let x = t .before .before .before .before .before .before .before .args in
-    loaded (x .layout) (policyOf (x .policy .states) (x .policy .start) (x .table .now) (x .landings .now)) (x .bytes .now) (x .commands .now) (x .memory .now) _ (t .translate .ensures .0) (i .before .before .if1 .left) _ (i .install .ensures .0) _ (i .install .ensures .1) (n .if2 .left) _ (t .translate .ensures .1) _ (w .store-words .ensures)
+    loaded (x .layout) (policyOf (x .policy .states) (x .policy .start) (x .table .now) (x .landings .now)) (x .bytes .now) (x .commands .now) (x .memory .now) _ (t .translate .ensures .0) (i .before .before .if1 .left) _ (i .install .ensures .0) _ (i .install .ensures .1) (n .if2 .left) _ (t .translate .ensures .1 .0) _ (w .store-words .ensures)
 
 pub load-spec : {M : Type 1} → statement M
 load-spec =
