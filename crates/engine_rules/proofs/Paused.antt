@@ -97,9 +97,9 @@ engine-pauses lay pol code mem room gs es v w count g h sg sh lent logs readings
     let g0 = guestStart lay pol (installMemory lay pol mem) in
     let p = pause-rule lay pol code mem room gs (v .rewritten) (v .machine) w in
     let k : n .counted ≡ c .begun - 1 = omega (arith, count) in
-    let G = guestAfter lay pol N (routine code) (c .used) g0 (c .begun - 1) in
-    let f : Follows lay (guestAfter lay pol N (routine code) (n .used) g0 (c .begun - 1)) n = subst (λ (j : ℕ). Follows lay (guestAfter lay pol N (routine code) (n .used) g0 j) n) k (engine-rule lay pol code mem es (v .engine)) in
-    let same = meet lay pol N (routine code) g0 (c .used) (n .used) (c .begun - 1) (v .readings) (p .agrees .used) (f .used) in
+    let G = guestAfter lay pol N (routine code) (c .consumed) g0 (c .begun - 1) in
+    let f : Follows lay (guestAfter lay pol N (routine code) (n .consumed) g0 (c .begun - 1)) n = subst (λ (j : ℕ). Follows lay (guestAfter lay pol N (routine code) (n .consumed) g0 j) n) k (engine-rule lay pol code mem es (v .engine)) in
+    let same = meet lay pol N (routine code) g0 (c .consumed) (n .consumed) (c .begun - 1) (v .readings) (p .agrees .used) (f .used) in
     let at : n .engine .at ≡ G .at = f .at ∙ sym (ap (λ (x : Guest). x .at) same) in
     let run : n .engine .status ≡ Running = f .ending ∙ sym (ap (λ (x : Guest). x .status) same) ∙ sym (p .agrees .ending) ∙ w .running in
     let t = taken-of lay code mem (v .engine .taken) in

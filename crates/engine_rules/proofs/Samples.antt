@@ -31,7 +31,7 @@ served-with x y =
       lends = (λ l. machine-holds .matches y x, (λ l. absurd (let z : _≡_ {A = ℕ} 0 1024 = l in omega arith), (λ l. free-set (left y) 600 y refl, tt)));
     }
 
-nothing-used : (x y : ℕ) → after layout policy code (memory x) (runs y) .used ≡ []
+nothing-used : (x y : ℕ) → after layout policy code (memory x) (runs y) .consumed ≡ []
 unfolding ones leadingZeros rightLayout rightPolicy rightLandings bitsFrom landingsOf judgeOf judgeAt firstRefused instrOf routine bundlesFor plainOf installAnswer installMemory applyOf sendOf actOf nextFor movedOf effectOn runFrom refusalBy runOf runOn afterTaken afterRun afterRuns
 nothing-used x y = refl
 
@@ -42,7 +42,7 @@ beside-with x y =
       rewritten = refl;
       machine = machine-holds .served x;
       engine = served-with x y;
-      readings = λ i m n. absurd (let z : i < length (after layout policy code (memory x) (runs y) .used) = n in omega (arith, ap (λ (us : List ℕ). length us) (nothing-used x y)));
+      readings = λ i m n. absurd (let z : i < length (after layout policy code (memory x) (runs y) .consumed) = n in omega (arith, ap (λ (us : List ℕ). length us) (nothing-used x y)));
     }
 
 -- the machine, given no log
@@ -51,7 +51,7 @@ unfolding ones leadingZeros rightLayout rightPolicy rightLandings bitsFrom landi
 machine-waits x = (record { running = refl; event = 0; third = refl }, refl)
 
 -- and neither uses a reading
-unread : (x : ℕ) → after layout policy code (memory x) (pausedRun x ∷ []) .used ≡ []
+unread : (x : ℕ) → after layout policy code (memory x) (pausedRun x ∷ []) .consumed ≡ []
 unfolding ones leadingZeros rightLayout rightPolicy rightLandings bitsFrom landingsOf judgeOf judgeAt firstRefused instrOf routine bundlesFor plainOf installAnswer installMemory applyOf sendOf actOf nextFor movedOf effectOn runFrom refusalBy runOf runOn afterTaken afterRun afterRuns
 unread x = refl
 
@@ -61,7 +61,7 @@ waits-with x =
       rewritten = beside-with x x .rewritten;
       machine = record { passed = machine-holds .served x .passed; installed = machine-holds .served x .installed; lends = (λ l i s. refl, tt) };
       engine = record { taken = served-with x x .taken; installed = served-with x x .installed; lends = (λ l i s. refl, tt) };
-      readings = λ i m n. absurd (let z : i < length (after layout policy code (memory x) (pausedRun x ∷ []) .used) = n in omega (arith, ap (λ (us : List ℕ). length us) (unread x)));
+      readings = λ i m n. absurd (let z : i < length (after layout policy code (memory x) (pausedRun x ∷ []) .consumed) = n in omega (arith, ap (λ (us : List ℕ). length us) (unread x)));
     }
 
 -- the machine, after SET
@@ -69,7 +69,7 @@ machine-stands : (x : ℕ) → let c = machineAfter layout policy commands (memo
 unfolding ones leadingZeros rightLayout rightPolicy rightLandings bitsFrom landingsOf instrOf routine bundlesFor wordOf shapeOf readOff bundleAt isCommand commandOf fetchOf plainOf installAnswer installMemory installMachine effectOf applyOf machineFrom machineRunOf begins begunFrom machineOn machineTaken machineRun machineAll
 machine-stands x = (inl refl, refl, refl)
 
-unread-one : (x : ℕ) → after layout policy code (memory x) (engineOne x ∷ []) .used ≡ []
+unread-one : (x : ℕ) → after layout policy code (memory x) (engineOne x ∷ []) .consumed ≡ []
 unfolding ones leadingZeros rightLayout rightPolicy rightLandings bitsFrom landingsOf judgeOf judgeAt firstRefused instrOf routine bundlesFor plainOf installAnswer installMemory applyOf sendOf actOf nextFor movedOf effectOn runFrom refusalBy runOf runOn afterTaken afterRun afterRuns
 unread-one x = refl
 
@@ -79,7 +79,7 @@ level-with x =
       rewritten = beside-with x x .rewritten;
       machine = record { passed = machine-holds .served x .passed; installed = machine-holds .served x .installed; lends = (λ l i s. refl, tt) };
       engine = record { taken = served-with x x .taken; installed = served-with x x .installed; lends = (λ l i s. refl, tt) };
-      readings = λ i m n. absurd (let z : i < length (after layout policy code (memory x) (engineOne x ∷ []) .used) = n in omega (arith, ap (λ (us : List ℕ). length us) (unread-one x)));
+      readings = λ i m n. absurd (let z : i < length (after layout policy code (memory x) (engineOne x ∷ []) .consumed) = n in omega (arith, ap (λ (us : List ℕ). length us) (unread-one x)));
     }
 
 pub sample-holds : SampleHolds

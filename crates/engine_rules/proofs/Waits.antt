@@ -163,26 +163,26 @@ module _ (lay : Layout) (code rd : List ℕ) (room : ℕ) (s : State) (h v : ℕ
   one-begun = ap₂ (λ (x y : ℕ). x + y) (first-yes lay (s .pc) (omega arith)) (first-no lay (onward (s .pc)) (not-first (lay .base) h (onward (s .pc)) second-pc))
 
 -- ---- what is carried on after a run that left r, the machine's with b bundles begun
-machine-left : (lay : Layout) (ws : List ℕ) (c : MachineCarried) (g : Given) (r : MachineRan) (b : ℕ) → fits lay (g .memory) ≡ true → (let s = machineStart (c .machine) (g .memory) (g .log) in _≡_ {A = MachineRan × ℕ} (machineFrom lay ws (g .readings) (g .budget) 0 s, begunFrom lay ws (g .readings) (g .budget) (c .begun) s) (r, b)) → (machineOn lay ws c g ≡ r) × (machineRun lay ws c g ≡ machineCarried (r .outcome .machine) (r .mem) (c .records ++ pairsOf (r .log) (r .outcome .answer .pairs)) (c .used ++ take (r .outcome .answer .used) (g .readings)) b)
+machine-left : (lay : Layout) (ws : List ℕ) (c : MachineCarried) (g : Given) (r : MachineRan) (b : ℕ) → fits lay (g .memory) ≡ true → (let s = machineStart (c .machine) (g .memory) (g .log) in _≡_ {A = MachineRan × ℕ} (machineFrom lay ws (g .readings) (g .budget) 0 s, begunFrom lay ws (g .readings) (g .budget) (c .begun) s) (r, b)) → (machineOn lay ws c g ≡ r) × (machineRun lay ws c g ≡ machineCarried (r .outcome .machine) (r .mem) (c .records ++ pairsOf (r .log) (r .outcome .answer .pairs)) (c .consumed ++ take (r .outcome .answer .used) (g .readings)) b)
 unfolding machineOn machineRunOf machineTaken machineRun
 machine-left lay ws c g r b t e =
     rw t
-    (ap (λ (x : MachineRan × ℕ). x .0) e, ap (λ (x : MachineRan × ℕ). machineCarried (x .0 .outcome .machine) (x .0 .mem) (c .records ++ pairsOf (x .0 .log) (x .0 .outcome .answer .pairs)) (c .used ++ take (x .0 .outcome .answer .used) (g .readings)) (x .1)) e)
+    (ap (λ (x : MachineRan × ℕ). x .0) e, ap (λ (x : MachineRan × ℕ). machineCarried (x .0 .outcome .machine) (x .0 .mem) (c .records ++ pairsOf (x .0 .log) (x .0 .outcome .answer .pairs)) (c .consumed ++ take (x .0 .outcome .answer .used) (g .readings)) (x .1)) e)
 
-engine-left : (lay : Layout) (ws : List ℕ) (c : Carried) (g : Given) (r : Ran) → refusalOf lay ws (g .memory) .number ≡ 0 → runFrom lay ws (g .readings) (g .budget) 0 (startOf (c .engine) (g .memory) (g .log)) ≡ r → (runOn lay ws c g ≡ r) × (afterRun lay ws c g ≡ carriedOf (r .outcome .engine) (r .mem) (c .records ++ pairsOf (r .log) (r .outcome .pairs)) (c .used ++ take (r .outcome .used) (g .readings)) (c .counted + r .outcome .steps))
+engine-left : (lay : Layout) (ws : List ℕ) (c : Carried) (g : Given) (r : Ran) → refusalOf lay ws (g .memory) .number ≡ 0 → runFrom lay ws (g .readings) (g .budget) 0 (startOf (c .engine) (g .memory) (g .log)) ≡ r → (runOn lay ws c g ≡ r) × (afterRun lay ws c g ≡ carriedOf (r .outcome .engine) (r .mem) (c .records ++ pairsOf (r .log) (r .outcome .pairs)) (c .consumed ++ take (r .outcome .used) (g .readings)) (c .counted + r .outcome .steps))
 unfolding runOn runOf afterTaken afterRun
 engine-left lay ws c g r z e =
     rw (eq-eqb _ _ z)
-    (e, ap (λ (x : Ran). carriedOf (x .outcome .engine) (x .mem) (c .records ++ pairsOf (x .log) (x .outcome .pairs)) (c .used ++ take (x .outcome .used) (g .readings)) (c .counted + x .outcome .steps)) e)
+    (e, ap (λ (x : Ran). carriedOf (x .outcome .engine) (x .mem) (c .records ++ pairsOf (x .log) (x .outcome .pairs)) (c .consumed ++ take (x .outcome .used) (g .readings)) (c .counted + x .outcome .steps)) e)
 
 -- ---- both pause, and neither uses a reading
 record Pause (lay : Layout) (code : List ℕ) (c : MachineCarried) (n : Carried) (g h : Given) : Type 0 where
   answers : endingNumber (machineOn lay (commandsOf lay code) c g .outcome .answer .ending) ≡ runOn lay code n h .outcome .answer .number
   waiting : Waiting lay (commandsOf lay code) (machineRun lay (commandsOf lay code) c g .machine)
   begun : machineRun lay (commandsOf lay code) c g .begun ≡ c .begun + 1
-  machine : machineRun lay (commandsOf lay code) c g .used ≡ c .used
+  machine : machineRun lay (commandsOf lay code) c g .consumed ≡ c .consumed
   counted : afterRun lay code n h .counted ≡ n .counted
-  engine : afterRun lay code n h .used ≡ n .used
+  engine : afterRun lay code n h .consumed ≡ n .consumed
 
 both-pause : (lay : Layout) (pol : Policy) (code mem : List ℕ) (room : ℕ) (gs es : List Given) → Beside lay pol code mem room gs es →
     let c = machineAfter lay pol (commandsOf lay code) mem gs in
@@ -201,9 +201,9 @@ both-pause lay pol code mem room gs es v x count run g h lg lh sg sh logs readin
     let g0 = guestStart lay pol (installMemory lay pol mem) in
     let now : Meets lay c n = engine-machine lay pol code mem room gs es v x count in
     let a = guest-rule lay pol code mem room gs (v .rewritten) (v .machine) x in
-    let G = guestAfter lay pol N (routine code) (c .used) g0 (c .begun) in
-    let f : Follows lay (guestAfter lay pol N (routine code) (n .used) g0 (c .begun)) n = subst (λ (j : ℕ). Follows lay (guestAfter lay pol N (routine code) (n .used) g0 j) n) (sym count) (engine-rule lay pol code mem es (v .engine)) in
-    let same = meet lay pol N (routine code) g0 (c .used) (n .used) (c .begun) (v .readings) (a .used) (f .used) in
+    let G = guestAfter lay pol N (routine code) (c .consumed) g0 (c .begun) in
+    let f : Follows lay (guestAfter lay pol N (routine code) (n .consumed) g0 (c .begun)) n = subst (λ (j : ℕ). Follows lay (guestAfter lay pol N (routine code) (n .consumed) g0 j) n) (sym count) (engine-rule lay pol code mem es (v .engine)) in
+    let same = meet lay pol N (routine code) g0 (c .consumed) (n .consumed) (c .begun) (v .readings) (a .used) (f .used) in
     let at : n .engine .at ≡ G .at = f .at ∙ sym (ap (λ (y : Guest). y .at) same) in
     let runs : n .engine .status ≡ Running = sym (now .ending) ∙ run in
     -- the engine
@@ -225,7 +225,7 @@ both-pause lay pol code mem room gs es v x count run g h lg lh sg sh logs readin
     let right = right-routine lay pol code mem room (v .rewritten) (v .machine .installed) in
     let bs = bundled-routine lay code room (v .rewritten) in
     let s′ = machineStart (c .machine) (g .memory) (g .log) in
-    let tr = tracks lay pol ws N (routine code) right bs (c .records) (c .used) (g .readings) g0 (c .begun) s′ (machine-enter lay pol ws N (routine code) right bs g0 c g sg lg (machine-stays lay pol ws mem gs N (routine code) right bs (v .machine))) in
+    let tr = tracks lay pol ws N (routine code) right bs (c .records) (c .consumed) (g .readings) g0 (c .begun) s′ (machine-enter lay pol ws N (routine code) right bs g0 c g sg lg (machine-stays lay pol ws mem gs N (routine code) right bs (v .machine))) in
     let guarded = tr .1 .agree .memory .guarded in
     let q = getD (h .memory) (lay .cell) 0 in
     let q′ = getD (g .memory) (lay .cell) 0 in
@@ -260,9 +260,9 @@ both-pause lay pol code mem room gs es v x count run g h lg lh sg sh logs readin
       answers = ap (λ (r : MachineRan). endingNumber (r .outcome .answer .ending)) (mm .0) ∙ sym (ap (λ (r : Ran). r .outcome .answer .number) (me .0));
       waiting = subst (λ (k : MachineCarried). Waiting lay ws (k .machine)) (sym (mm .1)) (record { running = run; event = e; third = stands });
       begun = ap (λ (k : MachineCarried). k .begun) (mm .1) ∙ omega (arith, one);
-      machine = ap (λ (k : MachineCarried). k .used) (mm .1) ∙ append-nil (c .used);
+      machine = ap (λ (k : MachineCarried). k .consumed) (mm .1) ∙ append-nil (c .consumed);
       counted = ap (λ (k : Carried). k .counted) (me .1) ∙ omega arith;
-      engine = ap (λ (k : Carried). k .used) (me .1) ∙ append-nil (n .used);
+      engine = ap (λ (k : Carried). k .consumed) (me .1) ∙ append-nil (n .consumed);
     }
 
 pub engine-waits : EngineWaits
@@ -274,8 +274,8 @@ engine-waits lay pol code mem room gs es v x count run g h lg lh sg sh logs read
     let y = both-pause lay pol code mem room gs es v x count run g h lg lh sg sh logs readings few p in
     let mg = machine-more lay ws (machineFirst lay pol mem) gs g in
     let mh = runs-more lay code (atFirst lay pol mem) es h′ in
-    let us : machineAfter lay pol ws mem (gs ++ (g ∷ [])) .used ≡ c .used = ap (λ (k : MachineCarried). k .used) mg ∙ y .machine in
-    let vs : after lay pol code mem (es ++ (h′ ∷ [])) .used ≡ n .used = ap (λ (k : Carried). k .used) mh ∙ y .engine in
+    let us : machineAfter lay pol ws mem (gs ++ (g ∷ [])) .consumed ≡ c .consumed = ap (λ (k : MachineCarried). k .consumed) mg ∙ y .machine in
+    let vs : after lay pol code mem (es ++ (h′ ∷ [])) .consumed ≡ n .consumed = ap (λ (k : Carried). k .consumed) mh ∙ y .engine in
     let more : Beside lay pol code mem room (gs ++ (g ∷ [])) (es ++ (h′ ∷ [])) =
     record {
       rewritten = v .rewritten;
@@ -283,7 +283,7 @@ engine-waits lay pol code mem room gs es v x count run g h lg lh sg sh logs read
           record { passed = v .machine .passed; installed = v .machine .installed; lends = machine-lends lay ws (machineFirst lay pol mem) gs g (v .machine .lends) lg };
       engine =
           record { taken = v .engine .taken; installed = v .engine .installed; lends = lends-more lay code (atFirst lay pol mem) es h′ (v .engine .lends) lh };
-      readings = subst (λ (k : List ℕ). InTurn k (after lay pol code mem (es ++ (h′ ∷ [])) .used)) (sym us) (subst (λ (k : List ℕ). InTurn (c .used) k) (sym vs) (v .readings));
+      readings = subst (λ (k : List ℕ). InTurn k (after lay pol code mem (es ++ (h′ ∷ [])) .consumed)) (sym us) (subst (λ (k : List ℕ). InTurn (c .consumed) k) (sym vs) (v .readings));
     } in
     let begun : machineRun lay ws c g .begun ≡ afterRun lay code n h′ .counted + 1 = omega (arith, y .begun, y .counted, count) in
     let one : machineAfter lay pol ws mem (gs ++ (g ∷ [])) .begun ≡ after lay pol code mem (es ++ (h′ ∷ [])) .counted + 1 =

@@ -105,7 +105,7 @@ going-or-over lay pol ws mem gs f v =
     let ok = right-of lay pol ws mem (v .passed) (v .installed) in
     let bs = bundled-of lay ws (v .passed) in
     let c = after lay pol ws mem gs in
-    by c _ _ _ (ahead-all lay pol ws mem gs f v .lands) (tracks lay pol ws n is ok bs (c .records) (c .used) [] (guestStart lay pol (installMemory lay pol mem)) (c .begun) (startOf (c .machine) (c .memory) []) (stays lay pol ws mem gs n is ok bs v) .1 .sim)
+    by c _ _ _ (ahead-all lay pol ws mem gs f v .lands) (tracks lay pol ws n is ok bs (c .records) (c .consumed) [] (guestStart lay pol (installMemory lay pol mem)) (c .begun) (startOf (c .machine) (c .memory) []) (stays lay pol ws mem gs n is ok bs v) .1 .sim)
   where
     status : (t : Status) → (t ≡ Strayed → ⊥) → (t ≡ Faulted → ⊥) → (t ≡ Running) ⊎ ((t ≡ Ended) ⊎ (t ≡ Stopped))
     status Running l f = inl refl

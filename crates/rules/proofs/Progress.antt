@@ -311,8 +311,8 @@ resumes lay pol ws mem gs v run g lent len ll lr =
     let c = after lay pol ws mem gs in
     let s = startOf (c .machine) (g .memory) (g .log) in
     let w = enter lay pol ws n is ok bs g0 c g len lent (stays lay pol ws mem gs n is ok bs v) in
-    let k = tracks lay pol ws n is ok bs (c .records) (c .used) (g .readings) g0 (c .begun) s w in
-    let y = from-here lay pol ws n is ok bs (c .records) (c .used) (g .readings) g0 (c .begun) s _ (k .0) w run (omega arith, omega arith) (k .1 .sim) in
+    let k = tracks lay pol ws n is ok bs (c .records) (c .consumed) (g .readings) g0 (c .begun) s w in
+    let y = from-here lay pol ws n is ok bs (c .records) (c .consumed) (g .readings) g0 (c .begun) s _ (k .0) w run (omega arith, omega arith) (k .1 .sim) in
     let t : fits lay (g .memory) ≡ true = rw (layout-of lay ws (v .passed), eq-eqb (length (g .memory)) (lay .size) len) in
     record { budget = y .j; few = y .few; stands = rw t (y .stands); begun = rw t (y .begun) }
 

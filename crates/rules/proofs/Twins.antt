@@ -313,7 +313,7 @@ watched lay pol ws n is g0 ok bs =
       step =
           λ rd s w run go.
           record { past = w .past; before = w .before; begun = w .begun + begins lay (s .pc); known = step-known lay pol ws n is ok bs (w .past) (w .before) rd g0 (w .begun) s (w .known) run go };
-      enter = λ c g l lent w. record { past = c .records; before = c .used; begun = c .begun; known = enter lay pol ws n is ok bs g0 c g l lent w };
+      enter = λ c g l lent w. record { past = c .records; before = c .consumed; begun = c .begun; known = enter lay pol ws n is ok bs g0 c g l lent w };
       leave = λ c g lent w. stays-run lay pol ws n is ok bs g0 c g _ refl lent w;
     }
 

@@ -208,7 +208,7 @@ pub record AgreesAt (lay : Layout) (p : ℕ) (g : Guest) (c : Carried) : Type 0 
   pub box : boxOf lay (c .memory) ≡ g .box
   pub state : getD (c .memory) (lay .cell) 0 ≡ g .state
   pub records : c .records ≡ g .records
-  pub used : length (c .used) ≡ g .used
+  pub used : length (c .consumed) ≡ g .used
   pub next : c .machine .status ≡ Running → c .machine .pc ≡ addressOf lay (g .at) + p
 
 abbrev pub Agrees : Layout → Guest → Carried → Type 0
@@ -223,7 +223,7 @@ GuestRule =
     let ws = commandsOf lay code in
     let c = after lay pol ws mem gs in
     let g = guestStart lay pol (installMemory lay pol mem) in
-    Served lay pol ws mem gs → Stands lay (c .machine) → Agrees lay (guestAfter lay pol (bundlesFor (length code)) (routine code) (c .used) g (c .begun)) c
+    Served lay pol ws mem gs → Stands lay (c .machine) → Agrees lay (guestAfter lay pol (bundlesFor (length code)) (routine code) (c .consumed) g (c .begun)) c
 
 -- ---- progress: a machine that can go on reaches the next place of comparison in at most four steps
 
@@ -390,4 +390,4 @@ PauseRule =
     let c = after lay pol ws mem gs in
     let g = guestStart lay pol (installMemory lay pol mem) in
     Served lay pol ws mem gs → (w : Waiting lay ws (c .machine)) →
-    WaitsFor lay pol code (w .event) (guestAfter lay pol (bundlesFor (length code)) (routine code) (c .used) g (c .begun - 1)) c
+    WaitsFor lay pol code (w .event) (guestAfter lay pol (bundlesFor (length code)) (routine code) (c .consumed) g (c .begun - 1)) c

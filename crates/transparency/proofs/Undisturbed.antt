@@ -99,12 +99,12 @@ module _ (lay : Layout) (pol : Policy) (mem raw : List ℕ) (z : installAnswer l
 -- a machine that is the guest after k instructions is the raw run
 module _ (lay : Layout) (pol : Policy) (code mem raw : List ℕ) (gs : List Given) (reads : List ℕ) (s : SameBox lay mem raw) (v : Served lay pol (commandsOf lay code) mem gs) (p k : ℕ) where
   alike : let c = after lay pol (commandsOf lay code) mem gs in
-      Begins (c .used) reads → BehavesFor lay pol (bundlesFor (length code)) (routine code) reads (rawStart raw) k
-      → AgreesAt lay p (guestAfter lay pol (bundlesFor (length code)) (routine code) (c .used) (guestStart lay pol (installMemory lay pol mem)) k) c
-      → Alike lay (rawAfter lay (routine code) reads (rawStart raw) k) (take guestRegisters (c .machine .regs)) (c .memory) (c .records) (length (c .used)) (c .machine .status)
+      Begins (c .consumed) reads → BehavesFor lay pol (bundlesFor (length code)) (routine code) reads (rawStart raw) k
+      → AgreesAt lay p (guestAfter lay pol (bundlesFor (length code)) (routine code) (c .consumed) (guestStart lay pol (installMemory lay pol mem)) k) c
+      → Alike lay (rawAfter lay (routine code) reads (rawStart raw) k) (take guestRegisters (c .machine .regs)) (c .memory) (c .records) (length (c .consumed)) (c .machine .status)
   alike b h a =
       let c = after lay pol (commandsOf lay code) mem gs in
-      let l = raw-like lay pol mem raw (v .installed) s code (c .used) reads k b (a .used) h in
+      let l = raw-like lay pol mem raw (v .installed) s code (c .consumed) reads k b (a .used) h in
       record {
         ending = a .ending ∙ sym (l .status);
         registers = a .regs ∙ sym (l .regs);
@@ -130,7 +130,7 @@ pub engine-undisturbed : EngineUndisturbed
 engine-undisturbed lay pol code mem raw gs reads s v b h =
     let c = engineAfter lay pol code mem gs in
     let a = engine-rule lay pol code mem gs v in
-    let l = raw-like lay pol mem raw (v .installed) s code (c .used) reads (c .counted) b (a .used) h in
+    let l = raw-like lay pol mem raw (v .installed) s code (c .consumed) reads (c .counted) b (a .used) h in
     record {
       ending = a .ending ∙ sym (l .status);
       registers = a .regs ∙ sym (l .regs);

@@ -45,9 +45,9 @@ Undisturbed =
     let ws = commandsOf lay code in
     let c = after lay pol ws mem gs in
     let is = routine code in
-    Served lay pol ws mem gs → Begins (c .used) reads → BehavesFor lay pol (bundlesFor (length code)) is reads (rawStart raw) (c .begun) →
+    Served lay pol ws mem gs → Begins (c .consumed) reads → BehavesFor lay pol (bundlesFor (length code)) is reads (rawStart raw) (c .begun) →
     Stands lay (c .machine) →
-    Alike lay (rawAfter lay is reads (rawStart raw) (c .begun)) (take guestRegisters (c .machine .regs)) (c .memory) (c .records) (length (c .used)) (c .machine .status)
+    Alike lay (rawAfter lay is reads (rawStart raw) (c .begun)) (take guestRegisters (c .machine .regs)) (c .memory) (c .records) (length (c .consumed)) (c .machine .status)
 
 -- the engine, wherever a list of runs ends, beside the raw run after as many instructions as it counted
 abbrev pub EngineUndisturbed : Type 0
@@ -55,8 +55,8 @@ EngineUndisturbed =
     (lay : Layout) (pol : Policy) (code mem raw : List ℕ) (gs : List Given) (reads : List ℕ) → SameBox lay mem raw →
     let c = engineAfter lay pol code mem gs in
     let is = routine code in
-    EngineServed lay pol code mem gs → Begins (c .used) reads → BehavesFor lay pol (bundlesFor (length code)) is reads (rawStart raw) (c .counted) →
-    Alike lay (rawAfter lay is reads (rawStart raw) (c .counted)) (c .engine .regs) (c .memory) (c .records) (length (c .used)) (c .engine .status)
+    EngineServed lay pol code mem gs → Begins (c .consumed) reads → BehavesFor lay pol (bundlesFor (length code)) is reads (rawStart raw) (c .counted) →
+    Alike lay (rawAfter lay is reads (rawStart raw) (c .counted)) (c .engine .regs) (c .memory) (c .records) (length (c .consumed)) (c .engine .status)
 
 -- at a pause for log or probe, on the third command of an event bundle, beside the raw run after the bundles wholly behind
 abbrev pub UndisturbedPaused : Type 0
@@ -66,9 +66,9 @@ UndisturbedPaused =
     let ws = commandsOf lay code in
     let c = after lay pol ws mem gs in
     let is = routine code in
-    Served lay pol ws mem gs → Begins (c .used) reads → BehavesFor lay pol (bundlesFor (length code)) is reads (rawStart raw) (c .begun - 1) →
+    Served lay pol ws mem gs → Begins (c .consumed) reads → BehavesFor lay pol (bundlesFor (length code)) is reads (rawStart raw) (c .begun - 1) →
     Waiting lay ws (c .machine) →
-    Alike lay (rawAfter lay is reads (rawStart raw) (c .begun - 1)) (take guestRegisters (c .machine .regs)) (c .memory) (c .records) (length (c .used)) (c .machine .status)
+    Alike lay (rawAfter lay is reads (rawStart raw) (c .begun - 1)) (take guestRegisters (c .machine .regs)) (c .memory) (c .records) (length (c .consumed)) (c .machine .status)
 
 -- 'A pause is no instruction, and a run that can go on follows it': where the raw run is not over, the caged one, lent its memory,
 -- two log cells and a reading, comes to the next place of comparison in at most four steps, one bundle on; from a pause by `Resumes`,
@@ -80,7 +80,7 @@ UndisturbedNext =
     let ws = commandsOf lay code in
     let c = after lay pol ws mem gs in
     let is = routine code in
-    Served lay pol ws mem gs → Begins (c .used) reads → BehavesFor lay pol (bundlesFor (length code)) is reads (rawStart raw) (c .begun) →
+    Served lay pol ws mem gs → Begins (c .consumed) reads → BehavesFor lay pol (bundlesFor (length code)) is reads (rawStart raw) (c .begun) →
     Stands lay (c .machine) → rawAfter lay is reads (rawStart raw) (c .begun) .status ≡ Running →
     (g : Given) → Lent lay c g → Enough lay g → Proceeds lay ws c g (c .begun + 1)
 
@@ -90,6 +90,6 @@ EngineUndisturbedNext =
     (lay : Layout) (pol : Policy) (code mem raw : List ℕ) (gs : List Given) (reads : List ℕ) → SameBox lay mem raw →
     let c = engineAfter lay pol code mem gs in
     let is = routine code in
-    EngineServed lay pol code mem gs → Begins (c .used) reads → BehavesFor lay pol (bundlesFor (length code)) is reads (rawStart raw) (c .counted) →
+    EngineServed lay pol code mem gs → Begins (c .consumed) reads → BehavesFor lay pol (bundlesFor (length code)) is reads (rawStart raw) (c .counted) →
     rawAfter lay is reads (rawStart raw) (c .counted) .status ≡ Running →
     (g : Given) → EngineLent lay c g → Enough lay g → engineRun lay code c (givenFor g 1) .counted ≡ c .counted + 1

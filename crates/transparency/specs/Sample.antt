@@ -46,7 +46,7 @@ pub record SampleHolds : Type 0 where
   pub served : Served layout policy commands memory (run ∷ [])
   pub box : SameBox layout memory memory
   pub begun : after layout policy commands memory (run ∷ []) .begun ≡ 8
-  pub begins : Begins (after layout policy commands memory (run ∷ []) .used) readings
+  pub begins : Begins (after layout policy commands memory (run ∷ []) .consumed) readings
   pub behaves : BehavesFor layout policy 16 (routine code) readings (rawStart memory) 8
   pub recorded : rawAt 8 .records ≡ pairOf 0 6 ∷ pairOf 8 1800 ∷ []
   pub ended : rawAt 8 .status ≡ Ended
