@@ -57,7 +57,8 @@ impl Layout {
     }
 }
 
-// A policy's numbers; its table of 16 bytes a state is lent beside it.
+// A policy's numbers; its table of 16 bytes a state, and the landings that are installed with it, are lent beside it. The
+// definitions' Policy is the whole of these.
 pub struct Policy {
     pub states: u32,
     pub start: u32,
