@@ -135,7 +135,7 @@ pub record AmpleFor (lay : Layout) (N : ℕ) (g : Given) : Type 0 where
   pub log : 2 * (N - 1) ≤ length (g .log)
   pub readings : N - 1 ≤ length (g .readings)
 
--- the same by one run, after any others: it does not pause
+-- the same by one run, after any others
 abbrev pub FinishesAtOnce : Type 0
 FinishesAtOnce =
     (lay : Layout) (pol : Policy) (ws mem : List ℕ) (gs : List Given) (g : Given) → checkForwardAnswer lay ws .number ≡ 0 →

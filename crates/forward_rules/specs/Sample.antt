@@ -1,4 +1,4 @@
--- Samples: answers of the two checks, and a routine on the claims' premises that pauses once and reaches the bound.
+-- Samples: answers of the two checks, and a routine on the premises of Bounded and AlwaysFinish that pauses once and reaches the bound.
 use Prim.Native.Nat.{ℕ, _≤_}
 use mathlib.Core.Path.{_≡_}
 use mathlib.Core.List.{List, [], _∷_, map}

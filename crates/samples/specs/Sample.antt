@@ -68,7 +68,7 @@ abbrev pub answersIn : List Run → List RunAnswer
 answersIn rs = map (λ r. r .ran .outcome .answer) rs
 
 -- whatever x and y free cells and logs held, the runs are on the premises of Isolation and of its (d);
--- fourteen steps in all, and the last run stops where gas has no arrow, after four bundles, as the guest does.
+-- fourteen steps in all, and the last run stops where gas has no arrow, after four bundles, with the guest's records.
 -- Without a log the first event is waited for; after eleven steps the door's is recorded, and the state cell is behind by it
 pub record SampleHolds : Type 0 where
   pub served : (x : ℕ) → Served layout policy commands (memory x) (runs x)

@@ -1,4 +1,4 @@
--- The program `trial` of document 01 on its sample input: 'so its output remains'.
+-- Document 01's trial on its sample input, as the rules have it: 'so its output remains'. The program `trial` is tried, not claimed.
 use Prim.Native.Nat.{ℕ, zero, suc}
 use mathlib.Core.Path.{_≡_}
 use mathlib.Core.List.{List, [], _∷_}
@@ -48,7 +48,7 @@ given =
 abbrev pub ran : Ran
 ran = runOn layout commands (loadedAt layout policy input mostCommands memory) given
 
--- what it prints: 'answer 0; event 0 70; event 2 70; end 21 steps 14 state 1'; and the run is on the premises of Loads
+-- what is printed of it: 'answer 0; event 0 70; event 2 70; end 21 steps 14 state 1'; and the run is on the premises of Loads
 pub record TrialHolds : Type 0 where
   pub answers : loadAnswer layout policy input mostCommands memory ≡ answer 0 32
   pub events : pairsOf (ran .log) (ran .outcome .answer .pairs) ≡ pairOf 0 70 ∷ pairOf 2 70 ∷ []

@@ -40,7 +40,7 @@ run = record { memory = installMemory layout policy memory; budget = 1000; readi
 abbrev pub rawAt : ℕ → Raw
 rawAt k = rawAfter layout (routine code) readings (rawStart memory) k
 
--- the premises can be met: the caged run comes to its end, and so the raw one, after the same eight instructions
+-- the premises of Undisturbed can be met: the caged run has begun eight bundles, and the raw one ends after eight instructions
 pub record SampleHolds : Type 0 where
   pub rewritten : rewriteAnswer layout code 64 .number ≡ 0
   pub served : Served layout policy commands memory (run ∷ [])
