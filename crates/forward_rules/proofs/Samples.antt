@@ -7,7 +7,7 @@ use Rattle.rules.specs.Policies.{rightPolicy}
 use Rattle.rules.specs.Landings.{rightLandings, landingsOf}
 use Rattle.rules.specs.Words.{judgeOf, judgeAt, firstRefused, instrOf, routine, bundlesFor}
 use Rattle.rules.specs.Commands.{isCommand, commandOf, wordOf, fetchOf, plainOf}
-use Rattle.rules.specs.Bundles.{shapeOf, valid, readOff, bundleAt, isBundle, shapedAt, passesAt, checkFrom, checkAnswer}
+use Rattle.rules.specs.Bundles.{shapeOf, valid, readOff, bundleAt, isBundle, shapedAt, passesAt, checkFrom, checkAnswer, placeAnswer, rewriteAnswer}
 use Rattle.rules.specs.Machines.{installAnswer, installMemory, installMachine, effectOf, applyOf, runFrom, runOf}
 use Rattle.rules.specs.Runs.{runOn, afterTaken, afterRun, runsOf, Served}
 use Rattle.forward_rules.specs.Forward.{forwardAt, forwardFrom, forwardAnswer, checkForwardAnswer}
@@ -27,9 +27,10 @@ unfolding ones rightLayout rightPolicy rightLandings installAnswer
 served = record { passed = passed; installed = refl; lends = (λ l i s. refl, (λ l i s. refl, tt)) }
 
 pub reaches : Reaches
-unfolding ones leadingZeros rightLayout rightPolicy rightLandings landingsOf judgeOf judgeAt firstRefused instrOf routine bundlesFor wordOf shapeOf isCommand commandOf fetchOf plainOf installAnswer installMemory installMachine effectOf applyOf runFrom runOf runOn afterTaken afterRun runsOf forwardAt forwardFrom forwardAnswer
+unfolding ones leadingZeros rightLayout rightPolicy rightLandings landingsOf judgeOf judgeAt firstRefused instrOf routine bundlesFor wordOf shapeOf isCommand commandOf fetchOf plainOf installAnswer installMemory installMachine effectOf applyOf runFrom runOf runOn afterTaken afterRun runsOf placeAnswer rewriteAnswer forwardAt forwardFrom forwardAnswer
 reaches =
     record {
+      rewritten = refl;
       forward = refl;
       served = served;
       resumed = (record { memory = refl; log = lit≤ tt; readings = lit≤ tt }, (record { memory = refl; log = lit≤ tt; readings = lit≤ tt }, tt));

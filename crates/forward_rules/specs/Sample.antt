@@ -10,7 +10,7 @@ use Rattle.rules.specs.Layouts.{layoutOf}
 use Rattle.samples.specs.Tray.{noLimits}
 use Rattle.rules.specs.Policies.{Policy, policyOf}
 use Rattle.rules.specs.Words.{packOf}
-use Rattle.rules.specs.Bundles.{commandsOf}
+use Rattle.rules.specs.Bundles.{commandsOf, rewriteAnswer}
 use Rattle.rules.specs.Machines.{installMemory, runAnswer}
 use Rattle.rules.specs.Runs.{Given, atFirst, afterRun, Run, Served, allRuns}
 use Rattle.rules.specs.Claims.{Every}
@@ -80,6 +80,7 @@ abbrev pub runs : List Given
 runs = firstRun ∷ secondRun ∷ []
 
 pub record Reaches : Type 0 where
+  pub rewritten : rewriteAnswer layout code 16 ≡ answer 0 16
   pub forward : forwardAnswer code ≡ answer 0 0
   pub served : Served layout policy commands memory runs
   pub resumed : Every (Resumed layout) runs

@@ -46,6 +46,7 @@ sample-holds =
       served = served;
       box = record { room = lit< tt; cells = λ i h. refl };
       begun = refl;
+      over = refl;
       begins = λ i h. refl;
       behaves = behaves;
       recorded = refl;

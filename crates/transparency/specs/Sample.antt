@@ -40,12 +40,13 @@ run = record { memory = installMemory layout policy memory; budget = 1000; readi
 abbrev pub rawAt : ℕ → Raw
 rawAt k = rawAfter layout (routine code) readings (rawStart memory) k
 
--- the premises of Undisturbed can be met: the caged run has begun eight bundles, and the raw one ends after eight instructions
+-- the premises of Undisturbed can be met: the caged run comes to its end after eight bundles, and the raw one after eight instructions
 pub record SampleHolds : Type 0 where
   pub rewritten : rewriteAnswer layout code 64 .number ≡ 0
   pub served : Served layout policy commands memory (run ∷ [])
   pub box : SameBox layout memory memory
   pub begun : after layout policy commands memory (run ∷ []) .begun ≡ 8
+  pub over : after layout policy commands memory (run ∷ []) .machine .status ≡ Ended
   pub begins : Begins (after layout policy commands memory (run ∷ []) .consumed) readings
   pub behaves : BehavesFor layout policy 16 (routine code) readings (rawStart memory) 8
   pub recorded : rawAt 8 .records ≡ pairOf 0 6 ∷ pairOf 8 1800 ∷ []
