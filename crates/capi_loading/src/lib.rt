@@ -5,7 +5,7 @@ use capi_numbers::LAYOUT;
 use capi_numbers::RECORD;
 use capi_numbers::layout_of;
 use capi_numbers::record_of;
-use rules::Policy;
+use rules::PolicyNumbers;
 ghost use mathlib.Core.Path.{_≡_};
 ghost use Rattle.rules.specs.Policies.{policyOf};
 ghost use Rattle.installer_words.specs.Words.{wordRight};
@@ -35,7 +35,7 @@ pub fn install(
 )
     ensures { λ _. ⌜ hostInstalled (now (answer .exit)) (now (machine .exit)) (now (memory .exit)) ≡ installFor (now (layout .entry)) (policyOf states start (now (table .entry)) (now (landings .entry))) (now (memory .entry)) ⌝ }
 {
-    let policy = Policy { states, start };
+    let policy = PolicyNumbers { states, start };
     let done = installer::install(layout_of(layout), policy, table, landings, memory);
     *machine = record_of(done.machine);
     *answer = answer_of(done.answer);
@@ -56,7 +56,7 @@ pub fn load(
 )
     ensures { λ _. ⌜ hostLoaded (now (answer .exit)) (now (machine .exit)) (now (commands .exit)) (now (memory .exit)) ≡ loadFor (now (layout .entry)) (policyOf states start (now (table .entry)) (now (landings .entry))) (now (bytes .entry)) (now (commands .entry)) (now (memory .entry)) ⌝ }
 {
-    let policy = Policy { states, start };
+    let policy = PolicyNumbers { states, start };
     let loaded = sandbox_loading::load(
         layout_of(layout),
         policy,

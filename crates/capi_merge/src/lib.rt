@@ -3,20 +3,20 @@ use capi_answers::answer_of;
 use capi_numbers::ANSWER;
 use policy_merge::Merged;
 use policy_merge::Side;
-use rules::Policy;
+use rules::PolicyNumbers;
 ghost use mathlib.Core.Path.{_≡_};
 ghost use lib.ListN.{length};
 ghost use Rattle.rules.specs.Names.{orders};
 ghost use Rattle.capi_merge.specs.Numbers.{sideFrom, mergedTo, hostMerged, mergeFor};
 
 // How many numbers a policy has: states, start and ceilings.
-pub const POLICY: usize = 2 + Policy::ORDERS as usize;
+pub const POLICY: usize = 2 + PolicyNumbers::ORDERS as usize;
 
 // One side of a merge.
 fn side_of(xs: &[u32; POLICY]) -> Side
     ensures { λ r. ⌜ r ≡ sideFrom (now (xs .entry)) ⌝ }
 {
-    let policy = Policy {
+    let policy = PolicyNumbers {
         states: xs[0],
         start: xs[1],
     };

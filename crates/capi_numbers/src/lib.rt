@@ -1,7 +1,7 @@
 // The numbers of a C host: layouts and machine records as arrays of u32, and back.
 use rules::Layout;
 use rules::Machine;
-use rules::Policy;
+use rules::PolicyNumbers;
 use rules::Status;
 use words_cells::store_cells;
 ghost use mathlib.Core.Path.{_≡_};
@@ -11,7 +11,7 @@ ghost use Rattle.capi_numbers.specs.Numbers.{layoutFrom, statusFrom, sta
 // How many numbers a layout has, the ceilings behind the others; an answer; a run's answer.
 const CEILINGS: usize = 8;
 
-pub const LAYOUT: usize = CEILINGS + Policy::ORDERS as usize;
+pub const LAYOUT: usize = CEILINGS + PolicyNumbers::ORDERS as usize;
 
 pub const ANSWER: usize = 2;
 

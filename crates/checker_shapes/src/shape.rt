@@ -3,7 +3,7 @@ use rules::Bundle;
 use rules::Command;
 use rules::Layout;
 use rules::Machine;
-use rules::Policy;
+use rules::PolicyNumbers;
 use words::command::is_command;
 use words::field;
 use words::guest::TOP_CONDITION;
@@ -23,7 +23,7 @@ const HIDDEN: u64 = Machine::HIDDEN as u64;
 
 const LENGTH: u64 = Bundle::LENGTH as u64;
 
-const EVENTS: u64 = Policy::EVENTS as u64;
+const EVENTS: u64 = PolicyNumbers::EVENTS as u64;
 
 // Whether a word is that of a kind and its fields.
 fn is_word(w: u64, kind: u64, d: u64, a: u64, b: u64, c: u64, v: u64) -> bool

@@ -3,7 +3,7 @@ use engine_rules::Engine;
 use rules::Effect;
 use rules::Instr;
 use rules::Layout;
-use rules::Policy;
+use rules::PolicyNumbers;
 use rules::Status;
 use words::arith;
 use words::layout;
@@ -64,7 +64,7 @@ pub fn entry(layout: Layout, v: u32, memory: &[u32]) -> usize
     ensures { λ r. ⌜ r ≡ layout .table + events * getD (now (memory .entry)) (layout .cell) 0 + v ⌝ }
 {
     let state = words_arith::peek(memory, layout.cell as usize);
-    layout.table as usize + Policy::EVENTS as usize * (state as usize) + v as usize
+    layout.table as usize + PolicyNumbers::EVENTS as usize * (state as usize) + v as usize
 }
 
 // An event: the fault, then the stop, then the pauses.
@@ -83,7 +83,7 @@ fn send(
     if i >= memory.len() {
         return Effect::End(Status::Faulted);
     }
-    if words_arith::peek(memory, i) == Policy::NO_ARROW {
+    if words_arith::peek(memory, i) == PolicyNumbers::NO_ARROW {
         return Effect::End(Status::Stopped);
     }
     machine_effects::event(v, free, left)

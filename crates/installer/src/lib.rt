@@ -7,7 +7,7 @@ use rules::Answer;
 use rules::Installed;
 use rules::Layout;
 use rules::Machine;
-use rules::Policy;
+use rules::PolicyNumbers;
 use rules::Refusal;
 use words::layout::fits;
 use words_cells::poke;
@@ -20,13 +20,13 @@ ghost use Rattle.rules.specs.Policies.{policyOf, rightPolicy};
 ghost use Rattle.rules.specs.Machines.{machineRefused, installOf, installMemory};
 
 // Whether a policy can be installed under a layout: 10's four conditions.
-fn policy_right(layout: Layout, policy: Policy, table: &[u8]) -> bool
+fn policy_right(layout: Layout, policy: PolicyNumbers, table: &[u8]) -> bool
     ensures { λ r. ⌜ r ≡ rightPolicy layout (policyOf (policy .states) (policy .start) (now (table .entry)) []) ⌝ }
 {
     let states = policy.states;
     let entries = entries_right(states, table);
     (states == layout.states)
-        & (table.len() == Policy::EVENTS as usize * states as usize)
+        & (table.len() == PolicyNumbers::EVENTS as usize * states as usize)
         & (policy.start < states)
         & entries
 }
@@ -43,7 +43,7 @@ fn refused(number: u8) -> Installed
 // Installing: the start state to the state cell, the table to its cells and the landings' bits to theirs, nothing else.
 pub fn install(
     layout: Layout,
-    policy: Policy,
+    policy: PolicyNumbers,
     table: &[u8],
     landings: &[u32],
     memory: &mut [u32],

@@ -2,7 +2,7 @@
 use installer_words::states_right;
 use installer_words::word_at;
 use installer_words::word_right;
-use rules::Policy;
+use rules::PolicyNumbers;
 ghost use mathlib.Core.Path.{_≡_};
 ghost use Prim.Native.Nat.{_*_, _≤_};
 ghost use lib.ListN.{length, take, drop};
@@ -36,7 +36,7 @@ fn bytes_right(states: u32, table: &[u8], from: usize) -> bool
     let mut i = from;
     while i < table.len() {
         let b = table[i] as u32;
-        ok = ok & ((b < states) | (b == Policy::NO_ARROW));
+        ok = ok & ((b < states) | (b == PolicyNumbers::NO_ARROW));
         i += 1;
     }
     ok

@@ -5,7 +5,7 @@ use rules::Effect;
 use rules::Ending;
 use rules::Layout;
 use rules::Machine;
-use rules::Policy;
+use rules::PolicyNumbers;
 use rules::Status;
 use words::arith;
 use words::command;
@@ -105,7 +105,9 @@ fn look(d: usize, cell: u32, table: u32, v: u32, memory: &[u32]) -> Effect
 {
     let i = cell as usize;
     if i < memory.len() {
-        let at = table as usize + Policy::EVENTS as usize * (memory[i] as usize) + v as usize;
+        let at = table as usize
+            + PolicyNumbers::EVENTS as usize * (memory[i] as usize)
+            + v as usize;
         if at < memory.len() {
             return Effect::Put(d, memory[at]);
         }
@@ -117,7 +119,7 @@ fn look(d: usize, cell: u32, table: u32, v: u32, memory: &[u32]) -> Effect
 fn stop_if(x: u32, pc: u32) -> Effect
     ensures { λ r. ⌜ r ≡ cond (eqb x noArrow) (End Stopped) (Go (onward pc)) ⌝ }
 {
-    if x == Policy::NO_ARROW {
+    if x == PolicyNumbers::NO_ARROW {
         return Effect::End(Status::Stopped);
     }
     Effect::Go(arith::add(pc, 1))
@@ -137,7 +139,7 @@ fn in_room(free: usize, e: Effect) -> Effect
 pub fn event(v: u32, free: usize, left: usize) -> Effect
     ensures { λ r. ⌜ r ≡ eventEffect v free left ⌝ }
 {
-    if v < Policy::ORDERS {
+    if v < PolicyNumbers::ORDERS {
         return in_room(free, Effect::Order(v));
     }
     if left == 0 {

@@ -2,7 +2,7 @@
 use policy_exploration::Found;
 use policy_exploration::Made;
 use rules::Layout;
-use rules::Policy;
+use rules::PolicyNumbers;
 use rules::Refusal;
 ghost use mathlib.Core.Path.{_≡_};
 ghost use mathlib.Core.Bool.{cond};
@@ -18,7 +18,7 @@ ghost use Rattle.policy_determinise.specs.Drawings.{Fit, drawingOf, unio
 const MOST: usize = Layout::MOST_STATES as usize;
 
 // Events of one row.
-const EVENTS: usize = Policy::EVENTS as usize;
+const EVENTS: usize = PolicyNumbers::EVENTS as usize;
 
 // The successors of a state, if it is in the set.
 fn part(x: u16, k: usize, m: u16) -> u16

@@ -2,7 +2,7 @@
 // A node is a number above 0; 0 is no node. The caller has a loop: it asks for the node whose arrow is next and says where that leads.
 use rules::Answer;
 use rules::Layout;
-use rules::Policy;
+use rules::PolicyNumbers;
 ghost use mathlib.Core.Path.{_≡_};
 ghost use Prim.Native.Nat.{_+_, _*_, _/_, _≤_, _<_};
 ghost use lib.ListN.{length, getD, take};
@@ -14,7 +14,7 @@ ghost use Rattle.policy_exploration.specs.Founds.{Sized, foundAt, stepOf
 const MOST: usize = Layout::MOST_STATES as usize;
 
 // Events of one row.
-const EVENTS: usize = Policy::EVENTS as usize;
+const EVENTS: usize = PolicyNumbers::EVENTS as usize;
 
 // The nodes found, with one place for the node that is too many, how many they are, and the numbers of those to which the arrows lead.
 pub struct Found {
@@ -26,7 +26,7 @@ pub struct Found {
 // What making a policy answers: place is the bytes written; the policy's numbers.
 pub struct Made {
     pub answer: Answer,
-    pub policy: Policy,
+    pub policy: PolicyNumbers,
 }
 
 // The start alone.
@@ -81,7 +81,7 @@ pub fn step(f: Found, k: usize, x: u16) -> Found
 {
     let mut g = f;
     if x == 0 {
-        g.arrows[k] = Policy::NO_ARROW as u8;
+        g.arrows[k] = PolicyNumbers::NO_ARROW as u8;
         return g;
     }
     let n = f.count;

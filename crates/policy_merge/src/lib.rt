@@ -3,7 +3,7 @@ use policy_exploration::Found;
 use policy_exploration::Made;
 use rules::Answer;
 use rules::Layout;
-use rules::Policy;
+use rules::PolicyNumbers;
 use rules::Refusal;
 use words_cells::index_of;
 ghost use mathlib.Core.Path.{_≡_};
@@ -17,29 +17,29 @@ ghost use Rattle.policy_merge.specs.Pairs.{sideOf, arrowsOf, pair as pai
 const MOST: usize = Layout::MOST_STATES as usize;
 
 // Events of one row.
-const EVENTS: usize = Policy::EVENTS as usize;
+const EVENTS: usize = PolicyNumbers::EVENTS as usize;
 
 // The mark of no arrow.
-const NO_ARROW: usize = Policy::NO_ARROW as usize;
+const NO_ARROW: usize = PolicyNumbers::NO_ARROW as usize;
 
 // Orders, each with its ceiling.
-const ORDERS: usize = Policy::ORDERS as usize;
+const ORDERS: usize = PolicyNumbers::ORDERS as usize;
 
 // One of the two: a policy's numbers and the ceilings of the orders; its table is lent beside it.
 pub struct Side {
-    pub policy: Policy,
+    pub policy: PolicyNumbers,
     pub ceilings: [u32; 8],
 }
 
 // What merging answers: place is the bytes written; the policy's numbers; the ceilings of the orders.
 pub struct Merged {
     pub answer: Answer,
-    pub policy: Policy,
+    pub policy: PolicyNumbers,
     pub ceilings: [u32; 8],
 }
 
 // Whether 10 does not refuse a policy.
-fn side_right(policy: Policy, table: &[u8]) -> bool
+fn side_right(policy: PolicyNumbers, table: &[u8]) -> bool
     ensures { λ r. ⌜ r ≡ sideRight (sideOf policy (now (table .entry))) ⌝ }
 {
     let states = policy.states;
@@ -153,7 +153,7 @@ fn with_ceilings(made: Made, ceilings: [u32; 8]) -> Merged
 }
 
 // The policy of two policies' pairs, or their refusal.
-fn made_of(a: Policy, left: &[u8], b: Policy, right: &[u8], table: &mut [u8]) -> Made
+fn made_of(a: PolicyNumbers, left: &[u8], b: PolicyNumbers, right: &[u8], table: &mut [u8]) -> Made
     ensures made { λ r. ⌜ r ≡ pairsOf (sideOf a (now (left .entry))) (sideOf b (now (right .entry))) (length (now (table .entry))) ⌝ }
     ensures table { λ _. ⌜ now (table .exit) ≡ mergeTable (sideOf a (now (left .entry))) (sideOf b (now (right .entry))) (now (table .entry)) ⌝ }
 {

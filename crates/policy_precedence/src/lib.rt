@@ -1,6 +1,6 @@
 // This before that: a policy from pairs of events, the first of which is to be recorded before the second.
 use rules::Answer;
-use rules::Policy;
+use rules::PolicyNumbers;
 use rules::Refusal;
 use words_cells::index_of;
 ghost use mathlib.Core.Path.{_≡_};
@@ -19,15 +19,15 @@ ghost use Rattle.policy_precedence.specs.Precedence.{Fit, isNamed, known
 const MOST_NAMED: usize = 4;
 
 // Events of one row.
-const EVENTS: usize = Policy::EVENTS as usize;
+const EVENTS: usize = PolicyNumbers::EVENTS as usize;
 
 // The mark of no arrow.
-const NO_ARROW: usize = Policy::NO_ARROW as usize;
+const NO_ARROW: usize = PolicyNumbers::NO_ARROW as usize;
 
 // What making a policy answers: place is the bytes written; the policy's numbers; the map of the events that no allowed word holds.
 pub struct Made {
     pub answer: Answer,
-    pub policy: Policy,
+    pub policy: PolicyNumbers,
     pub never: u16,
 }
 
@@ -185,7 +185,7 @@ fn refused(number: u8) -> Made
 {
     Made {
         answer: Answer::refused(number),
-        policy: Policy {
+        policy: PolicyNumbers {
             states: 0,
             start: 0,
         },
@@ -200,7 +200,7 @@ fn taken(names: usize, pairs: &[u8], states: usize, bytes: usize) -> Made
     let never = stuck_all(names, pairs, full(names, pairs));
     Made {
         answer: Answer::taken(bytes),
-        policy: Policy {
+        policy: PolicyNumbers {
             states: states as u32,
             start: 0,
         },

@@ -3,7 +3,7 @@ use policy_exploration::Found;
 use policy_exploration::Made;
 use rules::Answer;
 use rules::Layout;
-use rules::Policy;
+use rules::PolicyNumbers;
 use rules::Refusal;
 ghost use mathlib.Core.Path.{_≡_};
 ghost use mathlib.Core.List.{_++_};
@@ -17,7 +17,7 @@ ghost use Rattle.policy_exploration.specs.Founds.{Sized, writtenOf, writtenTabl
 const MOST: usize = Layout::MOST_STATES as usize;
 
 // Events of one row.
-const EVENTS: usize = Policy::EVENTS as usize;
+const EVENTS: usize = PolicyNumbers::EVENTS as usize;
 
 // A refusal: all else is 0.
 pub fn refused(number: u8) -> Made
@@ -25,7 +25,7 @@ pub fn refused(number: u8) -> Made
 {
     Made {
         answer: Answer { number, place: 0 },
-        policy: Policy {
+        policy: PolicyNumbers {
             states: 0,
             start: 0,
         },
@@ -65,7 +65,7 @@ pub fn write(f: Found, table: &mut [u8]) -> Made
             number: Refusal::TAKEN,
             place: bytes,
         },
-        policy: Policy {
+        policy: PolicyNumbers {
             states: n as u32,
             start: 0,
         },

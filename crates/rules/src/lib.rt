@@ -16,7 +16,7 @@ pub struct Layout {
     pub states: u32,
     pub base: u32,
     pub landings: u32,
-    pub ceilings: [u32; Policy::ORDERS as usize],
+    pub ceilings: [u32; PolicyNumbers::ORDERS as usize],
 }
 
 impl Layout {
@@ -39,7 +39,7 @@ impl Layout {
         states: u32,
         base: u32,
         landings: u32,
-        ceilings: [u32; Policy::ORDERS as usize],
+        ceilings: [u32; PolicyNumbers::ORDERS as usize],
     ) -> Layout
         ensures { λ r. ⌜ r ≡ layoutOf size low high cell table states base landings ceilings ⌝ }
     {
@@ -57,14 +57,14 @@ impl Layout {
     }
 }
 
-// A policy's numbers; its table of 16 bytes a state, and the landings that are installed with it, are lent beside it. The
-// definitions' Policy is the whole of these.
-pub struct Policy {
+// The numbers of a policy: S and its start state. Its table of 16 bytes a state, and the landings that are installed with
+// it, are lent beside them.
+pub struct PolicyNumbers {
     pub states: u32,
     pub start: u32,
 }
 
-impl Policy {
+impl PolicyNumbers {
     // The mark of no arrow in a table.
     pub const NO_ARROW: u32 = 255;
     // Events of one row.

@@ -5,7 +5,7 @@ use rules::Bundle;
 use rules::Installed;
 use rules::Layout;
 use rules::Machine;
-use rules::Policy;
+use rules::PolicyNumbers;
 use rules::Refusal;
 use sandbox_translating::translate;
 use words_cells::store_words;
@@ -19,7 +19,7 @@ ghost use Rattle.sandbox_rules.specs.Loading.{loadOf, loadCommands, loadMemory}
 // count of its commands, which then stand at the start of `commands`, and the machine's record.
 pub fn load(
     layout: Layout,
-    policy: Policy,
+    policy: PolicyNumbers,
     table: &[u8],
     landings: &[u32],
     bytes: &[u8],

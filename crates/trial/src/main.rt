@@ -4,7 +4,7 @@ use libc::STDIN_FILENO;
 use lines::print;
 use rules::Layout;
 use rules::Machine;
-use rules::Policy;
+use rules::PolicyNumbers;
 use rules::Refusal;
 ghost use Prim.Native.Nat.{_*_, _≤_};
 ghost use lib.ListN.{length};
@@ -98,7 +98,7 @@ fn try_routine(bytes: &[u8]) {
         1,
         1,
     ];
-    let policy = Policy {
+    let policy = PolicyNumbers {
         states: 2,
         start: 0,
     };

@@ -1,6 +1,6 @@
 // The test of a layout, and the mask that keeps an address in its block.
 use rules::Layout;
-use rules::Policy;
+use rules::PolicyNumbers;
 ghost use mathlib.Core.Path.{_≡_};
 ghost use mathlib.Core.Bool.{_&&_};
 ghost use lib.Dec.{eqb};
@@ -30,7 +30,7 @@ pub fn right(l: Layout) -> bool
     // The sandbox has 2 to the width cells: SL is a multiple of them when it has no bit below the width.
     let width = width(l);
     let aligned = (low >> width) << width == low;
-    let end = table as u64 + Policy::EVENTS as u64 * states as u64;
+    let end = table as u64 + PolicyNumbers::EVENTS as u64 * states as u64;
     let landings_end = landings as u64 + Layout::LANDING_CELLS as u64;
     let in_range = (1 <= size)
         & (size <= Layout::MOST_CELLS)

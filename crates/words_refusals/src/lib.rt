@@ -3,7 +3,7 @@ use rules::Fields;
 use rules::Instr;
 use rules::Limits;
 use rules::Machine;
-use rules::Policy;
+use rules::PolicyNumbers;
 use rules::Refusal;
 ghost use mathlib.Core.Path.{_≡_};
 ghost use Prim.Native.Nat.{_≤_};
@@ -20,7 +20,7 @@ pub const TOP_CONDITION: u64 = 3;
 // The greatest shift, event and 32-bit number.
 pub const TOP_SHIFT: u64 = 31;
 
-const TOP_EVENT: u64 = Policy::EVENTS as u64 - 1;
+const TOP_EVENT: u64 = PolicyNumbers::EVENTS as u64 - 1;
 
 pub const TOP_WORD: u64 = 0xFFFF_FFFF;
 
