@@ -24,7 +24,7 @@ use Rattle.rules.specs.Policies.{Policy}
 use Rattle.rules.specs.Landings.{marked}
 use Rattle.rules.specs.Words.{routine, bundlesFor}
 use Rattle.rules.specs.Commands.{fetchOf, holdsOf}
-use Rattle.rules.specs.Bundles.{shapeOf, addressOf, bundleAt, commandsOf, rewriteAnswer}
+use Rattle.rules.specs.Bundles.{shapeOf, addressOf, commandsOf, rewriteAnswer}
 use Rattle.rules.specs.Machines.{View, regAt, cellAt, entryOf, State, stateOf, machineOf, onward, applyOf, effectOf, eventEffect, endingOf, seen, fits, nextOf as machineNext, Ran as MachineRan, endedIn as machineEnded, startOf as machineStart, runFrom as machineFrom, runOf as machineRunOf, installMemory}
 use Rattle.rules.specs.Guests.{Guest, guestAfter, guestStart}
 use Rattle.rules.specs.Runs.{Given, Carried as MachineCarried, carriedOf as machineCarried, pairsOf, waitingAt, begins, begunFrom, eventIn, runOn as machineOn, afterTaken as machineTaken, afterRun as machineRun, after as machineAfter, atFirst as machineFirst, Lent as MachineLent}
@@ -32,10 +32,9 @@ use Rattle.rules.specs.Claims.{Stands, Waiting, givenFor}
 use Rattle.rules.proofs.Bools.{no, cond-ind}
 use Rattle.rules.proofs.Facts.{Valid}
 use Rattle.rules.proofs.Loops.{loop-ind, go-from, wait-from, begunLoop}
-use Rattle.rules.proofs.Conditions.{taken-of as rewritten-of, routine-word, routine-valid, routine-last, bundled-routine, right-routine}
-use Rattle.rules.proofs.Passing.{back}
+use Rattle.rules.proofs.Conditions.{bundled-routine}
 use Rattle.rules.proofs.Track.{first-yes, first-no, lent-cell, tracks, event-at, enter as machine-enter}
-use Rattle.rules.proofs.Isolation.{guest-rule, stays as machine-stays}
+use Rattle.rules.proofs.Isolation.{guest-rule, routine-tracked}
 use Rattle.engine_rules.specs.Engines.{sendOf, actOf, nextFor, nextOf, stepOf, entryAddress, Ran, endedIn, startOf, runFrom, runOf, refusalOf, refusalBy}
 use Rattle.engine_rules.specs.Claims.{Carried, carriedOf, atFirst, runOn, afterTaken, afterRun, after, Lent, Follows, InTurn, Meets, Beside, PausedBy, EngineWaits}
 use Rattle.engine_rules.proofs.Runs.{run-none, engineLoop, taken-size, enter}
@@ -222,10 +221,11 @@ both-pause lay pol code mem room gs es v x count run g h lg lh sg sh logs readin
     let e = y .event in
     let there : runFrom lay code (h .readings) 1 0 s ≡ endedIn w 0 s = wait-from (engineLoop lay code (h .readings)) 0 0 s w runs (wait .1) in
     -- the machine
-    let right = right-routine lay pol code mem room (v .rewritten) (v .machine .installed) in
-    let bs = bundled-routine lay code room (v .rewritten) in
+    let tracked = routine-tracked lay pol code mem room gs (v .rewritten) (v .machine) in
+    let right = tracked .right in
+    let bs = tracked .bundled in
     let s′ = machineStart (c .machine) (g .memory) (g .log) in
-    let tr = tracks lay pol ws N (routine code) right bs (c .records) (c .consumed) (g .readings) g0 (c .begun) s′ (machine-enter lay pol ws N (routine code) right bs g0 c g sg lg (machine-stays lay pol ws mem gs N (routine code) right bs (v .machine))) in
+    let tr = tracks lay pol ws N (routine code) right bs (c .records) (c .consumed) (g .readings) g0 (c .begun) s′ (machine-enter lay pol ws N (routine code) right bs g0 c g sg lg (tracked .last)) in
     let guarded = tr .1 .agree .memory .guarded in
     let q = getD (h .memory) (lay .cell) 0 in
     let q′ = getD (g .memory) (lay .cell) 0 in
@@ -253,9 +253,7 @@ both-pause lay pol code mem room gs es v x count run g h lg lh sg sh logs readin
     let budget : g .budget ≡ suc (suc (suc (g .budget - 3))) = omega (arith, few) in
     let mm = machine-left lay ws c g (machineEnded w 2 s2) (c .begun + begins lay (c .machine .pc) + begins lay (onward (c .machine .pc))) fit (ap (λ (k : ℕ). (machineFrom lay ws (g .readings) k 0 s′, begunFrom lay ws (g .readings) k (c .begun) s′)) budget ∙ here) in
     let me = engine-left lay code n h′ (endedIn w 0 s) z there in
-    let read : (k : ℕ) → k < N → bundleAt lay ws k ≡ routine code k =
-    let y = rewritten-of lay code room (v .rewritten) in back lay N ws (routine code) (routine-word lay code y) (λ k _. routine-valid lay code y k) (routine-last lay code y) in
-    let stands : waitingAt lay ws (machineOf (s2 .regs) (s2 .pc) (s2 .status)) ≡ e ∷ [] = event-at lay pol ws N (routine code) right bs read (machineOf (s2 .regs) (s2 .pc) (s2 .status)) (G .at) 2 2 inn (lit< tt) to ∙ ap eventIn event in
+    let stands : waitingAt lay ws (machineOf (s2 .regs) (s2 .pc) (s2 .status)) ≡ e ∷ [] = event-at lay pol ws N (routine code) right bs (tracked .read) (machineOf (s2 .regs) (s2 .pc) (s2 .status)) (G .at) 2 2 inn (lit< tt) to ∙ ap eventIn event in
     record {
       answers = ap (λ (r : MachineRan). endingNumber (r .outcome .answer .ending)) (mm .0) ∙ sym (ap (λ (r : Ran). r .outcome .answer .number) (me .0));
       waiting = subst (λ (k : MachineCarried). Waiting lay ws (k .machine)) (sym (mm .1)) (record { running = run; event = e; third = stands });

@@ -17,15 +17,15 @@ use Rattle.rules.specs.Layouts.{rightLayout}
 use Rattle.rules.specs.Policies.{Policy}
 use Rattle.rules.specs.Commands.{fetchOf}
 use Rattle.rules.specs.Bundles.{bundleAt}
-use Rattle.rules.specs.Machines.{State, seen, runFrom, startOf, runOf, fits, installMemory}
-use Rattle.rules.specs.Guests.{Guest, guestStart}
+use Rattle.rules.specs.Machines.{State, seen, runFrom, startOf, runOf, fits}
+use Rattle.rules.specs.Guests.{Guest}
 use Rattle.rules.specs.Runs.{Given, Carried, atFirst, runOn, afterTaken, afterRun, afterRuns, runAs, runsOf, allRuns, after, Served}
 use Rattle.rules.specs.Claims.{Every}
 use Rattle.rules.proofs.Endings.{goes}
-use Rattle.rules.proofs.Conditions.{bundled-of, right-of, layout-of}
+use Rattle.rules.proofs.Conditions.{layout-of}
 use Rattle.rules.proofs.Sim.{Sim, over, live}
 use Rattle.rules.proofs.Track.{tracks}
-use Rattle.rules.proofs.Isolation.{stays}
+use Rattle.rules.proofs.Isolation.{list-tracked}
 use Rattle.forward_rules.specs.Forward.{checkForwardAnswer}
 use Rattle.forward_rules.specs.Claims.{mostSteps, stepsIn, Resumed, pauses, ResumedAfter, GoesOn, Over, paidFor, paidBy, paidIn, Finishes, FinishesIn}
 use Rattle.forward_rules.proofs.Runs.{steps-some, ran-before, all-spent}
@@ -100,12 +100,9 @@ fit-of lay g right ok = rw (right, eq-eqb _ _ (ok .memory))
 -- ---- on the premise a machine runs, has ended or stopped: no passed list faults, and none of the class wants a landing
 pub going-or-over : (lay : Layout) (pol : Policy) (ws mem : List ℕ) (gs : List Given) → checkForwardAnswer lay ws .number ≡ 0 → Served lay pol ws mem gs → (after lay pol ws mem gs .machine .status ≡ Running) ⊎ Over (after lay pol ws mem gs .machine)
 going-or-over lay pol ws mem gs f v =
-    let n = length ws / bundleLength in
-    let is = bundleAt lay ws in
-    let ok = right-of lay pol ws mem (v .passed) (v .installed) in
-    let bs = bundled-of lay ws (v .passed) in
+    let t = list-tracked lay pol ws mem gs v in
     let c = after lay pol ws mem gs in
-    by c _ _ _ (ahead-all lay pol ws mem gs f v .lands) (tracks lay pol ws n is ok bs (c .records) (c .consumed) [] (guestStart lay pol (installMemory lay pol mem)) (c .begun) (startOf (c .machine) (c .memory) []) (stays lay pol ws mem gs n is ok bs v) .1 .sim)
+    by c _ _ _ (ahead-all lay pol ws mem gs f v .lands) (tracks lay pol ws _ _ (t .right) (t .bundled) (c .records) (c .consumed) [] _ (c .begun) (startOf (c .machine) (c .memory) []) (t .last) .1 .sim)
   where
     status : (t : Status) → (t ≡ Strayed → ⊥) → (t ≡ Faulted → ⊥) → (t ≡ Running) ⊎ ((t ≡ Ended) ⊎ (t ≡ Stopped))
     status Running l f = inl refl

@@ -1,49 +1,68 @@
 -- The claims over lists of runs, from what the parts answered: guest rule, pc, isolation.
 use mathlib.Core.Path.{_≡_, refl, sym, _∙_, ap, subst}
-use mathlib.Core.Bool.{true, false}
+use mathlib.Core.Bool.{true, false, _&&_}
 use mathlib.Core.Logic.{⊎-elim}
 use mathlib.Core.List.{List, []}
 use Prim.Native.Nat.{ℕ, _+_, _-_, _*_, _/_, _^_, _<_, _≤_}
 use native.Mathlib.Omega.{arith}
+use lib.Dec.{leb, ltb}
 use lib.ListN.{length}
 use borrow.Author.Tests.{ltb-true, leb-true, eqb-true}
 use Rattle.rules.specs.declared.Layout.{Layout}
 use Rattle.rules.specs.declared.Instr.{Instr}
 use Rattle.rules.specs.declared.Machine.{Machine}
 use Rattle.rules.specs.Names.{mostBundles, bundleLength}
-use Rattle.rules.specs.Layouts.{inBox, inTable, inLandings, protected, tableEnd, landingsEnd}
+use Rattle.rules.specs.Layouts.{inBox, inTable, inLandings, protected}
 use Rattle.rules.specs.Policies.{Policy, allowed}
 use Rattle.rules.specs.Words.{routine, bundlesFor}
-use Rattle.rules.specs.Bundles.{commandsOf, bundleAt}
+use Rattle.rules.specs.Bundles.{commandsOf, bundleAt, rewriteAnswer}
 use Rattle.rules.specs.Machines.{onward, installAnswer, installMemory}
 use Rattle.rules.specs.Guests.{Pair, guestStart}
 use Rattle.rules.specs.Runs.{Given, eventsOf, carriedOf, atFirst, afterRun, after, Served}
 use Rattle.rules.specs.Claims.{givenFor, GuestRule, NoWrap, Recorded, Isolation}
 use Rattle.rules.proofs.Bools.{both, either}
 use Rattle.rules.proofs.Facts.{Ready, Right, Bundled}
-use Rattle.rules.proofs.Conditions.{passed-of, bundled-of, right-of, laid-of, machine-of, bundled-routine, right-routine}
+use Rattle.rules.proofs.Conditions.{passed-of, bundled-of, right-of, laid-of, machine-of, taken-of, routine-word, routine-valid, routine-last, bundled-routine, right-routine}
+use Rattle.rules.proofs.Passing.{back}
 use Rattle.rules.proofs.Sim.{Stays}
 use Rattle.rules.proofs.Track.{recorded as recorded-runs, stays-run, stays-runs, install, agrees-after, pc-in, allowed-runs, sound-runs, kept-runs, lasts}
 use Rattle.rules.proofs.Twins.{alone}
 
 -- the guest tracks an installation that answered 0
-pub at-first : (lay : Layout) (pol : Policy) (ws mem : List ℕ) (n : ℕ) (is : ℕ → Instr) → Right lay pol n → Bundled lay ws n is → installAnswer lay pol mem .number ≡ 0 → Stays lay pol n is (guestStart lay pol (installMemory lay pol mem)) (atFirst lay pol mem)
+at-first : (lay : Layout) (pol : Policy) (ws mem : List ℕ) (n : ℕ) (is : ℕ → Instr) → Right lay pol n → Bundled lay ws n is → installAnswer lay pol mem .number ≡ 0 → Stays lay pol n is (guestStart lay pol (installMemory lay pol mem)) (atFirst lay pol mem)
 at-first lay pol ws mem n is ok bs z =
     subst (λ (m : Machine). Stays lay pol n is (guestStart lay pol (installMemory lay pol mem)) (carriedOf m (installMemory lay pol mem) [] [] 0)) (sym (machine-of lay pol mem z))
     (install lay pol ws n is ok bs (installMemory lay pol mem) (laid-of lay pol mem z))
 
--- and a list of runs from it
-pub stays : (lay : Layout) (pol : Policy) (ws mem : List ℕ) (gs : List Given) (n : ℕ) (is : ℕ → Instr) → Right lay pol n → Bundled lay ws n is → Served lay pol ws mem gs → Stays lay pol n is (guestStart lay pol (installMemory lay pol mem)) (after lay pol ws mem gs)
-stays lay pol ws mem gs n is ok bs v =
-    stays-runs lay pol ws n is ok bs (guestStart lay pol (installMemory lay pol mem)) (atFirst lay pol mem) gs (v .lends) (at-first lay pol ws mem n is ok bs (v .installed))
+-- what the claims take from the premise: the layout and the commands are right for n instructions, which can be read off the commands,
+-- and the guest tracks the list of runs
+pub record Tracked (lay : Layout) (pol : Policy) (ws mem : List ℕ) (gs : List Given) (n : ℕ) (is : ℕ → Instr) : Type 0 where
+  pub right : Right lay pol n
+  pub bundled : Bundled lay ws n is
+  pub read : (h : ℕ) → h < n → bundleAt lay ws h ≡ is h
+  pub first : Stays lay pol n is (guestStart lay pol (installMemory lay pol mem)) (atFirst lay pol mem)
+  pub last : Stays lay pol n is (guestStart lay pol (installMemory lay pol mem)) (after lay pol ws mem gs)
+
+tracked : (lay : Layout) (pol : Policy) (ws mem : List ℕ) (gs : List Given) (n : ℕ) (is : ℕ → Instr) → Right lay pol n → Bundled lay ws n is → ((h : ℕ) → h < n → bundleAt lay ws h ≡ is h) → Served lay pol ws mem gs → Tracked lay pol ws mem gs n is
+tracked lay pol ws mem gs n is ok bs read v =
+    let w = at-first lay pol ws mem n is ok bs (v .installed) in
+    record { right = ok; bundled = bs; read = read; first = w; last = stays-runs lay pol ws n is ok bs _ (atFirst lay pol mem) gs (v .lends) w }
+
+-- of a passed list, whose instructions are read off it, and of a rewritten routine
+pub list-tracked : (lay : Layout) (pol : Policy) (ws mem : List ℕ) (gs : List Given) → Served lay pol ws mem gs → Tracked lay pol ws mem gs (length ws / bundleLength) (bundleAt lay ws)
+list-tracked lay pol ws mem gs v = tracked lay pol ws mem gs _ _ (right-of lay pol ws mem (v .passed) (v .installed)) (bundled-of lay ws (v .passed)) (λ h l. refl) v
+
+pub routine-tracked : (lay : Layout) (pol : Policy) (code mem : List ℕ) (room : ℕ) (gs : List Given) → rewriteAnswer lay code room .number ≡ 0 → Served lay pol (commandsOf lay code) mem gs → Tracked lay pol (commandsOf lay code) mem gs (bundlesFor (length code)) (routine code)
+routine-tracked lay pol code mem room gs z v =
+    let t = taken-of lay code room z in
+    tracked lay pol (commandsOf lay code) mem gs _ _ (right-routine lay pol code mem room z (v .installed)) (bundled-routine lay code room z)
+    (back lay _ (commandsOf lay code) (routine code) (routine-word lay code t) (λ h _. routine-valid lay code t h) (routine-last lay code t))
+    v
 
 pub guest-rule : GuestRule
 guest-rule lay pol code mem room gs z v x =
-    let n = bundlesFor (length code) in
-    let ok = right-routine lay pol code mem room z (v .installed) in
-    let bs = bundled-routine lay code room z in
-    agrees-after lay pol (commandsOf lay code) n (routine code) ok bs _ (after lay pol (commandsOf lay code) mem gs) x
-    (stays lay pol (commandsOf lay code) mem gs n (routine code) ok bs v)
+    let t = routine-tracked lay pol code mem room gs z v in
+    agrees-after lay pol _ _ _ (t .right) (t .bundled) _ (after lay pol (commandsOf lay code) mem gs) x (t .last)
 
 -- two addresses of a list, the second one on from the first modulo 2 ^ 32
 no-turn : (base n pc to : ℕ) → n ≤ mostBundles → base + bundleLength * n ≤ 2 ^ 32 → pc < base + bundleLength * n → base ≤ to → to ≡ onward pc → pc + 1 < 2 ^ 32
@@ -51,43 +70,35 @@ no-turn base n pc to most room l k e = omega arith
 
 pub no-wrap : NoWrap
 no-wrap lay pol ws mem gs v =
-    let n = length ws / bundleLength in
-    let is = bundleAt lay ws in
     let p = passed-of lay ws (v .passed) in
-    let ok = right-of lay pol ws mem (v .passed) (v .installed) in
-    let bs = bundled-of lay ws (v .passed) in
-    let g0 = guestStart lay pol (installMemory lay pol mem) in
+    let t = list-tracked lay pol ws mem gs v in
     let c = after lay pol ws mem gs in
-    let w = stays lay pol ws mem gs n is ok bs v in
-    let i = pc-in lay pol ws n is ok bs g0 c w in
+    let i = pc-in lay pol ws _ _ (t .right) (t .bundled) _ c (t .last) in
     record {
       from = i .0;
       within = omega (arith, i .1, p .count);
-      top = omega (arith, ok .room, p .count);
+      top = omega (arith, t .right .room, p .count);
       onward =
           λ g lent e.
-          no-turn (lay .base) n (c .machine .pc) _ (p .most) (ok .room) (i .1) (pc-in lay pol ws n is ok bs g0 (afterRun lay ws c (givenFor g 1)) (stays-run lay pol ws n is ok bs g0 c (givenFor g 1) _ refl lent w) .0) e;
+          let w = stays-run lay pol ws _ _ (t .right) (t .bundled) _ c (givenFor g 1) _ refl lent (t .last) in
+          no-turn (lay .base) _ (c .machine .pc) _ (p .most) (t .right .room) (i .1) (pc-in lay pol ws _ _ (t .right) (t .bundled) _ (afterRun lay ws c (givenFor g 1)) w .0) e;
     }
+
+-- a cell of a stretch whose cells lie outside the sandbox
+stretch-out : (lay : Layout) (from size i : ℕ) → ((j : ℕ) → j < size → inBox lay (from + j) ≡ false) → (leb from i && ltb i (from + size)) ≡ true → inBox lay i ≡ false
+stretch-out lay from size i out e =
+    let b = both _ _ e in
+    let low : from ≤ i = leb-true _ _ (b .0) in
+    let high : i < from + size = ltb-true _ _ (b .1) in
+    let z : from + (i - from) ≡ i = omega arith in
+    rw z at (out (i - from) (omega arith))
 
 -- a protected cell other than the state cell lies outside the sandbox
 pub protected-out : (lay : Layout) (pol : Policy) (n i : ℕ) → Ready lay pol n → protected lay i ≡ true → (i ≡ lay .cell → ⊥) → inBox lay i ≡ false
 unfolding protected inTable inLandings
 protected-out lay pol n i ok p ne =
     ⊎-elim (λ e. absurd (ne (eqb-true i (lay .cell) e)))
-    (λ q. ⊎-elim
-    (λ e.
-    let b = both _ _ e in
-    let low : lay .table ≤ i = leb-true _ _ (b .0) in
-    let high : i < tableEnd lay = ltb-true _ _ (b .1) in
-    let z : lay .table + (i - lay .table) ≡ i = omega arith in
-    rw z at (ok .table-out (i - lay .table) (omega arith)))
-    (λ e.
-    let b = both _ _ e in
-    let low : lay .landings ≤ i = leb-true _ _ (b .0) in
-    let high : i < landingsEnd lay = ltb-true _ _ (b .1) in
-    let z : lay .landings + (i - lay .landings) ≡ i = omega arith in
-    rw z at (ok .landings-out (i - lay .landings) (omega arith)))
-    (either _ _ q))
+    (λ q. ⊎-elim (stretch-out lay (lay .table) _ i (ok .table-out)) (stretch-out lay (lay .landings) _ i (ok .landings-out)) (either _ _ q))
     (either _ _ p)
 
 pub recorded : Recorded
@@ -95,18 +106,15 @@ recorded lay pol ws mem gs = recorded-runs lay ws (atFirst lay pol mem) gs
 
 pub isolation : Isolation
 isolation lay pol ws mem gs v =
-    let n = length ws / bundleLength in
-    let is = bundleAt lay ws in
-    let ok = right-of lay pol ws mem (v .passed) (v .installed) in
-    let bs = bundled-of lay ws (v .passed) in
-    let g0 = guestStart lay pol (installMemory lay pol mem) in
-    let w = at-first lay pol ws mem n is ok bs (v .installed) in
+    let t = list-tracked lay pol ws mem gs v in
+    let ok = t .right in
+    let bs = t .bundled in
     record {
-      sound = sound-runs lay pol ws n is ok bs g0 (atFirst lay pol mem) gs (v .lends) w;
-      kept = kept-runs lay pol ws n is ok bs g0 (atFirst lay pol mem) gs (v .lends) w;
-      lasting = λ i p ne. lasts lay pol ws n is ok bs g0 (atFirst lay pol mem) gs (v .lends) w i (protected-out lay pol n i (ok .ready) p ne) ne p;
+      sound = sound-runs lay pol ws _ _ ok bs _ (atFirst lay pol mem) gs (v .lends) (t .first);
+      kept = kept-runs lay pol ws _ _ ok bs _ (atFirst lay pol mem) gs (v .lends) (t .first);
+      lasting = λ i p ne. lasts lay pol ws _ _ ok bs _ (atFirst lay pol mem) gs (v .lends) (t .first) i (protected-out lay pol _ i (ok .ready) p ne) ne p;
       allowed =
           ap (λ (ps : List Pair). allowed pol (eventsOf ps)) (sym (recorded lay pol ws mem gs))
-          ∙ allowed-runs lay pol ws n is ok bs g0 (after lay pol ws mem gs) (stays lay pol ws mem gs n is ok bs v);
-      alone = alone lay pol ws mem gs n is ok bs (laid-of lay pol mem (v .installed)) v;
+          ∙ allowed-runs lay pol ws _ _ ok bs _ (after lay pol ws mem gs) (t .last);
+      alone = alone lay pol ws mem gs _ _ ok bs (t .first) v;
     }

@@ -4,7 +4,7 @@ use mathlib.Core.Path.{_≡_, refl, sym, _∙_, ap, subst}
 use mathlib.Core.Bool.{Bool, true, false, cond}
 use mathlib.Core.Logic.{_⊎_, inl, inr, ⊎-elim}
 use mathlib.Core.List.{List}
-use Prim.Native.Nat.{ℕ, zero, suc, _+_, _-_, _*_, _/_, _%_, _^_, _<_, _≤_}
+use Prim.Native.Nat.{ℕ, zero, suc, _+_, _-_, _*_, _%_, _^_, _<_, _≤_}
 use native.Mathlib.Omega.{arith}
 use borrow.Author.Tests.{ltb-true, ltb-false, eq-eqb}
 use lib.Dec.{eqb, ltb}
@@ -22,19 +22,19 @@ use Rattle.rules.specs.declared.Effect.the-variants.{Go, Put, Cell, Orde
 use Rattle.rules.specs.Names.{orders, noArrow, bundleLength, hidden}
 use Rattle.rules.specs.Policies.{Policy}
 use Rattle.rules.specs.Commands.{fetchOf, holdsOf}
-use Rattle.rules.specs.Bundles.{at4, addressOf, positionOf, shapeOf, bundleAt}
-use Rattle.rules.specs.Machines.{State, Ran, View, regAt, ifCell, landsAt, ifLanding, ifRoom, entryOf, onward, effectOf, applyOf, seen, nextOf, stepOf, runFrom, startOf, runOf, fits, installMemory}
-use Rattle.rules.specs.Guests.{Pair, Guest, rOf, guestStart}
+use Rattle.rules.specs.Bundles.{at4, addressOf, positionOf, shapeOf}
+use Rattle.rules.specs.Machines.{State, Ran, View, regAt, ifCell, landsAt, ifLanding, ifRoom, entryOf, onward, effectOf, applyOf, seen, nextOf, stepOf, runFrom, startOf, runOf, fits}
+use Rattle.rules.specs.Guests.{Pair, Guest, rOf}
 use Rattle.rules.specs.Runs.{begins, begunFrom, runOn, afterTaken, afterRun, after}
 use Rattle.rules.specs.Claims.{Stands, Resumes, Progress}
 use Rattle.rules.proofs.Facts.{Right, Bundled}
 use Rattle.rules.proofs.Bools.{no, cases, cond-ind}
-use Rattle.rules.proofs.Conditions.{bundled-of, right-of, layout-of}
+use Rattle.rules.proofs.Conditions.{layout-of}
 use Rattle.rules.proofs.Sim.{Mid, start, rest, load1, load2, store1, store2, gox1, gox2, gox3, event1, event2, event3, Sim, over, live, Known}
 use Rattle.rules.proofs.Track.{first-yes, first-no, fetched, tracks, step-known, enter}
 use Rattle.rules.proofs.Loops.{Goes, go-from, machineLoop, begunLoop}
 use Rattle.rules.proofs.Endings.{goes}
-use Rattle.rules.proofs.Isolation.{stays}
+use Rattle.rules.proofs.Isolation.{list-tracked}
 
 -- ---- commands other than EVENT, and effects that neither pause nor record
 abbrev pub Quiet : Command → Type 0
@@ -303,18 +303,14 @@ module _ (lay : Layout) (pol : Policy) (ws : List ℕ) (n : ℕ) (is : ℕ → I
 pub resumes : Resumes
 unfolding afterRun afterTaken runOn runOf
 resumes lay pol ws mem gs v run g lent len ll lr =
-    let n = length ws / bundleLength in
-    let is = bundleAt lay ws in
-    let ok = right-of lay pol ws mem (v .passed) (v .installed) in
-    let bs = bundled-of lay ws (v .passed) in
-    let g0 = guestStart lay pol (installMemory lay pol mem) in
+    let t = list-tracked lay pol ws mem gs v in
     let c = after lay pol ws mem gs in
     let s = startOf (c .machine) (g .memory) (g .log) in
-    let w = enter lay pol ws n is ok bs g0 c g len lent (stays lay pol ws mem gs n is ok bs v) in
-    let k = tracks lay pol ws n is ok bs (c .records) (c .consumed) (g .readings) g0 (c .begun) s w in
-    let y = from-here lay pol ws n is ok bs (c .records) (c .consumed) (g .readings) g0 (c .begun) s _ (k .0) w run (omega arith, omega arith) (k .1 .sim) in
-    let t : fits lay (g .memory) ≡ true = rw (layout-of lay ws (v .passed), eq-eqb (length (g .memory)) (lay .size) len) in
-    record { budget = y .j; few = y .few; stands = rw t (y .stands); begun = rw t (y .begun) }
+    let w = enter lay pol ws _ _ (t .right) (t .bundled) _ c g len lent (t .last) in
+    let k = tracks lay pol ws _ _ (t .right) (t .bundled) (c .records) (c .consumed) (g .readings) _ (c .begun) s w in
+    let y = from-here lay pol ws _ _ (t .right) (t .bundled) (c .records) (c .consumed) (g .readings) _ (c .begun) s _ (k .0) w run (omega arith, omega arith) (k .1 .sim) in
+    let fit : fits lay (g .memory) ≡ true = rw (layout-of lay ws (v .passed), eq-eqb (length (g .memory)) (lay .size) len) in
+    record { budget = y .j; few = y .few; stands = rw fit (y .stands); begun = rw fit (y .begun) }
 
 pub progress : Progress
 progress lay pol ws mem gs v x run g lent len ll lr =

@@ -15,7 +15,6 @@ use Rattle.rules.specs.declared.Status.the-variants.{Running}
 use Rattle.rules.specs.declared.Ending.{Ending}
 use Rattle.rules.specs.declared.Effect.{Effect}
 use Rattle.rules.specs.declared.Effect.the-variants.{Go, Put, Cell, Order, Probe, End, Wait}
-use Rattle.rules.specs.declared.Machine.{Machine}
 use Rattle.rules.specs.declared.Outcome.{Outcome}
 use Rattle.rules.specs.declared.Layout.{Layout}
 use Rattle.rules.specs.declared.Instr.{Instr}
@@ -28,15 +27,15 @@ use Rattle.rules.specs.Commands.{fetchOf}
 use Rattle.rules.specs.Machines.{viewOf, landsAt, effectOf, State, stateOf, withPair, applyOf, seen, nextOf, stepOf, Ran, fits, startOf, runFrom, runOf, installMemory}
 use Rattle.rules.specs.Bundles.{shapeOf}
 use Rattle.rules.specs.Guests.{Pair, Guest, rOf, guestStart}
-use Rattle.rules.specs.Runs.{Given, pairsOf, Carried, carriedOf, atFirst, runOn, afterTaken, begins, afterRun, runsOf, Matches, Lent, Lends, Served}
+use Rattle.rules.specs.Runs.{Given, pairsOf, Carried, atFirst, runOn, afterTaken, begins, afterRun, runsOf, Matches, Lent, Lends, Served}
 use Rattle.rules.specs.Claims.{Each, Alike, Same}
 use Rattle.rules.proofs.Bools.{cases, both}
 use Rattle.rules.proofs.Landings.{marked-same}
-use Rattle.rules.proofs.Facts.{Right, Valid, Bundled, Laid}
+use Rattle.rules.proofs.Facts.{Right, Valid, Bundled}
 use Rattle.rules.proofs.Loops.{Goes, Loop, stepIn, alikes, machineLoop}
 use Rattle.rules.proofs.Conditions.{machine-of}
 use Rattle.rules.proofs.Sim.{Mid, start, rest, load1, load2, store1, store2, gox1, gox2, gox3, event1, event2, event3, Sim, over, live, Known, Stays}
-use Rattle.rules.proofs.Track.{lent-box, lent-cell, lent-table, lent-landing, tracks, step-known, enter, stays-run, install}
+use Rattle.rules.proofs.Track.{lent-box, lent-cell, lent-table, lent-landing, tracks, step-known, enter, stays-run}
 
 -- ---- two states with the same machine and counts, alike in what is seen of memory and in the pairs logged
 abbrev pub besides : State → List ℕ → List ℕ → State
@@ -317,11 +316,8 @@ watched lay pol ws n is g0 ok bs =
       leave = λ c g lent w. stays-run lay pol ws n is ok bs g0 c g _ refl lent w;
     }
 
-pub alone : (lay : Layout) (pol : Policy) (ws mem : List ℕ) (gs : List Given) (n : ℕ) (is : ℕ → Instr) → Right lay pol n → Bundled lay ws n is → Laid lay pol (installMemory lay pol mem) → Served lay pol ws mem gs → (pol′ : Policy) (mem′ : List ℕ) (gs′ : List Given) → Served lay pol′ ws mem′ gs′ → Matches lay (installMemory lay pol mem) (installMemory lay pol′ mem′) → Each Alike gs gs′ → Each (Same lay) (runsOf lay ws (atFirst lay pol mem) gs) (runsOf lay ws (atFirst lay pol′ mem′) gs′)
-alone lay pol ws mem gs n is ok bs laid v pol′ mem′ gs′ v′ m a =
+pub alone : (lay : Layout) (pol : Policy) (ws mem : List ℕ) (gs : List Given) (n : ℕ) (is : ℕ → Instr) → Right lay pol n → Bundled lay ws n is → Stays lay pol n is (guestStart lay pol (installMemory lay pol mem)) (atFirst lay pol mem) → Served lay pol ws mem gs → (pol′ : Policy) (mem′ : List ℕ) (gs′ : List Given) → Served lay pol′ ws mem′ gs′ → Matches lay (installMemory lay pol mem) (installMemory lay pol′ mem′) → Each Alike gs gs′ → Each (Same lay) (runsOf lay ws (atFirst lay pol mem) gs) (runsOf lay ws (atFirst lay pol′ mem′) gs′)
+alone lay pol ws mem gs n is ok bs w v pol′ mem′ gs′ v′ m a =
     let g0 = guestStart lay pol (installMemory lay pol mem) in
-    let e = machine-of lay pol mem (v .installed) in
-    let e′ = machine-of lay pol′ mem′ (v′ .installed) in
-    runs-alike lay ws (Within lay pol n is g0) (Stays lay pol n is g0) (watched lay pol ws n is g0 ok bs) (atFirst lay pol mem) (atFirst lay pol′ mem′) gs gs′ a (v .lends) (v′ .lends)
-    (subst (λ (x : Machine). Stays lay pol n is g0 (carriedOf x (installMemory lay pol mem) [] [] 0)) (sym e) (install lay pol ws n is ok bs (installMemory lay pol mem) laid))
-    (record { machine = e ∙ sym e′; seen = m })
+    runs-alike lay ws (Within lay pol n is g0) (Stays lay pol n is g0) (watched lay pol ws n is g0 ok bs) (atFirst lay pol mem) (atFirst lay pol′ mem′) gs gs′ a (v .lends) (v′ .lends) w
+    (record { machine = machine-of lay pol mem (v .installed) ∙ sym (machine-of lay pol′ mem′ (v′ .installed)); seen = m })
