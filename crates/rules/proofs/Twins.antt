@@ -72,6 +72,17 @@ pair-alike log log′ n e x i l h m =
     set-alike (set log (2 * n) e) (set log′ (2 * n) e) (2 * n + 1) i x (simp length-set l)
     (λ p. set-alike log log′ (2 * n) i e l (λ q. h i (omega arith)))
 
+-- one more pair in both logs, whatever becomes of registers, pc and readings used
+logs-alike : (lay : Layout) (s : State) (mem log regs : List ℕ) (pc used e x : ℕ) → Twin lay s (besides s mem log) → Twin lay (stateOf regs pc (s .status) (s .mem) (withPair (s .log) (s .pairs) e x) (s .pairs + 1) used) (stateOf regs pc (s .status) mem (withPair log (s .pairs) e x) (s .pairs + 1) used)
+logs-alike lay s mem log regs pc used e x t =
+    record {
+      same = refl;
+      seen = t .seen;
+      size = t .size;
+      long = simp length-set (t .long);
+      logged = λ i h. pair-alike (s .log) log (s .pairs) e x i (t .long) (t .logged) h;
+    }
+
 -- the same effect keeps two states twins
 pub apply-alike : (lay : Layout) (rd : List ℕ) (e : Effect) (s : State) (mem log : List ℕ) → Twin lay s (besides s mem log) → Twin lay (applyOf (lay .ceilings) rd e s) (applyOf (lay .ceilings) rd e (besides s mem log))
 unfolding applyOf
@@ -85,22 +96,8 @@ apply-alike lay rd (Cell i x) s mem log t =
       long = t .long;
       logged = t .logged;
     }
-apply-alike lay rd (Order v) s mem log t =
-    record {
-      same = refl;
-      seen = t .seen;
-      size = t .size;
-      long = simp length-set (t .long);
-      logged = λ i h. pair-alike (s .log) log (s .pairs) v _ i (t .long) (t .logged) h;
-    }
-apply-alike lay rd (Probe v) s mem log t =
-    record {
-      same = refl;
-      seen = t .seen;
-      size = t .size;
-      long = simp length-set (t .long);
-      logged = λ i h. pair-alike (s .log) log (s .pairs) v _ i (t .long) (t .logged) h;
-    }
+apply-alike lay rd (Order v) s mem log t = logs-alike lay s mem log _ _ _ v _ t
+apply-alike lay rd (Probe v) s mem log t = logs-alike lay s mem log _ _ _ v _ t
 apply-alike lay rd (End u) s mem log t = record { same = refl; seen = t .seen; size = t .size; long = t .long; logged = t .logged }
 apply-alike lay rd (Wait e) s mem log t = t
 

@@ -1,15 +1,13 @@
 -- The raw run of a routine that behaves is the guest rule, instruction by instruction.
-use Prim.Native.Nat.{ℕ, zero, suc, _+_, _-_, _%_, _<_, _≤_}
+use Prim.Native.Nat.{ℕ, zero, suc, _+_, _-_, _%_, _<_}
 use mathlib.Core.Path.{_≡_, refl, sym, _∙_, ap, subst}
 use mathlib.Core.Bool.{Bool, true, false, cond}
-use mathlib.Core.Logic.{⊎-elim}
 use mathlib.Core.List.{List}
 use native.Mathlib.Omega.{arith}
 use native.Mathlib.Nat.{mod-eq-of-lt}
-use borrow.Author.Tests.{eqb-true, eqb-false, ne-eqb}
-use lib.Dec.{eqb, ltb}
+use borrow.Author.Tests.{ne-eqb}
+use lib.Dec.{ltb}
 use lib.ListN.{length, getD, set, length-set}
-use lib.Seq.{getD-set-same, getD-set-other}
 use Rattle.rules.specs.declared.Layout.{Layout}
 use Rattle.rules.specs.declared.Status.{Status}
 use Rattle.rules.specs.declared.Status.the-variants.{Running, Ended, Stopped, Faulted, Strayed}
@@ -21,11 +19,9 @@ use Rattle.rules.specs.Policies.{Policy, arrow, stateOver}
 use Rattle.rules.specs.Landings.{listed}
 use Rattle.rules.specs.Commands.{plainOf, holdsOf}
 use Rattle.rules.specs.Machines.{unlessOver}
-use Rattle.rules.specs.Guests.{Pair, pairOf, snoc, Guest, rOf, boxIndex, guestOn, guestEnd, landOf, sentOf, doOf, guestStep, guestAfter}
+use Rattle.rules.specs.Guests.{Pair, pairOf, snoc, Guest, rOf, boxIndex, guestOn, landOf, sentOf, doOf, guestStep, guestAfter}
 use Rattle.rules.specs.Runs.{eventsOf}
-use Rattle.rules.proofs.Bools.{cases}
-use Rattle.rules.proofs.Layouts.{in-box}
-use Rattle.rules.proofs.Sim.{events-snoc, state-more}
+use Rattle.rules.proofs.Sim.{box-alike, events-snoc, state-more}
 use Rattle.transparency.specs.Raw.{Raw, rReg, rawOn, rawSent, rawDo, rawStep, rawAfter, Behaves, BehavesFor}
 
 -- the raw run beside the guest
@@ -114,7 +110,6 @@ module _ (lay : Layout) (pol : Policy) (N : ℕ) (fixed : (x : ℕ) → inBox la
       let x = rOf g a in
       let inside : inBox lay (rReg r a) ≡ true = h in
       let m : inBox lay x ≡ true = rw y at inside in
-      let o = in-box lay x m in
       let w = reg g r b l in
       rw (y, w, fixed x m)
       (record {
@@ -122,17 +117,7 @@ module _ (lay : Layout) (pol : Policy) (N : ℕ) (fixed : (x : ℕ) → inBox la
         at = further g r l;
         cells = simp length-set (l .cells);
         room = simp length-set (l .room);
-        box =
-            λ i u.
-            let p = in-box lay i u in
-            ⊎-elim
-            (λ z.
-            let q = eqb-true i x z in
-            rw q (getD-set-same (r .mem) x (rOf g b) 0 (omega (arith, l .room)) ∙ sym (getD-set-same (g .box) (x - lay .low) (rOf g b) 0 (omega (arith, l .cells)))))
-            (λ z.
-            let q = eqb-false i x z in
-            getD-set-other (r .mem) x i (rOf g b) 0 q ∙ l .box i u ∙ sym (getD-set-other (g .box) (x - lay .low) (i - lay .low) (rOf g b) 0 (λ e. q (omega arith))))
-            (cases (eqb i x));
+        box = box-alike lay (r .mem) (g .box) x (rOf g b) (rOf g b) m refl (l .room) (l .cells) (l .box);
         records = l .records;
         used = l .used;
         status = refl;
