@@ -19,8 +19,8 @@ use Rattle.rules.specs.Commands.{wordOf}
 use Rattle.rules.specs.Bundles.{shapeWith, shapeOf, valid, bundleAt, baseRight, passesAt, checkFrom, countRight, checkAnswer}
 use Rattle.rules.proofs.Facts.{Valid}
 use Rattle.rules.proofs.Bools.{no, both, join, cond-ind, unless-ind}
-use Rattle.rules.proofs.Conditions.{counted, passed-of, passed-count, passed-valid, passed-word, passed-last, valid-is}
-use Rattle.rules.proofs.Passing.{is-valid, bundle-passes, check-taken}
+use Rattle.rules.proofs.Conditions.{passed-of, passed-placed, passed-valid, passed-word, passed-last, valid-is}
+use Rattle.rules.proofs.Passing.{is-valid, list-passes}
 use Rattle.changes.specs.Claims.{hiddenBefore, namesHidden, fieldsBelow, PassesWith, ListsBefore}
 
 -- ---- the first command of a bundle
@@ -125,26 +125,14 @@ module _ (lay : Layout) (ws : List ℕ) where
   passes : (is : ℕ → Instr) → PassesWith hidden lay ws N is → checkAnswer lay ws ≡ answer 0 0
   unfolding shapeOf
   passes is p =
-      let c = counted (length ws) (p .count) in
-      let fine : (h : ℕ) → h < N → Valid N (is h) = λ h l. valid-is N (is h) (both _ _ (p .fields h l) .0) in
-      check-taken lay ws N
-      (record {
-        right = p .layout;
-        count = c .count;
-        most = c .most;
-        single = c .single;
-        base = p .base;
-        each = bundle-passes lay N ws is (p .words) fine (p .last);
-      })
+      list-passes lay ws is (p .placed) (p .words) (λ h l. valid-is N (is h) (both _ _ (p .fields h l) .0)) (p .last)
 
   passed : checkAnswer lay ws .number ≡ 0 → PassesWith hidden lay ws N (bundleAt lay ws)
   unfolding shapeOf
   passed e =
       let p = passed-of lay ws e in
       record {
-        layout = p .right;
-        count = passed-count lay ws N p;
-        base = p .base;
+        placed = passed-placed lay ws N p;
         fields =
             λ h l.
             let g = passed-valid lay ws N p h l in
@@ -168,9 +156,7 @@ module _ (lay : Layout) (ws : List ℕ) where
   reread : (r q : ℕ) (is : ℕ → Instr) → ((h : ℕ) → h < N → namesHidden (is h) ≡ false) → ((h : ℕ) → h < N → valid N (is h) ≡ true → fieldsBelow q (is h) ≡ true) → PassesWith r lay ws N is → PassesWith q lay ws N is
   reread r q is none low p =
       record {
-        layout = p .layout;
-        count = p .count;
-        base = p .base;
+        placed = p .placed;
         fields = λ h l. let v = both _ _ (p .fields h l) .0 in join _ _ v (low h l v);
         words = λ h x l y. p .words h x l y ∙ ap wordOf (same-shape lay N r q (is h) x (none h l));
         last = p .last;

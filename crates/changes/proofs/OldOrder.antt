@@ -62,6 +62,6 @@ module _ (lay : Layout) (n : ℕ) (ws : List ℕ) (h r e : ℕ) (old : take bund
 
 pub old-refused : OldRefused
 unfolding checkAnswer
-old-refused lay ws h r e right count base l old =
+old-refused lay ws h r e p l old =
     let n = length ws / bundleLength in
-    rw (right, count, base) (refused-at lay n ws h 0 n (old-fails lay n ws h r e old) (omega arith) (omega arith))
+    rw (p .layout, p .count, p .base) (refused-at lay n ws h 0 n (old-fails lay n ws h r e old) (omega arith) (omega arith))

@@ -16,10 +16,10 @@ use Rattle.rules.specs.declared.Ending.the-variants.{LogFull, Silent, Refused}
 use Rattle.rules.specs.declared.Machine.{Machine}
 use Rattle.rules.specs.declared.Refusal.the-variants.{BadLayout, BadBundle, BadCount, BadBase}
 use Rattle.rules.specs.Names.{orders, bundleLength, hidden, numberOf, answer}
-use Rattle.rules.specs.Layouts.{rightLayout}
 use Rattle.rules.specs.Commands.{fetchOf, wordOf}
-use Rattle.rules.specs.Bundles.{shapeWith, valid, bundleAt, baseRight, countRight, checkAnswer}
+use Rattle.rules.specs.Bundles.{shapeWith, valid, bundleAt, checkAnswer}
 use Rattle.rules.specs.Machines.{View, ifRoom, effectOf, State, applyOf, seen, endingOf, Ran, ranOf, outcomeOf, endedIn, leftIn, unlessOver, unlessWait, startOf, fits, runOf}
+use Rattle.rules.specs.Claims.{Placed}
 
 -- ---- [4]: which pause comes first
 
@@ -121,9 +121,7 @@ fieldsBelow r (EVENT e) = true
 
 -- what the checker passes where r is the hidden register and the guest's are those below it: `is` are the instructions of the bundles
 pub record PassesWith (r : ℕ) (lay : Layout) (ws : List ℕ) (N : ℕ) (is : ℕ → Instr) : Type 0 where
-  pub layout : rightLayout lay ≡ true
-  pub count : countRight (length ws) ≡ true
-  pub base : baseRight lay N ≡ true
+  pub placed : Placed lay ws N
   pub fields : (h : ℕ) → h < N → (valid N (is h) && fieldsBelow r (is h)) ≡ true
   pub words : (h p : ℕ) → h < N → p < bundleLength → getD ws (bundleLength * h + p) 0 ≡ wordOf (shapeWith r lay N (is h) p)
   pub last : is (N - 1) ≡ HALT
@@ -160,6 +158,5 @@ abbrev pub OldRefused : Type 0
 OldRefused =
     (lay : Layout) (ws : List ℕ) (h r e : ℕ) →
     let N = length ws / bundleLength in
-    rightLayout lay ≡ true → countRight (length ws) ≡ true → baseRight lay N ≡ true →
-    h < N → take bundleLength (drop (bundleLength * h) ws) ≡ oldEvent r e →
+    Placed lay ws N → h < N → take bundleLength (drop (bundleLength * h) ws) ≡ oldEvent r e →
     (checkAnswer lay ws .number ≡ numberOf BadBundle) × (checkAnswer lay ws .place ≤ h)

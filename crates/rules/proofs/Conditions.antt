@@ -21,7 +21,7 @@ use Rattle.rules.specs.Landings.{rightLandings, landingsOf}
 use Rattle.rules.specs.Words.{kindOf, judgeAt, instrOf, routine, bundlesFor}
 use Rattle.rules.specs.Commands.{commandOf, wordOf, fetchOf}
 use Rattle.rules.specs.Bundles.{shapeOf, bundlesFrom, commandsOf, commandCount, baseRight, placeAnswer, rewriteAnswer, valid, readOff, bundleAt, isBundle, shapedAt, passesAt, checkFrom, countRight, checkAnswer}
-use Rattle.rules.specs.Claims.{SizeLaws, Installs}
+use Rattle.rules.specs.Claims.{Placed, SizeLaws, Installs}
 use Rattle.rules.specs.Machines.{machineAt, fits, installAnswer, installMemory, installMachine}
 use Rattle.rules.proofs.Facts.{Ready, Right, Valid, Bundled, Laid}
 use Rattle.rules.proofs.Bools.{no, cases, both, join, either, cond-ind, unless-ind, neither}
@@ -90,12 +90,12 @@ passed-of lay ws =
       each = λ h l. check-each lay n ws 0 n e h (omega arith) (omega arith);
     })))
 
-pub passed-count : (lay : Layout) (ws : List ℕ) (n : ℕ) → Passed lay ws n → countRight (length ws) ≡ true
-passed-count lay ws n p =
+pub passed-placed : (lay : Layout) (ws : List ℕ) (n : ℕ) → Passed lay ws n → Placed lay ws n
+passed-placed lay ws n p =
     let q : length ws / bundleLength ≡ n = omega (arith, p .count) in
     let fours : length ws % bundleLength ≡ 0 = omega (arith, p .count) in
     let most : length ws ≤ mostCommands = omega (arith, p .count, p .most) in
-    rw (q, fours, le-leb _ _ most, eq-eqb _ _ (p .single))
+    record { layout = p .right; count = rw (q, fours, le-leb _ _ most, eq-eqb _ _ (p .single)); base = p .base }
 
 pub layout-of : (lay : Layout) (ws : List ℕ) → checkAnswer lay ws .number ≡ 0 → rightLayout lay ≡ true
 layout-of lay ws e = passed-of lay ws e .right

@@ -18,7 +18,7 @@ use Rattle.rules.specs.Names.{mostInstructions, mostCommands, bundleLeng
 use Rattle.rules.specs.Words.{kindOf, judgeAt, instrOf, routine, bundlesFor}
 use Rattle.rules.specs.Commands.{limitsOf, wordOf}
 use Rattle.rules.specs.Bundles.{addressOf, shapeOf, commandsOf, commandCount, placeAnswer, rewriteAnswer, rewriteOutput, valid, readOff, bundleAt, isBundle, shapedAt, passesAt, checkFrom, checkAnswer}
-use Rattle.rules.specs.Claims.{RewriteLeaves, RewrittenPasses, Rewrites, PassedRewrites, PassedDecodes}
+use Rattle.rules.specs.Claims.{Placed, RewriteLeaves, RewrittenPasses, Rewrites, PassedRewrites, PassedDecodes}
 use Rattle.rules.proofs.Facts.{Valid}
 use Rattle.rules.proofs.Bools.{cases}
 use Rattle.rules.proofs.Masks.{one-bit, sizes}
@@ -26,7 +26,7 @@ use Rattle.rules.proofs.Refusals.{none-refused, output-start}
 use Rattle.rules.proofs.Counts.{length-commands, rewrite-taken as answer-taken}
 use Rattle.rules.proofs.Packing.{InBits, guest-bits, condition-bits, pack-kind, pack-d, pack-a, pack-b, pack-c, pack-v}
 use Rattle.rules.proofs.GuestWords.{guestWord, guest-taken, guest-instr}
-use Rattle.rules.proofs.Conditions.{Passed, passed-of, passed-valid, passed-word, passed-last, Taken, taken-of, past-end, some-ones, size-laws, count-most, routine-valid, routine-last, routine-length, routine-word, bundled-of}
+use Rattle.rules.proofs.Conditions.{counted, Passed, passed-of, passed-valid, passed-word, passed-last, Taken, taken-of, past-end, some-ones, size-laws, count-most, routine-valid, routine-last, routine-length, routine-word, bundled-of}
 
 -- ---- an instruction is read off its bundle
 
@@ -116,13 +116,21 @@ unfolding checkFrom
 check-all lay n ws h zero all = refl
 check-all lay n ws h (suc m) all = rw (all h (omega arith)) (check-all lay n ws (h + 1) m (λ j l. all j (omega arith)))
 
-pub check-taken : (lay : Layout) (ws : List ℕ) (n : ℕ) → Passed lay ws n → checkAnswer lay ws ≡ answer 0 0
+check-taken : (lay : Layout) (ws : List ℕ) (n : ℕ) → Passed lay ws n → checkAnswer lay ws ≡ answer 0 0
 unfolding checkAnswer
 check-taken lay ws n p =
     let q : length ws / bundleLength ≡ n = omega (arith, p .count) in
     let fours : length ws % bundleLength ≡ 0 = omega (arith, p .count) in
     let most : length ws ≤ mostCommands = omega (arith, p .count, p .most) in
     rw (p .right, q, fours, le-leb _ _ most, eq-eqb _ _ (p .single), p .base) (check-all lay n ws 0 n (λ j l. p .each j (omega arith)))
+
+pub list-passes : (lay : Layout) (ws : List ℕ) (is : ℕ → Instr) → let n = length ws / bundleLength in
+    Placed lay ws n → ((h p : ℕ) → h < n → p < bundleLength → getD ws (bundleLength * h + p) 0 ≡ wordOf (shapeOf lay n (is h) p)) →
+    ((h : ℕ) → h < n → Valid n (is h)) → is (n - 1) ≡ HALT → checkAnswer lay ws ≡ answer 0 0
+list-passes lay ws is p each fine last =
+    let c = counted (length ws) (p .count) in
+    check-taken lay ws (length ws / bundleLength)
+    (record { right = p .layout; count = c .count; most = c .most; single = c .single; base = p .base; each = bundle-passes lay _ ws is each fine last })
 
 pub rewritten-passes : RewrittenPasses
 rewritten-passes lay code room e =

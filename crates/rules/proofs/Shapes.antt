@@ -16,8 +16,8 @@ use Rattle.rules.specs.Commands.{wordOf}
 use Rattle.rules.specs.Bundles.{shapeOf, bundleOf, readOff, bundleAt, isBundle, checkAnswer}
 use Rattle.rules.specs.Claims.{Shapes, AllShaped, Checks}
 use Rattle.rules.proofs.Facts.{Valid}
-use Rattle.rules.proofs.Conditions.{four-words, bundle-parts, valid-is, some-ones, counted, passed-of, passed-count, passed-valid, passed-word, passed-last}
-use Rattle.rules.proofs.Passing.{bundle-back, is-valid, bundle-passes, check-taken}
+use Rattle.rules.proofs.Conditions.{four-words, bundle-parts, valid-is, some-ones, passed-of, passed-placed, passed-valid, passed-word, passed-last}
+use Rattle.rules.proofs.Passing.{bundle-back, is-valid, list-passes}
 
 module _ (lay : Layout) (n : ℕ) where
   -- the words of a bundle, by position
@@ -77,9 +77,7 @@ module _ (lay : Layout) (ws : List ℕ) where
       let same : (h : ℕ) → h < N → bundleOf lay N (bundleAt lay ws h) .words ≡ take bundleLength (drop (bundleLength * h) ws) =
       λ h l. bundle-at lay N ws h (bundleAt lay ws h) (omega (arith, p .count)) (passed-word lay ws N p h l) in
       record {
-        layout = p .right;
-        count = passed-count lay ws N p;
-        base = p .base;
+        placed = passed-placed lay ws N p;
         each =
             λ h l.
             record { instr = bundleAt lay ws h; fields = is-valid lay N (bundleAt lay ws h) (passed-valid lay ws N p h l); same = same h l };
@@ -88,20 +86,10 @@ module _ (lay : Layout) (ws : List ℕ) where
 
   passes : AllShaped lay ws N → checkAnswer lay ws ≡ answer 0 0
   passes a =
-      let c = counted (length ws) (a .count) in
       let fine : (h : ℕ) (l : h < N) → Valid N (a .each h l .instr) = λ h l. valid-is N _ (a .each h l .fields) in
       let read : (h : ℕ) (l : h < N) → bundleAt lay ws h ≡ a .each h l .instr = λ h l. read-at lay N ws h _ (a .each h l .same) (fine h l) in
-      check-taken lay ws N
-      (record {
-        right = a .layout;
-        count = c .count;
-        most = c .most;
-        single = c .single;
-        base = a .base;
-        each =
-            bundle-passes lay N ws (bundleAt lay ws) (λ h p l m. rw (read h l) (word-at lay N ws h _ (a .each h l .same) p m)) (λ h l. rw (read h l) (fine h l))
-            (read-at lay N ws (N - 1) HALT (sym (a .last)) tt);
-      })
+      list-passes lay ws (bundleAt lay ws) (a .placed) (λ h p l m. rw (read h l) (word-at lay N ws h _ (a .each h l .same) p m)) (λ h l. rw (read h l) (fine h l))
+      (read-at lay N ws (N - 1) HALT (sym (a .last)) tt)
 
 pub checks : Checks
 checks lay ws = record { passed = passed lay ws; passes = passes lay ws }

@@ -122,11 +122,15 @@ pub record ShapeLaws (lay : Layout) (N w x y z : ℕ) : Type 0 where
 abbrev pub Shapes : Type 0
 Shapes = (lay : Layout) (N w x y z : ℕ) → ShapeLaws lay N w x y z
 
--- 'a list of 4N commands, N a power of two from 1 to 1,024, whose bundles all have these shapes and whose last is HALT'; B is a multiple of 4N
-pub record AllShaped (lay : Layout) (ws : List ℕ) (N : ℕ) : Type 0 where
+-- a list that 7, 12 and 13 do not refuse: 'a list of 4N commands, N a power of two from 1 to 1,024', under a right layout; B is a multiple of 4N
+pub record Placed (lay : Layout) (ws : List ℕ) (N : ℕ) : Type 0 where
   pub layout : rightLayout lay ≡ true
   pub count : countRight (length ws) ≡ true
   pub base : baseRight lay N ≡ true
+
+-- 'whose bundles all have these shapes and whose last is HALT'
+pub record AllShaped (lay : Layout) (ws : List ℕ) (N : ℕ) : Type 0 where
+  pub placed : Placed lay ws N
   pub each : (h : ℕ) → h < N → Shaped lay N (take bundleLength (drop (bundleLength * h) ws))
   pub last : take bundleLength (drop (bundleLength * (N - 1)) ws) ≡ bundleOf lay N HALT .words
 
