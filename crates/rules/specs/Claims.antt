@@ -218,16 +218,18 @@ pub record AgreesAt (lay : Layout) (p : ℕ) (g : Guest) (c : Carried) : Type 0 
 abbrev pub Agrees : Layout → Guest → Carried → Type 0
 Agrees lay g c = AgreesAt lay 0 g c
 
+-- the guest after k instructions of a routine, 'from instruction 0, registers 0', given the readings that the runs used
+abbrev pub guestFor : Layout → Policy → List ℕ → List ℕ → Carried → ℕ → Guest
+guestFor lay pol code mem c k = guestAfter lay pol (bundlesFor (length code)) (routine code) (c .consumed) (guestStart lay pol (installMemory lay pol mem)) k
+
 -- 'Guest rule (from instruction 0, registers 0) and machine are compared from installation on, on demand 3's premise, at each first command of a bundle and at every end or stop':
--- the guest, given the readings that the runs used, after as many instructions as the runs began bundles.
+-- after as many instructions as the runs began bundles.
 -- A list of runs may end anywhere and budgets are any, so this speaks of every moment
 abbrev pub GuestRule : Type 0
 GuestRule =
     (lay : Layout) (pol : Policy) (code mem : List ℕ) (room : ℕ) (gs : List Given) → rewriteAnswer lay code room .number ≡ 0 →
-    let ws = commandsOf lay code in
-    let c = after lay pol ws mem gs in
-    let g = guestStart lay pol (installMemory lay pol mem) in
-    Served lay pol ws mem gs → Stands lay (c .machine) → Agrees lay (guestAfter lay pol (bundlesFor (length code)) (routine code) (c .consumed) g (c .begun)) c
+    let c = after lay pol (commandsOf lay code) mem gs in
+    Served lay pol (commandsOf lay code) mem gs → Stands lay (c .machine) → Agrees lay (guestFor lay pol code mem c (c .begun)) c
 
 -- ---- progress: a machine that can go on reaches the next place of comparison in at most four steps
 
@@ -392,6 +394,4 @@ PauseRule =
     (lay : Layout) (pol : Policy) (code mem : List ℕ) (room : ℕ) (gs : List Given) → rewriteAnswer lay code room .number ≡ 0 →
     let ws = commandsOf lay code in
     let c = after lay pol ws mem gs in
-    let g = guestStart lay pol (installMemory lay pol mem) in
-    Served lay pol ws mem gs → (w : Waiting lay ws (c .machine)) →
-    WaitsFor lay pol code (w .event) (guestAfter lay pol (bundlesFor (length code)) (routine code) (c .consumed) g (c .begun - 1)) c
+    Served lay pol ws mem gs → (w : Waiting lay ws (c .machine)) → WaitsFor lay pol code (w .event) (guestFor lay pol code mem c (c .begun - 1)) c
