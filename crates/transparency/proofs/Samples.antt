@@ -1,11 +1,11 @@
 -- The premises can be met, and the definitions compute.
 use Prim.Native.Nat.{ℕ, zero, suc, _<_}
 use mathlib.Core.Path.{_≡_, refl}
-use mathlib.Core.List.{List, [], _∷_}
+use mathlib.Core.List.{[], _∷_}
 use native.Mathlib.Omega.{arith}
 use lib.Count.{ones, leadingZeros}
 use Rattle.rules.specs.declared.Status.the-variants.{Running}
-use Rattle.rules.specs.Layouts.{rightLayout, inBox, inTable, inLandings, protected}
+use Rattle.rules.specs.Layouts.{rightLayout, inBox}
 use Rattle.rules.specs.Policies.{rightPolicy}
 use Rattle.rules.specs.Landings.{rightLandings, bitsFrom, landingsOf, marked}
 use Rattle.rules.specs.Words.{judgeOf, judgeAt, firstRefused, instrOf, routine, bundlesFor}
@@ -42,13 +42,14 @@ pub sample-holds : SampleHolds
 unfolding ones leadingZeros rightLayout rightPolicy rightLandings bitsFrom landingsOf marked judgeOf judgeAt firstRefused instrOf routine bundlesFor wordOf shapeOf isCommand commandOf fetchOf plainOf placeAnswer rewriteAnswer landsAt installAnswer installMemory installMachine effectOf applyOf runFrom runOf begins begunFrom runOn afterTaken afterRun afterRuns rawSent rawDo rawStep rawAfter
 sample-holds =
     record {
-      rewritten = refl;
-      served = served;
-      box = record { room = lit< tt; cells = λ i h. refl };
+      caged =
+          record {
+            taken = refl;
+            served = served;
+            behaved = record { box = record { room = lit< tt; cells = λ i h. refl }; readings = λ i h. refl; behaves = behaves };
+          };
       begun = refl;
       over = refl;
-      begins = λ i h. refl;
-      behaves = behaves;
       recorded = refl;
       ended = refl;
     }

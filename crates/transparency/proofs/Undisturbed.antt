@@ -3,23 +3,23 @@ use Prim.Native.Nat.{ℕ, _+_, _-_, _<_, _≤_}
 use mathlib.Core.Path.{_≡_, refl, sym, _∙_, ap, subst}
 use mathlib.Core.Bool.{true}
 use mathlib.Core.Logic.{inl, inr, ⊎-elim}
-use mathlib.Core.List.{List, []}
+use mathlib.Core.List.{List}
 use native.Mathlib.Omega.{arith}
 use borrow.Author.Tests.{eq-eqb, eqb-true}
 use lib.Dec.{eqb}
-use lib.ListN.{length, getD, take, drop, length-take, length-drop}
+use lib.ListN.{length, getD, drop, length-take, length-drop}
 use lib.Seq.{getD-take, getD-drop, getD-set-other}
 use Rattle.rules.specs.declared.Layout.{Layout}
-use Rattle.rules.specs.Names.{guestRegisters}
+use Rattle.rules.specs.declared.Status.{Status}
 use Rattle.rules.specs.Landings.{landingsOf}
 use Rattle.rules.specs.Layouts.{span, rightLayout, inBox}
 use Rattle.rules.specs.Policies.{Policy}
 use Rattle.rules.specs.Words.{routine, bundlesFor}
 use Rattle.rules.specs.Bundles.{commandsOf}
 use Rattle.rules.specs.Machines.{installMemory, installAnswer}
-use Rattle.rules.specs.Guests.{Guest, guestAfter, guestStart, boxOf}
-use Rattle.rules.specs.Runs.{Given, after, Served}
-use Rattle.rules.specs.Claims.{AgreesAt}
+use Rattle.rules.specs.Guests.{Pair, Guest, guestAfter, guestStart, boxOf}
+use Rattle.rules.specs.Runs.{Given, after}
+use Rattle.rules.specs.Claims.{AgreesAt, guestFor}
 use Rattle.rules.proofs.Bools.{both}
 use Rattle.rules.proofs.Facts.{Laid}
 use Rattle.rules.proofs.Conditions.{fits-of, laid-of, policy-facts, sets-beside}
@@ -33,8 +33,8 @@ use Rattle.engine_rules.specs.Claims.{after as engineAfter}
 use Rattle.engine_rules.specs.Engines.{refusalBy}
 use Rattle.engine_rules.proofs.Rule.{engine-rule, same-guest}
 use Rattle.engine_rules.proofs.Together.{run-counts-one}
-use Rattle.transparency.specs.Raw.{Raw, rawAfter, rawStart, BehavesFor}
-use Rattle.transparency.specs.Claims.{SameBox, Begins, Alike, Undisturbed, EngineUndisturbed, UndisturbedPaused, UndisturbedNext, EngineUndisturbedNext}
+use Rattle.transparency.specs.Raw.{rawStart, rawRun}
+use Rattle.transparency.specs.Claims.{Behaved, Alike, Caged, MachineAlike, Undisturbed, EngineUndisturbed, UndisturbedPaused, UndisturbedNext, EngineUndisturbedNext}
 use Rattle.transparency.proofs.Like.{Like, after-like}
 
 -- a cell of the sandbox, among the memory's and among the sandbox's own
@@ -44,7 +44,7 @@ box-cell lay mem i o h =
     let z : lay .low + (i - lay .low) ≡ i = omega arith in
     getD-take (span lay) (drop (lay .low) mem) (i - lay .low) 0 (omega arith) ∙ getD-drop (lay .low) mem (i - lay .low) 0 ∙ ap (λ (y : ℕ). getD mem y 0) z
 
-module _ (lay : Layout) (pol : Policy) (mem raw : List ℕ) (z : installAnswer lay pol mem .number ≡ 0) (s : SameBox lay mem raw) where
+module _ (lay : Layout) (pol : Policy) (code mem raw us reads : List ℕ) (k : ℕ) (z : installAnswer lay pol mem .number ≡ 0) (b : Behaved lay pol code mem raw us reads k) where
   fitted : (rightLayout lay ≡ true) × (eqb (length mem) (lay .size) ≡ true)
   fitted = both (rightLayout lay) (eqb (length mem) (lay .size)) (fits-of lay pol mem z .0)
 
@@ -72,76 +72,67 @@ module _ (lay : Layout) (pol : Policy) (mem raw : List ℕ) (z : installAnswer l
         regs = refl;
         at = refl;
         cells = simp (length-take, length-drop) (omega (arith, installed .guarded .size, facts .box, facts .ordered));
-        room = s .room;
-        box = λ i h. sym (s .cells i h) ∙ sym (kept i h) ∙ sym (box-cell lay (installMemory lay pol mem) i (facts .ordered) h);
+        room = b .box .room;
+        box = λ i h. sym (b .box .cells i h) ∙ sym (kept i h) ∙ sym (box-cell lay (installMemory lay pol mem) i (facts .ordered) h);
         records = refl;
         used = refl;
         status = refl;
         state = refl;
       }
 
-  -- the raw run is the guest that is given the readings that the runs used
-  raw-like : (code us reads : List ℕ) (k : ℕ) → Begins us reads → length us ≡ guestAfter lay pol (bundlesFor (length code)) (routine code) us (guestStart lay pol (installMemory lay pol mem)) k .used
-      → BehavesFor lay pol (bundlesFor (length code)) (routine code) reads (rawStart raw) k
-      → Like lay pol (guestAfter lay pol (bundlesFor (length code)) (routine code) us (guestStart lay pol (installMemory lay pol mem)) k) (rawAfter lay (routine code) reads (rawStart raw) k)
-  raw-like code us reads k b u h =
+  -- the guest that is given the readings that the runs used
+  abbrev guest : Guest
+  guest = guestAfter lay pol (bundlesFor (length code)) (routine code) us (guestStart lay pol (installMemory lay pol mem)) k
+
+  -- the raw run is that guest
+  raw-like : length us ≡ guest .used → Like lay pol guest (rawRun lay code raw reads k)
+  raw-like u =
       let N = bundlesFor (length code) in
       let g0 = guestStart lay pol (installMemory lay pol mem) in
-      let e = same-guest lay pol N (routine code) us reads g0 k (λ i m. b i (omega (arith, u))) in
-      subst (λ (g : Guest). Like lay pol g (rawAfter lay (routine code) reads (rawStart raw) k)) (sym e)
-      (after-like lay pol N (masks lay (fitted .0) .fixed) reads (routine code) g0 (rawStart raw) k h start-like)
+      let e = same-guest lay pol N (routine code) us reads g0 k (λ i m. b .readings i (omega (arith, u))) in
+      subst (λ (g : Guest). Like lay pol g (rawRun lay code raw reads k)) (sym e)
+      (after-like lay pol N (masks lay (fitted .0) .fixed) reads (routine code) g0 (rawStart raw) k (b .behaves) start-like)
 
-  -- a sandbox that is the guest's is the raw run's
-  same-box : (g : Guest) (r : Raw) (m : List ℕ) → Like lay pol g r → boxOf lay m ≡ g .box → (i : ℕ) → inBox lay i ≡ true → getD m i 0 ≡ getD (r .mem) i 0
-  same-box g r m l e i h =
-      sym (box-cell lay m i (facts .ordered) h) ∙ ap (λ (y : List ℕ). getD y (i - lay .low) 0) e ∙ sym (l .box i h)
-
--- a machine that is the guest after k instructions is the raw run
-module _ (lay : Layout) (pol : Policy) (code mem raw : List ℕ) (gs : List Given) (reads : List ℕ) (s : SameBox lay mem raw) (v : Served lay pol (commandsOf lay code) mem gs) (p k : ℕ) where
-  alike : let c = after lay pol (commandsOf lay code) mem gs in
-      Begins (c .consumed) reads → BehavesFor lay pol (bundlesFor (length code)) (routine code) reads (rawStart raw) k
-      → AgreesAt lay p (guestAfter lay pol (bundlesFor (length code)) (routine code) (c .consumed) (guestStart lay pol (installMemory lay pol mem)) k) c
-      → Alike lay (rawAfter lay (routine code) reads (rawStart raw) k) (take guestRegisters (c .machine .regs)) (c .memory) (c .records) (length (c .consumed)) (c .machine .status)
-  alike b h a =
-      let c = after lay pol (commandsOf lay code) mem gs in
-      let l = raw-like lay pol mem raw (v .installed) s code (c .consumed) reads k b (a .used) h in
+  -- what agrees with the guest is like the raw run
+  alike : (regs m : List ℕ) (records : List Pair) (t : Status) → t ≡ guest .status → regs ≡ guest .regs → boxOf lay m ≡ guest .box → records ≡ guest .records → length us ≡ guest .used → Alike lay (rawRun lay code raw reads k) regs m records (length us) t
+  alike regs m records t e r x p u =
+      let l = raw-like u in
       record {
-        ending = a .ending ∙ sym (l .status);
-        registers = a .regs ∙ sym (l .regs);
-        box = same-box lay pol mem raw (v .installed) s _ _ (c .memory) l (a .box);
-        recorded = a .records ∙ sym (l .records);
-        readings = a .used ∙ sym (l .used);
+        ending = e ∙ sym (l .status);
+        registers = r ∙ sym (l .regs);
+        box = λ i h. sym (box-cell lay m i (facts .ordered) h) ∙ ap (λ (y : List ℕ). getD y (i - lay .low) 0) x ∙ sym (l .box i h);
+        recorded = p ∙ sym (l .records);
+        readings = u ∙ sym (l .used);
       }
 
+-- a machine that is the guest after k instructions is the raw run
+machine-alike : (lay : Layout) (pol : Policy) (code mem raw reads : List ℕ) (room : ℕ) (gs : List Given) (p k : ℕ) → Caged lay pol code mem raw reads room gs k →
+    let c = after lay pol (commandsOf lay code) mem gs in
+    AgreesAt lay p (guestFor lay pol code mem c k) c → MachineAlike lay (rawRun lay code raw reads k) c
+machine-alike lay pol code mem raw reads room gs p k x a =
+    alike lay pol code mem raw _ reads k (x .served .installed) (x .behaved) _ (after lay pol (commandsOf lay code) mem gs .memory) _ _ (a .ending) (a .regs) (a .box) (a .records) (a .used)
+
 pub undisturbed : Undisturbed
-undisturbed lay pol code mem raw room gs reads w s v b h x =
-    alike lay pol code mem raw gs reads s v 0 _ b h (guest-rule lay pol code mem room gs w v x)
+undisturbed lay pol code mem raw reads room gs x s =
+    machine-alike lay pol code mem raw reads room gs 0 _ x (guest-rule lay pol code mem room gs (x .taken) (x .served) s)
 
 pub undisturbed-paused : UndisturbedPaused
-undisturbed-paused lay pol code mem raw room gs reads w s v b h x =
-    alike lay pol code mem raw gs reads s v 2 _ b h (pause-rule lay pol code mem room gs w v x .agrees)
+undisturbed-paused lay pol code mem raw reads room gs x w =
+    machine-alike lay pol code mem raw reads room gs 2 _ x (pause-rule lay pol code mem room gs (x .taken) (x .served) w .agrees)
 
 pub undisturbed-next : UndisturbedNext
-undisturbed-next lay pol code mem raw room gs reads w s v b h x t g lg n =
-    let u = undisturbed lay pol code mem raw room gs reads w s v b h x in
-    progress lay pol (commandsOf lay code) mem gs v x (u .ending ∙ t) g lg (n .0) (n .1) (n .2)
+undisturbed-next lay pol code mem raw reads room gs x s t g lg n =
+    let u = undisturbed lay pol code mem raw reads room gs x s in
+    progress lay pol (commandsOf lay code) mem gs (x .served) s (u .ending ∙ t) g lg (n .0) (n .1) (n .2)
 
 pub engine-undisturbed : EngineUndisturbed
-engine-undisturbed lay pol code mem raw gs reads s v b h =
-    let c = engineAfter lay pol code mem gs in
+engine-undisturbed lay pol code mem raw reads gs v b =
     let a = engine-rule lay pol code mem gs v in
-    let l = raw-like lay pol mem raw (v .installed) s code (c .consumed) reads (c .counted) b (a .used) h in
-    record {
-      ending = a .ending ∙ sym (l .status);
-      registers = a .regs ∙ sym (l .regs);
-      box = same-box lay pol mem raw (v .installed) s _ _ (c .memory) l (a .box);
-      recorded = a .records ∙ sym (l .records);
-      readings = a .used ∙ sym (l .used);
-    }
+    alike lay pol code mem raw _ reads _ (v .installed) b _ (engineAfter lay pol code mem gs .memory) _ _ (a .ending) (a .regs) (a .box) (a .records) (a .used)
 
 pub engine-undisturbed-next : EngineUndisturbedNext
-engine-undisturbed-next lay pol code mem raw gs reads s v b h t g lg n =
-    let u = engine-undisturbed lay pol code mem raw gs reads s v b h in
+engine-undisturbed-next lay pol code mem raw reads gs v b t g lg n =
+    let u = engine-undisturbed lay pol code mem raw reads gs v b in
     let fit = eqb-true _ _ (both (rightLayout lay) _ (fits-of lay pol mem (v .installed) .0) .1) in
     let z = ap (λ (k : ℕ). refusalBy lay code k .number) (n .0 ∙ sym fit) ∙ v .taken in
     run-counts-one lay code (engineAfter lay pol code mem gs) g z (u .ending ∙ t) (n .1) (n .2)

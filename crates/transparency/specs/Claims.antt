@@ -13,10 +13,10 @@ use Rattle.rules.specs.Policies.{Policy}
 use Rattle.rules.specs.Words.{routine, bundlesFor}
 use Rattle.rules.specs.Bundles.{rewriteAnswer, commandsOf}
 use Rattle.rules.specs.Guests.{Pair}
-use Rattle.rules.specs.Runs.{Given, Lent, Served, after}
+use Rattle.rules.specs.Runs.{Given, Carried, Lent, Served, after}
 use Rattle.rules.specs.Claims.{Stands, Waiting, Proceeds, givenFor}
 use Rattle.engine_rules.specs.Claims.{Enough, Served as EngineServed, Lent as EngineLent, after as engineAfter, afterRun as engineRun}
-use Rattle.transparency.specs.Raw.{Raw, rawAfter, rawStart, BehavesFor}
+use Rattle.transparency.specs.Raw.{Raw, rawStart, rawRun, BehavesFor}
 
 -- a raw memory that has the sandbox, with the same cells in it
 pub record SameBox (lay : Layout) (mem raw : List ℕ) : Type 0 where
@@ -27,6 +27,13 @@ pub record SameBox (lay : Layout) (mem raw : List ℕ) : Type 0 where
 abbrev pub Begins : List ℕ → List ℕ → Type 0
 Begins used reads = (i : ℕ) → i < length used → getD used i 0 ≡ getD reads i 0
 
+-- [14]'s premise, of the first k instructions of a routine: the raw run, on a memory with the same sandbox and given readings of which the caged run used the
+-- first, behaves
+pub record Behaved (lay : Layout) (pol : Policy) (code mem raw used reads : List ℕ) (k : ℕ) : Type 0 where
+  pub box : SameBox lay mem raw
+  pub readings : Begins used reads
+  pub behaves : BehavesFor lay pol (bundlesFor (length code)) (routine code) reads (rawStart raw) k
+
 -- 'the same records, the same r0 to r14 and sandbox, and the same ending or none'; and as many readings used.
 -- The ending is the record's status: no raw run stops or strays, so no caged one does
 pub record Alike (lay : Layout) (r : Raw) (regs mem : List ℕ) (records : List Pair) (used : ℕ) (t : Status) : Type 0 where
@@ -36,60 +43,56 @@ pub record Alike (lay : Layout) (r : Raw) (regs mem : List ℕ) (records : List 
   pub recorded : records ≡ r .records
   pub readings : used ≡ r .used
 
--- the machine, wherever a list of runs ends on the first command of a bundle or is over, beside the raw run after as many instructions
+-- ---- the machine
+
+-- 'a routine that the rewriter takes', 'newly installed, on demand 3's premise', behaves for k instructions
+pub record Caged (lay : Layout) (pol : Policy) (code mem raw reads : List ℕ) (room : ℕ) (gs : List Given) (k : ℕ) : Type 0 where
+  pub taken : rewriteAnswer lay code room .number ≡ 0
+  pub served : Served lay pol (commandsOf lay code) mem gs
+  pub behaved : Behaved lay pol code mem raw (after lay pol (commandsOf lay code) mem gs .consumed) reads k
+
+abbrev pub MachineAlike : Layout → Raw → Carried → Type 0
+MachineAlike lay r c = Alike lay r (take guestRegisters (c .machine .regs)) (c .memory) (c .records) (length (c .consumed)) (c .machine .status)
+
+-- wherever a list of runs ends on the first command of a bundle or is over, beside the raw run after as many instructions
 -- as the runs began bundles, if these behaved. A list of runs may end anywhere and budgets are any: so for every count of instructions
 abbrev pub Undisturbed : Type 0
 Undisturbed =
-    (lay : Layout) (pol : Policy) (code mem raw : List ℕ) (room : ℕ) (gs : List Given) (reads : List ℕ) →
-    rewriteAnswer lay code room .number ≡ 0 → SameBox lay mem raw →
-    let ws = commandsOf lay code in
-    let c = after lay pol ws mem gs in
-    let is = routine code in
-    Served lay pol ws mem gs → Begins (c .consumed) reads → BehavesFor lay pol (bundlesFor (length code)) is reads (rawStart raw) (c .begun) →
-    Stands lay (c .machine) →
-    Alike lay (rawAfter lay is reads (rawStart raw) (c .begun)) (take guestRegisters (c .machine .regs)) (c .memory) (c .records) (length (c .consumed)) (c .machine .status)
-
--- the engine, wherever a list of runs ends, beside the raw run after as many instructions as it counted
-abbrev pub EngineUndisturbed : Type 0
-EngineUndisturbed =
-    (lay : Layout) (pol : Policy) (code mem raw : List ℕ) (gs : List Given) (reads : List ℕ) → SameBox lay mem raw →
-    let c = engineAfter lay pol code mem gs in
-    let is = routine code in
-    EngineServed lay pol code mem gs → Begins (c .consumed) reads → BehavesFor lay pol (bundlesFor (length code)) is reads (rawStart raw) (c .counted) →
-    Alike lay (rawAfter lay is reads (rawStart raw) (c .counted)) (c .engine .regs) (c .memory) (c .records) (length (c .consumed)) (c .engine .status)
+    (lay : Layout) (pol : Policy) (code mem raw reads : List ℕ) (room : ℕ) (gs : List Given) →
+    let c = after lay pol (commandsOf lay code) mem gs in
+    Caged lay pol code mem raw reads room gs (c .begun) → Stands lay (c .machine) → MachineAlike lay (rawRun lay code raw reads (c .begun)) c
 
 -- at a pause for log or probe, on the third command of an event bundle, beside the raw run after the bundles wholly behind
 abbrev pub UndisturbedPaused : Type 0
 UndisturbedPaused =
-    (lay : Layout) (pol : Policy) (code mem raw : List ℕ) (room : ℕ) (gs : List Given) (reads : List ℕ) →
-    rewriteAnswer lay code room .number ≡ 0 → SameBox lay mem raw →
-    let ws = commandsOf lay code in
-    let c = after lay pol ws mem gs in
-    let is = routine code in
-    Served lay pol ws mem gs → Begins (c .consumed) reads → BehavesFor lay pol (bundlesFor (length code)) is reads (rawStart raw) (c .begun - 1) →
-    Waiting lay ws (c .machine) →
-    Alike lay (rawAfter lay is reads (rawStart raw) (c .begun - 1)) (take guestRegisters (c .machine .regs)) (c .memory) (c .records) (length (c .consumed)) (c .machine .status)
+    (lay : Layout) (pol : Policy) (code mem raw reads : List ℕ) (room : ℕ) (gs : List Given) →
+    let c = after lay pol (commandsOf lay code) mem gs in
+    Caged lay pol code mem raw reads room gs (c .begun - 1) → Waiting lay (commandsOf lay code) (c .machine) → MachineAlike lay (rawRun lay code raw reads (c .begun - 1)) c
 
 -- 'A pause is no instruction, and a run that can go on follows it': where the raw run is not over, the caged one, lent its memory,
 -- two log cells and a reading, comes to the next place of comparison in at most four steps, one bundle on; from a pause by `Resumes`,
 -- with the bundle that it had begun
 abbrev pub UndisturbedNext : Type 0
 UndisturbedNext =
-    (lay : Layout) (pol : Policy) (code mem raw : List ℕ) (room : ℕ) (gs : List Given) (reads : List ℕ) →
-    rewriteAnswer lay code room .number ≡ 0 → SameBox lay mem raw →
-    let ws = commandsOf lay code in
-    let c = after lay pol ws mem gs in
-    let is = routine code in
-    Served lay pol ws mem gs → Begins (c .consumed) reads → BehavesFor lay pol (bundlesFor (length code)) is reads (rawStart raw) (c .begun) →
-    Stands lay (c .machine) → rawAfter lay is reads (rawStart raw) (c .begun) .status ≡ Running →
-    (g : Given) → Lent lay c g → Enough lay g → Proceeds lay ws c g (c .begun + 1)
+    (lay : Layout) (pol : Policy) (code mem raw reads : List ℕ) (room : ℕ) (gs : List Given) →
+    let c = after lay pol (commandsOf lay code) mem gs in
+    Caged lay pol code mem raw reads room gs (c .begun) → Stands lay (c .machine) → rawRun lay code raw reads (c .begun) .status ≡ Running →
+    (g : Given) → Lent lay c g → Enough lay g → Proceeds lay (commandsOf lay code) c g (c .begun + 1)
 
--- and the engine counts one more instruction
+-- ---- the engine
+
+-- wherever a list of runs ends, beside the raw run after as many instructions as it counted
+abbrev pub EngineUndisturbed : Type 0
+EngineUndisturbed =
+    (lay : Layout) (pol : Policy) (code mem raw reads : List ℕ) (gs : List Given) → EngineServed lay pol code mem gs →
+    let c = engineAfter lay pol code mem gs in
+    Behaved lay pol code mem raw (c .consumed) reads (c .counted) →
+    Alike lay (rawRun lay code raw reads (c .counted)) (c .engine .regs) (c .memory) (c .records) (length (c .consumed)) (c .engine .status)
+
+-- and where the raw run is not over, it counts one more instruction
 abbrev pub EngineUndisturbedNext : Type 0
 EngineUndisturbedNext =
-    (lay : Layout) (pol : Policy) (code mem raw : List ℕ) (gs : List Given) (reads : List ℕ) → SameBox lay mem raw →
+    (lay : Layout) (pol : Policy) (code mem raw reads : List ℕ) (gs : List Given) → EngineServed lay pol code mem gs →
     let c = engineAfter lay pol code mem gs in
-    let is = routine code in
-    EngineServed lay pol code mem gs → Begins (c .consumed) reads → BehavesFor lay pol (bundlesFor (length code)) is reads (rawStart raw) (c .counted) →
-    rawAfter lay is reads (rawStart raw) (c .counted) .status ≡ Running →
+    Behaved lay pol code mem raw (c .consumed) reads (c .counted) → rawRun lay code raw reads (c .counted) .status ≡ Running →
     (g : Given) → EngineLent lay c g → Enough lay g → engineRun lay code c (givenFor g 1) .counted ≡ c .counted + 1

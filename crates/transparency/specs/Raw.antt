@@ -14,6 +14,7 @@ use Rattle.rules.specs.Names.{guestRegisters, orders, noArrow, plainStep}
 use Rattle.rules.specs.Layouts.{limited, inBox}
 use Rattle.rules.specs.Policies.{Policy, arrow, stateOver}
 use Rattle.rules.specs.Landings.{listed}
+use Rattle.rules.specs.Words.{routine}
 use Rattle.rules.specs.Commands.{plainOf, holdsOf}
 use Rattle.rules.specs.Machines.{unlessOver}
 use Rattle.rules.specs.Guests.{Pair, pairOf, snoc}
@@ -68,6 +69,10 @@ rawAfter lay is reads r (suc k) = rawStep lay is reads (rawAfter lay is reads r 
 -- from instruction 0, registers 0, on a memory of its own
 abbrev pub rawStart : List ℕ → Raw
 rawStart mem = rawOf (replicate guestRegisters 0) 0 mem [] 0 Running
+
+-- the raw run of a routine after k instructions
+abbrev pub rawRun : Layout → List ℕ → List ℕ → List ℕ → ℕ → Raw
+rawRun lay code raw reads k = rawAfter lay (routine code) reads (rawStart raw) k
 
 -- ---- good behaviour
 

@@ -6,13 +6,13 @@ use lib.ListN.{replicate}
 use Rattle.rules.specs.declared.Status.the-variants.{Ended}
 use Rattle.rules.specs.Policies.{Policy, policyOf}
 use Rattle.rules.specs.Words.{packOf, routine}
-use Rattle.rules.specs.Bundles.{rewriteAnswer, commandsOf}
+use Rattle.rules.specs.Bundles.{commandsOf}
 use Rattle.rules.specs.Machines.{installMemory}
 use Rattle.rules.specs.Guests.{pairOf}
-use Rattle.rules.specs.Runs.{Given, Served, after}
+use Rattle.rules.specs.Runs.{Given, after}
 use Rattle.samples.specs.Sample.{layout}
-use Rattle.transparency.specs.Raw.{Raw, rawAfter, rawStart, BehavesFor}
-use Rattle.transparency.specs.Claims.{SameBox, Begins}
+use Rattle.transparency.specs.Raw.{Raw, rawRun}
+use Rattle.transparency.specs.Claims.{Caged}
 
 -- the policy of `samples`, with instruction 6 as the one landing
 abbrev pub policy : Policy
@@ -38,16 +38,12 @@ run = record { memory = installMemory layout policy memory; budget = 1000; readi
 
 -- the raw run after k instructions
 abbrev pub rawAt : ℕ → Raw
-rawAt k = rawAfter layout (routine code) readings (rawStart memory) k
+rawAt k = rawRun layout code memory readings k
 
 -- the premises of Undisturbed can be met: the caged run comes to its end after eight bundles, and the raw one after eight instructions
 pub record SampleHolds : Type 0 where
-  pub rewritten : rewriteAnswer layout code 64 .number ≡ 0
-  pub served : Served layout policy commands memory (run ∷ [])
-  pub box : SameBox layout memory memory
+  pub caged : Caged layout policy code memory memory readings 64 (run ∷ []) 8
   pub begun : after layout policy commands memory (run ∷ []) .begun ≡ 8
   pub over : after layout policy commands memory (run ∷ []) .machine .status ≡ Ended
-  pub begins : Begins (after layout policy commands memory (run ∷ []) .consumed) readings
-  pub behaves : BehavesFor layout policy 16 (routine code) readings (rawStart memory) 8
   pub recorded : rawAt 8 .records ≡ pairOf 0 6 ∷ pairOf 8 1800 ∷ []
   pub ended : rawAt 8 .status ≡ Ended
