@@ -5,11 +5,13 @@ use Prim.Native.Nat.{ℕ, _+_, _*_, _/_, _%_, _≤_, _<_}
 use native.Mathlib.Omega.{arith}
 use native.Mathlib.Nat.{add-zero}
 use native.Mathlib.Numerals.{add-one}
+use borrow.Author.Tests.{lt-ltb, le-ltb}
 use lib.ListN.{length, getD, drop, set, length-set, length-append, drop-of-length-le}
 use lib.Seq.{sets as stores, length-sets, drop-cons}
 use Rattle.rules.specs.declared.Answer.{Answer}
 use Rattle.rules.specs.declared.Fields.{Fields}
-use Rattle.rules.specs.Names.{mostInstructions, answer}
+use Rattle.rules.specs.declared.Refusal.the-variants.{SmallOutput, Taken}
+use Rattle.rules.specs.Names.{mostInstructions, numberOf, answer, refusal, roomFor}
 use Rattle.rules.specs.Words.{fieldsOf, judgeWord, firstRefused}
 use Rattle.rules.specs.Bytes.{bitOf, mapOf, sizeOf, fieldsOut, oneOut, bytesOf, routineOf, writeAnswer, writeOutput}
 use Rattle.rules.proofs.Bytes.{length-fields, length-routine, WriteOk, write-ok}
@@ -77,15 +79,27 @@ module _ (ws : List ℕ) (i : ℕ) (h : i < length ws) (w : ℕ) (ew : w ≡ get
   emit-rest to b n eb f = omega (arith, emit-length)
 
 module _ (ws : List ℕ) (i : ℕ) (h : length ws ≤ i) where
-  pub weigh-done : (n z : ℕ) → n ≡ z + length (bytesOf (drop i ws)) → (r : Answer) → r ≡ firstRefused judgeWord (drop i ws) i (answer 0 n) → answer 0 z ≡ r
-  unfolding bytesOf
-  weigh-done n z e r er = let last : n ≡ z = e ∙ rw (drop-of-length-le ws h, add-zero) in rw (← last) (refused-done judgeWord ws i _ r er h)
+  -- all weighed: what is left is the room
+  module _ (n z : ℕ) (e : n ≡ z + length (bytesOf (drop i ws))) (room : ℕ) (r : Answer) (er : r ≡ firstRefused judgeWord (drop i ws) i (roomFor room n)) where
+    weigh-done : roomFor room z ≡ r
+    unfolding bytesOf
+    weigh-done = let last : n ≡ z = e ∙ rw (drop-of-length-le ws h, add-zero) in rw (← last) (refused-done judgeWord ws i _ r er h)
+
+    pub weigh-small : room < z → refusal SmallOutput 0 ≡ r
+    weigh-small l = rw (lt-ltb room z l) at weigh-done
+
+    pub weigh-taken : z ≤ room → answer (numberOf Taken) z ≡ r
+    weigh-taken l = rw (le-ltb room z l) at weigh-done
 
   pub emit-done : (to : ℕ) (o r : List ℕ) → r ≡ stores o to (bytesOf (drop i ws)) → o ≡ r
   unfolding bytesOf
   emit-done to o r er = sym (er ∙ rw (drop-of-length-le ws h))
 
 -- ---- the whole
+
+pub write-few : (ws : List ℕ) (room : ℕ) → length ws ≤ mostInstructions → (a : Answer) → a ≡ firstRefused judgeWord ws 0 (roomFor room (length (routineOf ws))) → a ≡ writeAnswer ws room
+unfolding writeAnswer
+write-few ws room h a e = e ∙ rw (le-ltb mostInstructions (length ws) h)
 
 pub put-routine : (ws o o₁ : List ℕ) → o₁ ≡ stores (set (set o 0 (length ws % 256)) 1 (length ws / 256)) 2 (bytesOf ws) → o₁ ≡ stores o 0 (routineOf ws)
 unfolding routineOf

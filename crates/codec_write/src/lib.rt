@@ -11,7 +11,7 @@ ghost use mathlib.Core.Path.{_≡_};
 ghost use Prim.Native.Nat.{_+_, _≤_};
 ghost use lib.ListN.{length};
 ghost use lib.Seq.{sets as stores};
-ghost use Rattle.rules.specs.Names.{mostInstructions, answer};
+ghost use Rattle.rules.specs.Names.{mostInstructions, roomFor};
 ghost use Rattle.rules.specs.Words.{judgeWord, firstRefused};
 ghost use Rattle.rules.specs.Bytes.{oneOut, bytesOf, routineOf, writeAnswer, writeOutput};
 
@@ -22,10 +22,10 @@ fn weight_word(w: u64) -> usize
     size_of(map_of(fields(w)))
 }
 
-// The first refusal among the words, or the number of the routine's bytes.
-fn weigh(words: &[u64]) -> Answer
+// The first refusal among the words, or the number of the routine's bytes, or 9 where there is no room for these.
+fn weigh(words: &[u64], room: usize) -> Answer
     requires { ⌜ length (now words) ≤ mostInstructions ⌝ }
-    ensures { λ r. ⌜ r ≡ firstRefused judgeWord (now (words .entry)) 0 (answer 0 (length (routineOf (now (words .entry))))) ⌝ }
+    ensures { λ r. ⌜ r ≡ firstRefused judgeWord (now (words .entry)) 0 (roomFor room (length (routineOf (now (words .entry))))) ⌝ }
 {
     let mut i: usize = 0;
     let mut z: usize = 2;
@@ -37,6 +37,9 @@ fn weigh(words: &[u64]) -> Answer
         }
         z += weight_word(w);
         i += 1;
+    }
+    if room < z {
+        return Answer::refused(Refusal::SMALL_OUTPUT);
     }
     Answer::taken(z)
 }
@@ -70,16 +73,7 @@ fn write_check(words: &[u64], room: usize) -> Answer
     if words.len() > Instr::MOST {
         return Answer::refused(Refusal::OVERSIZE);
     }
-    let a = weigh(words);
-    let refused = a.number;
-    if refused != Refusal::TAKEN {
-        return a;
-    }
-    let z = a.place;
-    if room < z {
-        return Answer::refused(Refusal::SMALL_OUTPUT);
-    }
-    a
+    weigh(words, room)
 }
 
 // Writes a routine: its bytes from the start of the output, which a refusal leaves as it was.

@@ -1,11 +1,11 @@
 use borrow.Author.Needs.{needs}
 use Rattle.rules.proofs.Bytes.{length-routine}
 use Rattle.rules.proofs.Refusals.{refused-more, refused-stop}
-use Rattle.codec_write.proofs.Writing.{weigh-done, weigh-more}
+use Rattle.codec_write.proofs.Writing.{weigh-more, weigh-small, weigh-taken}
 use mathlib.Core.Path.{_≡_, _∙_}
 use Prim.Native.Nat.{_≤_, _-_, _+_, _*_}
 use lib.ListN.{length, drop}
-use Rattle.rules.specs.Names.{answer}
+use Rattle.rules.specs.Names.{roomFor}
 use Rattle.rules.specs.Words.{judgeWord, firstRefused}
 use Rattle.rules.specs.Bytes.{bytesOf, routineOf}
 use Rattle.codec_write.proofs.weigh.Statement.{statement}
@@ -16,12 +16,12 @@ use Rattle.words.proofs.guest.judge_word.Reads as judge-word-reads
 use Rattle.codec_write.proofs.weight_word.Reads as weight-word-reads
 
 abbrev Inv-loop : tie.InvT-loop
-Inv-loop words i₀ z₀ i z =
+Inv-loop words room i₀ z₀ i z =
     let k = length (routineOf words) in
-    (i ≤ length words) × (z ≤ 2 + 10 * i) × (k ≡ z + length (bytesOf (drop i words))) × (firstRefused judgeWord words 0 (answer 0 k) ≡ firstRefused judgeWord (drop i words) i (answer 0 k))
+    (i ≤ length words) × (z ≤ 2 + 10 * i) × (k ≡ z + length (bytesOf (drop i words))) × (firstRefused judgeWord words 0 (roomFor room k) ≡ firstRefused judgeWord (drop i words) i (roomFor room k))
 
 abbrev μ-loop : tie.MeasureT-loop
-μ-loop words i₀ z₀ i z = length words - i
+μ-loop words room i₀ z₀ i z = length words - i
 
 loop-holds : tie.Need-loop-holds Inv-loop μ-loop
 loop-holds c = search (length-routine, needs)
@@ -56,11 +56,17 @@ loop-less c = search needs
 loop-again : tie.Need-loop-again Inv-loop μ-loop
 loop-again c = search (weigh-more, refused-more, needs)
 
+refused-requires : tie.Need-refused-requires Inv-loop μ-loop
+refused-requires c κs = search needs
+
+returns-2 : tie.Need-returns-2 Inv-loop μ-loop
+returns-2 c = c .refused .ensures ∙ search (weigh-small, needs)
+
 taken-requires : tie.Need-taken-requires Inv-loop μ-loop
 taken-requires c κs = search needs
 
-returns-2 : tie.Need-returns-2 Inv-loop μ-loop
-returns-2 c = c .taken .ensures ∙ search (weigh-done, needs)
+returns-3 : tie.Need-returns-3 Inv-loop μ-loop
+returns-3 c = c .taken .ensures ∙ search (weigh-taken, needs)
 
 pub weigh-spec : {M : Type 1} → statement M
 weigh-spec =
@@ -79,5 +85,7 @@ weigh-spec =
     add-i
     loop-less
     loop-again
+    refused-requires
+    returns-2
     taken-requires
-    returns-2)
+    returns-3)
