@@ -52,17 +52,23 @@ module _ (l : Layout) (n : ℕ) (i : Instr) (f : Fits l n i) where
       let t = plain-top k v h1 (g .8) in
       rw e (four _ _ _ _ _ _ _ _ (ew ∙ uncut-word (k + plainStep) d a b 0 v (omega arith) (omega arith) (omega arith) (omega arith) (omega arith) (omega arith)) refl refl refl)
 
+  -- LOAD and STORE alike: the mask of their address, then what is done there
   module _ (hh : l .high < 2 ^ 32) (hl : l .low < 2 ^ 32) where
+    lay-access : (a : ℕ) → a < 2 ^ 4 → (w x y y′ : ℕ) → w ≡ cutWord (command .andi) hidden a 0 0 (l .high) → x ≡ cutWord (command .ori) hidden hidden 0 0 (l .low) → y ≡ y′
+        → _≡_ {A = Bundle} record { words = w ∷ x ∷ y ∷ 0 ∷ [] } record { words = packOf (command .andi) hidden a 0 0 (l .high) ∷ packOf (command .ori) hidden hidden 0 0 (l .low) ∷ y′ ∷ 0 ∷ [] }
+    lay-access a ha w x y y′ ew ex ey =
+        four _ _ _ _ _ _ _ _ (ew ∙ uncut-word (command .andi) hidden a 0 0 (l .high) (omega arith) (omega arith) ha (omega arith) (omega arith) hh)
+        (ex ∙ uncut-word (command .ori) hidden hidden 0 0 (l .low) (omega arith) (omega arith) (omega arith) (omega arith) (omega arith) hl)
+        ey refl
+
     pub lay-load : (d a : ℕ) → i ≡ LOAD d a → (w x y : ℕ) → w ≡ cutWord (command .andi) hidden a 0 0 (l .high) → x ≡ cutWord (command .ori) hidden hidden 0 0 (l .low) → y ≡ cutWord (command .load) d hidden 0 0 0
         → record { words = w ∷ x ∷ y ∷ 0 ∷ [] } ≡ bundleOf l n i
     unfolding shapeOf wordOf
     lay-load d a e w x y ew ex ey =
         let g = facts (LOAD d a) e in
         rw e
-        (four _ _ _ _ _ _ _ _ (ew ∙ uncut-word (command .andi) hidden a 0 0 (l .high) (omega arith) (omega arith) (omega (arith, g .1)) (omega arith) (omega arith) hh)
-        (ex ∙ uncut-word (command .ori) hidden hidden 0 0 (l .low) (omega arith) (omega arith) (omega arith) (omega arith) (omega arith) hl)
-        (ey ∙ uncut-word (command .load) d hidden 0 0 0 (omega arith) (omega (arith, g .0)) (omega arith) (omega arith) (omega arith) (omega arith))
-        refl)
+        (lay-access a (omega (arith, g .1)) w x y _ ew ex
+        (ey ∙ uncut-word (command .load) d hidden 0 0 0 (omega arith) (omega (arith, g .0)) (omega arith) (omega arith) (omega arith) (omega arith)))
 
     pub lay-store : (a b : ℕ) → i ≡ STORE a b → (w x y : ℕ) → w ≡ cutWord (command .andi) hidden a 0 0 (l .high) → x ≡ cutWord (command .ori) hidden hidden 0 0 (l .low) → y ≡ cutWord (command .store) 0 hidden b 0 0
         → record { words = w ∷ x ∷ y ∷ 0 ∷ [] } ≡ bundleOf l n i
@@ -70,10 +76,8 @@ module _ (l : Layout) (n : ℕ) (i : Instr) (f : Fits l n i) where
     lay-store a b e w x y ew ex ey =
         let g = facts (STORE a b) e in
         rw e
-        (four _ _ _ _ _ _ _ _ (ew ∙ uncut-word (command .andi) hidden a 0 0 (l .high) (omega arith) (omega arith) (omega (arith, g .0)) (omega arith) (omega arith) hh)
-        (ex ∙ uncut-word (command .ori) hidden hidden 0 0 (l .low) (omega arith) (omega arith) (omega arith) (omega arith) (omega arith) hl)
-        (ey ∙ uncut-word (command .store) 0 hidden b 0 0 (omega arith) (omega arith) (omega arith) (omega (arith, g .1)) (omega arith) (omega arith))
-        refl)
+        (lay-access a (omega (arith, g .0)) w x y _ ew ex
+        (ey ∙ uncut-word (command .store) 0 hidden b 0 0 (omega arith) (omega arith) (omega arith) (omega (arith, g .1)) (omega arith) (omega arith)))
 
   pub lay-goif : (a b c v : ℕ) → i ≡ GOIF a b c v → (w : ℕ) → w ≡ cutWord (command .goif) 0 a b c (addressOf l v) → record { words = w ∷ 0 ∷ 0 ∷ 0 ∷ [] } ≡ bundleOf l n i
   unfolding shapeOf wordOf
