@@ -17,6 +17,7 @@ use Rattle.rules.proofs.Bools.{both, join}
 use Rattle.rules.proofs.Tables.{all, raised}
 use Rattle.rules.proofs.Facts.{Valid}
 use Rattle.rules.proofs.Conditions.{valid-is}
+use Rattle.rules.proofs.Packing.{InBits}
 use Rattle.rules.proofs.WordLaws.{bits-pack, pack-fields}
 use Rattle.words.specs.Packing.{cutWord}
 use Rattle.words.specs.Guests.{guestsOf}
@@ -76,6 +77,20 @@ pub gox-is : (l : Layout) (n w x y z d a b c g : ℕ) → d ≡ aOf w → a ≡ 
 unfolding isBundle valid shapeOf wordOf
 gox-is l n w x y z d a b c g ed ea eb ec eg p q s t ep eq es et = rw (ep, eq, es, et, eg, ed, ea, eb, ec)
 
+-- ---- a command of the guest's registers, and a word packed from its fields
+
+guests-in : (w : ℕ) → guestsOf w ≡ true → (ltb (dOf w) guestRegisters ≡ true) × (ltb (aOf w) guestRegisters ≡ true) × (ltb (bOf w) guestRegisters ≡ true)
+guests-in w t =
+    let b = both (ltb (dOf w) guestRegisters && ltb (aOf w) guestRegisters) (ltb (bOf w) guestRegisters) t in
+    let a = both (ltb (dOf w) guestRegisters) (ltb (aOf w) guestRegisters) (b .0) in
+    (a .0, a .1, b .1)
+
+read-back : (w : ℕ) (f : Fields) → InBits (f .kind) (f .d) (f .a) (f .b) (f .c) → eqb w (packFields f) ≡ true → (fieldsOf w ≡ f) × (zeroOf w ≡ 0)
+read-back w f h t =
+    let e : w ≡ packFields f = eqb-true _ _ t in
+    let b = bits-pack f h in
+    (ap fieldsOf e ∙ b .0, ap zeroOf e ∙ b .1)
+
 -- ---- GOIF
 
 module _ (l : Layout) (n v : ℕ) where
@@ -105,25 +120,22 @@ module _ (l : Layout) (n w : ℕ) (fits : w < 2 ^ 64) (k : kindOf w ≡ command 
       let t₁ = both (isCommand w && guestsOf w) (landsOf l n (vOf w)) t in
       let t₀ = both (isCommand w) (guestsOf w) (t₁ .0) in
       let i : Within (limitsOf (command .goif)) w = subst (λ (j : ℕ). Within (limitsOf j) w) k (command-in w (t₀ .0)) in
-      let gb = both (ltb (dOf w) guestRegisters && ltb (aOf w) guestRegisters) (ltb (bOf w) guestRegisters) (t₀ .1) in
-      let ga = both (ltb (dOf w) guestRegisters) (ltb (aOf w) guestRegisters) (gb .0) in
+      let r = guests-in w (t₀ .1) in
       let at = both (eqb (vOf w) (addressOf l g)) (ltb g n) (t₁ .1) in
       let ev : vOf w ≡ addressOf l g = eqb-true _ _ (at .0) in
       let ed : dOf w ≡ 0 = omega (arith, i .d) in
       let ew : w ≡ packFields goif-fields = sym (rw (k, ed, ev) at (pack-fields w (i .zero))) in
-      simp (ga .1, gb .1, le-leb (cOf w) topCondition (i .c), at .1, eq-eqb w (packFields goif-fields) ew)
+      simp (r .1, r .2, le-leb (cOf w) topCondition (i .c), at .1, eq-eqb w (packFields goif-fields) ew)
 
   goif-out : (valid n goif && eqb w (packFields goif-fields)) ≡ true → (isCommand w && guestsOf w && landsOf l n (vOf w)) ≡ true
   goif-out t =
       let t₀ = both (valid n goif) (eqb w (packFields goif-fields)) t in
       let h : Valid n goif = valid-is n goif (t₀ .0) in
-      let ew : w ≡ packFields goif-fields = eqb-true _ _ (t₀ .1) in
-      let back = bits-pack goif-fields (omega arith, omega arith, omega arith, omega arith, omega arith) in
-      let ed : dOf w ≡ 0 = ap dOf ew ∙ ap (λ (f : Fields). f .d) (back .0) in
-      let ev : vOf w ≡ addressOf l g = ap vOf ew ∙ ap (λ (f : Fields). f .v) (back .0) in
-      let ez : zeroOf w ≡ 0 = ap zeroOf ew ∙ back .1 in
+      let back = read-back w goif-fields (omega arith, omega arith, omega arith, omega arith, omega arith) (t₀ .1) in
+      let ed : dOf w ≡ 0 = ap (λ (f : Fields). f .d) (back .0) in
+      let ev : vOf w ≡ addressOf l g = ap (λ (f : Fields). f .v) (back .0) in
       let i : Within (limitsOf (command .goif)) w =
-      record { kind = omega arith; zero = ez; d = omega arith; a = omega arith; b = omega arith; c = h .2; v = omega arith } in
+      record { kind = omega arith; zero = back .1; d = omega arith; a = omega arith; b = omega arith; c = h .2; v = omega arith } in
       let c : isCommand w ≡ true = command-from w (subst (λ (j : ℕ). Within (limitsOf j) w) (sym k) i) in
       simp (c, lt-ltb (dOf w) guestRegisters (omega arith), lt-ltb (aOf w) guestRegisters (h .0), lt-ltb (bOf w) guestRegisters (h .1), eq-eqb (vOf w) (addressOf l g) ev, lt-ltb g n (h .3))
 
@@ -155,23 +167,20 @@ module _ (n w : ℕ) (lo : command .set ≤ kindOf w) (hi : kindOf w ≤ command
       let t₀ = both (isCommand w) (guestsOf w) t in
       let i₀ : Within (limitsOf (kindOf w)) w = command-in w (t₀ .0) in
       let i : Within (limitsOf (kindOf w - plainStep + plainStep)) w = subst (λ (j : ℕ). Within (limitsOf j) w) (sym next) i₀ in
-      let gb = both (ltb (dOf w) guestRegisters && ltb (aOf w) guestRegisters) (ltb (bOf w) guestRegisters) (t₀ .1) in
-      let ga = both (ltb (dOf w) guestRegisters) (ltb (aOf w) guestRegisters) (gb .0) in
+      let r = guests-in w (t₀ .1) in
       let none = no-condition (kindOf w) (cOf w) hi (i₀ .c) in
       let ec : cOf w ≡ 0 = omega arith in
       let ew : w ≡ packFields plain-fields = rw next (sym (rw ec at (pack-fields w (i₀ .zero)))) in
-      simp (le-leb (guest .set) (kindOf w - plainStep) (omega arith), le-leb (kindOf w - plainStep) (guest .sar) (omega arith), ga .0, ga .1, gb .1, le-leb _ _ (i .d), le-leb _ _ (i .a), le-leb _ _ (i .b), le-leb _ _ (i .v), eq-eqb w (packFields plain-fields) ew)
+      simp (le-leb (guest .set) (kindOf w - plainStep) (omega arith), le-leb (kindOf w - plainStep) (guest .sar) (omega arith), r .0, r .1, r .2, le-leb _ _ (i .d), le-leb _ _ (i .a), le-leb _ _ (i .b), le-leb _ _ (i .v), eq-eqb w (packFields plain-fields) ew)
 
   plain-out : (valid n plain-instr && eqb w (packFields plain-fields)) ≡ true → (isCommand w && guestsOf w) ≡ true
   plain-out t =
       let t₀ = both (valid n plain-instr) (eqb w (packFields plain-fields)) t in
       let h : Valid n plain-instr = valid-is n plain-instr (t₀ .0) in
-      let ew : w ≡ packFields plain-fields = eqb-true _ _ (t₀ .1) in
-      let back = bits-pack plain-fields (omega arith, omega arith, omega arith, omega arith, omega arith) in
-      let ec : cOf w ≡ 0 = ap cOf ew ∙ ap (λ (f : Fields). f .c) (back .0) in
-      let ez : zeroOf w ≡ 0 = ap zeroOf ew ∙ back .1 in
+      let back = read-back w plain-fields (omega arith, omega arith, omega arith, omega arith, omega arith) (t₀ .1) in
+      let ec : cOf w ≡ 0 = ap (λ (f : Fields). f .c) (back .0) in
       let i : Within (limitsOf (kindOf w - plainStep + plainStep)) w =
-      record { kind = omega arith; zero = ez; d = h .5; a = h .6; b = h .7; c = omega arith; v = h .8 } in
+      record { kind = omega arith; zero = back .1; d = h .5; a = h .6; b = h .7; c = omega arith; v = h .8 } in
       let c : isCommand w ≡ true = command-from w (subst (λ (j : ℕ). Within (limitsOf j) w) next i) in
       simp (c, lt-ltb _ _ (h .2), lt-ltb _ _ (h .3), lt-ltb _ _ (h .4))
 
