@@ -16,11 +16,16 @@ const MOST: usize = Layout::MOST_STATES as usize;
 // Events of one row.
 const EVENTS: usize = PolicyNumbers::EVENTS as usize;
 
+// Room for the nodes of a policy and one too many, and for the arrows of the nodes of a policy.
+const NODES: usize = MOST + 1;
+
+pub const ARROWS: usize = EVENTS * MOST;
+
 // The nodes found, with one place for the node that is too many, how many they are, and the numbers of those to which the arrows lead.
 pub struct Found {
-    pub nodes: [u16; 17],
+    pub nodes: [u16; NODES],
     pub count: usize,
-    pub arrows: [u8; 256],
+    pub arrows: [u8; ARROWS],
 }
 
 // What making a policy answers: place is the bytes written; the policy's numbers.
@@ -33,12 +38,12 @@ pub struct Made {
 pub fn begin(start: u16) -> Found
     ensures { λ r. ⌜ r ≡ foundAt start ⌝ }
 {
-    let mut nodes: [u16; 17] = [0; 17];
+    let mut nodes: [u16; NODES] = [0; NODES];
     nodes[0] = start;
     Found {
         nodes,
         count: 1,
-        arrows: [0; 256],
+        arrows: [0; ARROWS],
     }
 }
 
@@ -60,7 +65,7 @@ pub fn node(f: Found, k: usize) -> u16
 }
 
 // The place of a node among the first n; n if it is not among them.
-fn place(nodes: &[u16; 17], n: usize, x: u16) -> usize
+fn place(nodes: &[u16; NODES], n: usize, x: u16) -> usize
     requires { ⌜ (n ≤ mostStates + 1) × (n ≤ length (now nodes)) ⌝ }
     ensures { λ r. ⌜ (r ≡ placeOf (take n (now (nodes .entry))) x) × (r ≤ n) ⌝ }
 {
@@ -69,7 +74,7 @@ fn place(nodes: &[u16; 17], n: usize, x: u16) -> usize
         if nodes[i] == x {
             return i;
         }
-        i = i + 1;
+        i += 1;
     }
     n
 }

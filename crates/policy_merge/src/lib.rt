@@ -28,14 +28,14 @@ const ORDERS: usize = PolicyNumbers::ORDERS as usize;
 // One of the two: a policy's numbers and the ceilings of the orders; its table is lent beside it.
 pub struct Side {
     pub policy: PolicyNumbers,
-    pub ceilings: [u32; 8],
+    pub ceilings: [u32; ORDERS],
 }
 
 // What merging answers: place is the bytes written; the policy's numbers; the ceilings of the orders.
 pub struct Merged {
     pub answer: Answer,
     pub policy: PolicyNumbers,
-    pub ceilings: [u32; 8],
+    pub ceilings: [u32; ORDERS],
 }
 
 // Whether 10 does not refuse a policy.
@@ -120,10 +120,10 @@ fn least(x: u32, y: u32) -> u32
 }
 
 // The smaller of each two ceilings.
-fn smaller(c: [u32; 8], d: [u32; 8]) -> [u32; 8]
+fn smaller(c: [u32; ORDERS], d: [u32; ORDERS]) -> [u32; ORDERS]
     ensures { λ r. ⌜ r ≡ smallerOf c d ⌝ }
 {
-    let mut out: [u32; 8] = [0; 8];
+    let mut out: [u32; ORDERS] = [0; ORDERS];
     let mut i: usize = 0;
     while i < ORDERS {
         out[i] = least(c[i], d[i]);
@@ -133,7 +133,7 @@ fn smaller(c: [u32; 8], d: [u32; 8]) -> [u32; 8]
 }
 
 // What was made, with the ceilings unless it was refused.
-fn with_ceilings(made: Made, ceilings: [u32; 8]) -> Merged
+fn with_ceilings(made: Made, ceilings: [u32; ORDERS]) -> Merged
     ensures { λ r. ⌜ r ≡ withCeilings made ceilings ⌝ }
 {
     let answer = made.answer;
@@ -148,7 +148,7 @@ fn with_ceilings(made: Made, ceilings: [u32; 8]) -> Merged
     Merged {
         answer,
         policy,
-        ceilings: [0; 8],
+        ceilings: [0; ORDERS],
     }
 }
 

@@ -6,6 +6,7 @@ use native.Mathlib.Omega.{arith}
 use lib.ListN.{length, getD, take, drop, set}
 use lib.Seq.{drop-cons, take-suc, set-at, append-snoc, length-take-le}
 use borrow.Author.Tests.{lt-ltb, le-ltb, le-leb, lt-leb}
+use Rattle.rules.specs.declared.Answer.{Answer}
 use Rattle.rules.specs.declared.Refusal.the-variants.{SmallOutput, TooManyStates}
 use Rattle.rules.specs.Names.{mostStates, events, answer, refusal}
 use Rattle.policy_exploration.specs.Reach.{madeWith}
@@ -23,6 +24,9 @@ copy-more s t₀ t i r e h k g =
 pub copy-done : (s t₀ t : List ℕ) (i n : ℕ) → t ≡ take i s ++ drop i t₀ → n ≤ i → i ≤ n → t ≡ take n s ++ drop n t₀
 copy-done s t₀ t i n e h k = let q : i ≡ n = omega arith in e ∙ ap (λ (j : ℕ). take j s ++ drop j t₀) q
 
+pub refused-is : (x : ℕ) (a : Answer) → a ≡ answer x 0 → madeWith a 0 ≡ madeWith (answer x 0) 0
+refused-is x a e = rw e
+
 module _ (f : Found) (sized : Sized f) where
   abbrev pub Writes : List ℕ → Made → List ℕ → Type 0
   Writes t made t′ = (made ≡ writtenOf f (length t)) × (t′ ≡ writtenTable f t)
@@ -35,8 +39,8 @@ module _ (f : Found) (sized : Sized f) where
   unfolding writtenOf writtenTable writtenAnswer
   no-room t made b h e l q = rw (le-leb (f .count) mostStates h, lt-ltb (length t) (events * f .count) (omega arith)) (q, refl)
 
-  pub writes : (t t′ : List ℕ) (b : ℕ) → f .count ≤ mostStates → b ≡ events * f .count → b ≤ length t → t′ ≡ take b (f .arrows) ++ drop b t → Writes t (madeWith (answer 0 b) (f .count)) t′
+  pub writes : (t t′ : List ℕ) (b : ℕ) → f .count ≤ mostStates → b ≡ events * f .count → b ≤ length t → t′ ≡ take b (f .arrows) ++ drop b t → (a : Answer) → a ≡ answer 0 b → Writes t (madeWith a (f .count)) t′
   unfolding writtenOf writtenTable writtenAnswer
-  writes t t′ b h e l q =
+  writes t t′ b h e l q a ea =
       let n : length (take (events * f .count) (f .arrows)) ≡ events * f .count = length-take-le (events * f .count) (f .arrows) (omega (arith, sized .arrows)) in
-      rw (le-leb (f .count) mostStates h, le-ltb (length t) (events * f .count) (omega arith), n, e) (refl, q ∙ ap (λ (j : ℕ). take j (f .arrows) ++ drop j t) e)
+      rw (le-leb (f .count) mostStates h, le-ltb (length t) (events * f .count) (omega arith), n, ea, e) (refl, q ∙ ap (λ (j : ℕ). take j (f .arrows) ++ drop j t) e)

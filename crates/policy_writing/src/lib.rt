@@ -1,4 +1,5 @@
 // The policy of the nodes found, written: its numbers and its table, or a refusal.
+use policy_exploration::ARROWS;
 use policy_exploration::Found;
 use policy_exploration::Made;
 use rules::Answer;
@@ -24,7 +25,7 @@ pub fn refused(number: u8) -> Made
     ensures { λ r. ⌜ r ≡ madeWith (answer number 0) 0 ⌝ }
 {
     Made {
-        answer: Answer { number, place: 0 },
+        answer: Answer::refused(number),
         policy: PolicyNumbers {
             states: 0,
             start: 0,
@@ -33,14 +34,14 @@ pub fn refused(number: u8) -> Made
 }
 
 // The first n bytes over the start of the others.
-fn copy(from: &[u8; 256], to: &mut [u8], n: usize)
+fn copy(from: &[u8; ARROWS], to: &mut [u8], n: usize)
     requires { ⌜ (n ≤ events * mostStates) × (n ≤ length (now from)) × (n ≤ length (now to)) ⌝ }
     ensures { λ _. ⌜ now (to .exit) ≡ take n (now (from .entry)) ++ drop n (now (to .entry)) ⌝ }
 {
     let mut i: usize = 0;
     while i < n {
         to[i] = from[i];
-        i = i + 1;
+        i += 1;
     }
 }
 
@@ -61,10 +62,7 @@ pub fn write(f: Found, table: &mut [u8]) -> Made
     let arrows = f.arrows;
     copy(&arrows, table, bytes);
     Made {
-        answer: Answer {
-            number: Refusal::TAKEN,
-            place: bytes,
-        },
+        answer: Answer::taken(bytes),
         policy: PolicyNumbers {
             states: n as u32,
             start: 0,

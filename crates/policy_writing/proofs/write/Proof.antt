@@ -16,10 +16,10 @@ returns-2 c =
 
 returns-3 : tie.Need-returns-3
 returns-3 c =
-    let copied = c .before .before in
+    let copied = c .before .before .before in
     let roomy = copied .before .before .before .before in
     let start = roomy .before .before .before in
-    writes (start .args .f) (start .pre) (now (start .args .table)) _ _ (roomy .before .if1 .left) refl (roomy .if2 .left) (copied .copy .ensures)
+    writes (start .args .f) (start .pre) (now (start .args .table)) _ _ (roomy .before .if1 .left) refl (roomy .if2 .left) (copied .copy .ensures) _ (search needs)
 
 pub write-spec : {M : Type 1} → statement M
 write-spec =
@@ -30,6 +30,7 @@ write-spec =
     (λ c. search needs)
     (λ c κs. search needs)
     returns-2
+    (λ c κs. search needs)
     (λ c κs. search needs)
     (λ c. search needs)
     (λ c. search needs)
