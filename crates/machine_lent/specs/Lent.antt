@@ -4,5 +4,5 @@ use Rattle.rules.specs.declared.RunAnswer.{RunAnswer}
 use Rattle.rules.specs.declared.Outcome.{Outcome}
 
 -- the record that is left and the answer, as one outcome
-abbrev pub outcomeOf : Machine → RunAnswer → Outcome
-outcomeOf m a = record { machine = m; answer = a }
+abbrev pub asOutcome : Machine → RunAnswer → Outcome
+asOutcome m a = record { machine = m; answer = a }

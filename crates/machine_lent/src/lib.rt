@@ -5,7 +5,7 @@ use rules::Outcome;
 use rules::RunAnswer;
 ghost use mathlib.Core.Path.{_≡_};
 ghost use Rattle.rules.specs.Machines.{ranOf, runOf};
-ghost use Rattle.machine_lent.specs.Lent.{outcomeOf};
+ghost use Rattle.machine_lent.specs.Lent.{asOutcome};
 
 // A run: the record is copied out, run by value, and stored back whole.
 pub fn run(
@@ -17,7 +17,7 @@ pub fn run(
     readings: &[u32],
     log: &mut [u32],
 ) -> RunAnswer
-    ensures { λ r. ⌜ ranOf (outcomeOf (now (machine .exit)) r) (now (memory .exit)) (now (log .exit)) ≡ runOf layout (now (commands .entry)) (now (machine .entry)) (now (memory .entry)) budget (now (readings .entry)) (now (log .entry)) ⌝ }
+    ensures { λ r. ⌜ ranOf (asOutcome (now (machine .exit)) r) (now (memory .exit)) (now (log .exit)) ≡ runOf layout (now (commands .entry)) (now (machine .entry)) (now (memory .entry)) budget (now (readings .entry)) (now (log .entry)) ⌝ }
 {
     let out = machine::run_value(layout, commands, *machine, memory, budget, readings, log);
     *machine = out.machine;

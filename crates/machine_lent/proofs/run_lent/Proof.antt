@@ -56,7 +56,7 @@ use Rattle.rules.proofs.RunAnswer.Laws as N′
 use Rattle.rules.proofs.Outcome as O
 use Rattle.rules.proofs.Outcome.Laws as O′
 use Rattle.machine_lent.proofs.Lent.{lends, back}
-use Rattle.machine_lent.specs.Lent.{outcomeOf}
+use Rattle.machine_lent.specs.Lent.{asOutcome}
 use Rattle.machine_lent.proofs.Walks.{lay, mach, sl, Arg, Vals, Last, args, vals, ran}
 use Rattle.machine_lent.proofs.run as run
 use Rattle.machine_lent.proofs.run.Symbol as run-def
@@ -83,10 +83,10 @@ stayed = (
 )
 
 abbrev outv : Machine → RunAnswer → Val
-outv m r = LL.val O.the-type O′.the-laws (outcomeOf m r)
+outv m r = LL.val O.the-type O′.the-laws (asOutcome m r)
 
-out-is : (m : Machine) (r : RunAnswer) (vs : List Val) → Is T.the-row m (mach m ∷ []) → Is N.the-row r vs → Is O.the-row (outcomeOf m r) (outv m r ∷ [])
-out-is m r vs g is = LL.owes O.the-type O′.the-laws (outcomeOf m r) (g, (LL.owes N.the-type N′.the-laws r (LL.owed N.the-type N′.the-laws r vs is), tt))
+out-is : (m : Machine) (r : RunAnswer) (vs : List Val) → Is T.the-row m (mach m ∷ []) → Is N.the-row r vs → Is O.the-row (asOutcome m r) (outv m r ∷ [])
+out-is m r vs g is = LL.owes O.the-type O′.the-laws (asOutcome m r) (g, (LL.owes N.the-type N′.the-laws r (LL.owed N.the-type N′.the-laws r vs is), tt))
 
 -- the contract that the proof cites
 abbrev Run : {M : Type 1} (𝓤 : URA M) (H : Heap 𝓤) (A : Atoms 𝓤) (at-mem : Memory → SProp 𝓤) (rn : Routine → Fun 𝓤) → Contract 𝓤
@@ -146,15 +146,15 @@ module _ {M : Type 1} (𝓤 : URA M) (H : Heap 𝓤) (A : Atoms 𝓤) (W : Given
   abbrev after : Ran
   after = ran y cs ms n rs gs h
 
-  exits : (m : Machine) (r : RunAnswer) (zs ws : List ℕ) → Is O.the-row (outcomeOf m r) (outv m r ∷ []) → ranOf (outcomeOf m r) zs ws ≡ after → length zs ≡ length (ms .now) → length ws ≡ length (gs .now)
+  exits : (m : Machine) (r : RunAnswer) (zs ws : List ℕ) → Is O.the-row (asOutcome m r) (outv m r ∷ []) → ranOf (asOutcome m r) zs ws ≡ after → length zs ≡ length (ms .now) → length ws ≡ length (gs .now)
       → ent 𝓤 (⋆ 𝓤 H A (‵ (flft (κs .0) (qs .0)) ∷ More ∷ ‵ Cs ∷ ‵ (finally u32 (ms .name) zs) ∷ ‵ Rs ∷ ‵ (finally u32 (gs .name) ws) ∷ [])) (Post (outv m r))
   exits m r zs ws is e l l′ =
       qed W (‵ (flft (κs .0) (qs .0)) ∷ More ∷ ‵ Cs ∷ ‵ (finally u32 (ms .name) zs) ∷ ‵ Rs ∷ ‵ (finally u32 (gs .name) ws) ∷ []) ∵
-      suffices ! _ (ends-at 𝓤 H A run-lent.ended stayed (run-lent.clauses 𝓤 H A at-mem rn) W ((κs, qs, tt, a, given (mach h)), tt) (outv m r) (outcomeOf m r) (tt, (tt, (tt, (zs, (tt, (tt, (ws, tt))))))) (tt, (tt, (tt, (l, (tt, (tt, (l′, tt)))))))) $
+      suffices ! _ (ends-at 𝓤 H A run-lent.ended stayed (run-lent.clauses 𝓤 H A at-mem rn) W ((κs, qs, tt, a, given (mach h)), tt) (outv m r) (asOutcome m r) (tt, (tt, (tt, (zs, (tt, (tt, (ws, tt))))))) (tt, (tt, (tt, (l, (tt, (tt, (l′, tt)))))))) $
       says ! e $ join ! $ frame ! $
       nothing ! $ move ! (4 ∷ 0 ∷ []) $ fjoin ! $ move ! (3 ∷ 0 ∷ []) $ fjoin ! $ owned ! u32 (Is u32) (uint-makes 𝓤 H A W w32) n _ (refl, n-fits) $ fjoin ! $ move ! (2 ∷ 0 ∷ []) $ fjoin ! $
       owned ! T.the-row (Is T.the-row) (LL.makes T.the-type T′.the-plain 𝓤 H A) h _ h-is $ fjoin ! $ move ! (1 ∷ 0 ∷ []) $ fjoin ! $ owned ! L.the-row (Is L.the-row) (LL.makes L.the-type L′.the-plain 𝓤 H A) y _ y-is $ fjoin ! $
-      owned ! O.the-row (Is O.the-row) (LL.makes O.the-type O′.the-plain 𝓤 H A) (outcomeOf m r) _ is $ move ! (1 ∷ 0 ∷ []) $ done !
+      owned ! O.the-row (Is O.the-row) (LL.makes O.the-type O′.the-plain 𝓤 H A) (asOutcome m r) _ is $ move ! (1 ∷ 0 ∷ []) $ done !
 
   module _ (C : Calls 𝓤 H) (Λ : Loops 𝓤 H) (fm : FmC 𝓤 H (W .laws) C) (known : Triple 𝓤 (C #machine-lent·run) (Run 𝓤 H A at-mem rn)) where
     walk : Room u64 (length (cs .now)) → Room u32 (length (ms .now)) → Room u32 (length (rs .now)) → Room u32 (length (gs .now))
@@ -185,8 +185,8 @@ module _ {M : Type 1} (𝓤 : URA M) (H : Heap 𝓤) (A : Atoms 𝓤) (W : Given
         calls-at ! fm (Run 𝓤 H A at-mem rn) known (to-run l₈ ν δ) (and-then ! (load ! (from ! (stop !)) (look ! 29 refl)) (and-then ! (load ! (from ! (stop !)) (look ! 27 refl)) (and-then ! (load ! (from ! (stop !)) (look ! 12 refl)) (and-then ! (load ! (from ! (stop !)) (look ! 8 refl)) (and-then ! (load ! (from ! (stop !)) (look ! 21 refl)) (and-then ! (load ! (from ! (stop !)) (look ! 19 refl)) (and-then ! (load ! (from ! (stop !)) (look ! 4 refl)) (no-more !)))))))) (λ w.
         use1 W (later (some (λ (r : RunAnswer). (Toks ν ⊛ ‵ (N.the-row .own r (w ∷ []))) ⊛ raw (ensured 𝓤 H A run.ended (run.clauses 𝓤 H A at-mem rn) (κs′ ν) (a′ l₈ δ) tt r)))) (id⊢ 𝓤 _) $ await ! tt $ pick ! (λ r.
         -- what `run` ensures, at some last record and lists
-        split ! $ move ! (1 ∷ []) $ use1 W (some (λ (zs : Last Machine). ‵ (lasts run.ended (κs′ ν) (a′ l₈ δ) zs) ⊛ raw (fact 𝓤 (ranOf (outcomeOf (zs .1 .1 .0) r) (zs .1 .1 .1 .0) (zs .1 .1 .1 .1 .1 .1 .0) ≡ after)))) (id⊢ 𝓤 _) $ pick ! (λ zs.
-        split ! $ move ! (1 ∷ []) $ heard ! (ranOf (outcomeOf (zs .1 .1 .0) r) (zs .1 .1 .1 .0) (zs .1 .1 .1 .1 .1 .1 .0) ≡ after) (λ e.
+        split ! $ move ! (1 ∷ []) $ use1 W (some (λ (zs : Last Machine). ‵ (lasts run.ended (κs′ ν) (a′ l₈ δ) zs) ⊛ raw (fact 𝓤 (ranOf (asOutcome (zs .1 .1 .0) r) (zs .1 .1 .1 .0) (zs .1 .1 .1 .1 .1 .1 .0) ≡ after)))) (id⊢ 𝓤 _) $ pick ! (λ zs.
+        split ! $ move ! (1 ∷ []) $ heard ! (ranOf (asOutcome (zs .1 .1 .0) r) (zs .1 .1 .1 .0) (zs .1 .1 .1 .1 .1 .1 .0) ≡ after) (λ e.
         fsplit ! $ drop ! $ fsplit ! $ drop ! $ fsplit ! $ move ! (1 ∷ []) $ fsplit ! $ fsplit ! $ move ! (1 ∷ []) $ feqL ! (λ l. move ! (1 ∷ []) $ fsplit ! $ drop ! $ fsplit ! $ drop ! $ fsplit ! $ fsplit ! $ move ! (1 ∷ []) $ feqL ! (λ l′.
         -- [log's last list; …; memory's; the last record; the tokens and the result; the lender's part; _15 6; …]
         move ! (4 ∷ []) $ split ! $ move ! (1 ∷ []) $ peeks ! N.the-row (Is N.the-row) (shows 𝓤 H A N.the-row) r (w ∷ []) (λ is.
@@ -198,7 +198,7 @@ module _ {M : Type 1} (𝓤 : URA M) (H : Heap 𝓤) (A : Atoms 𝓤) (W : Given
         move ! (1 ∷ []) $ peeks ! T.the-row (Is T.the-row) (shows 𝓤 H A T.the-row) (zs .1 .1 .0) (mach (zs .1 .1 .0) ∷ []) (λ g. move ! (1 ∷ 0 ∷ []) $
         -- [_8; what it owns; the tokens but commands'; commands'; the answer's; log's last list; …; memory's 7; _15 8; …; _9 20; …; what frees _8 22; _7 23; …; room for _0 37; …; commands; readings]
         assigns ! (of-opd ! (load ! (from ! (stop !)) (look ! 0 refl))) (from ! (stop !)) (init ! 8 refl (LL.lawful T.the-type T′.the-laws 𝓤 H A W .typed (zs .1 .1 .0) _ g .0)) $
-        assigns ! (agg ! (and-then ! (load ! (from ! (stop !)) (look ! 8 refl)) (and-then ! (load ! (from ! (stop !)) (look ! 20 refl)) (no-more !)))) (from ! (stop !)) (init ! 37 refl (LL.lawful O.the-type O′.the-laws 𝓤 H A W .typed (outcomeOf (zs .1 .1 .0) r) _ (out-is (zs .1 .1 .0) r _ g is) .0)) $
+        assigns ! (agg ! (and-then ! (load ! (from ! (stop !)) (look ! 8 refl)) (and-then ! (load ! (from ! (stop !)) (look ! 20 refl)) (no-more !)))) (from ! (stop !)) (init ! 37 refl (LL.lawful O.the-type O′.the-laws 𝓤 H A W .typed (asOutcome (zs .1 .1 .0) r) _ (out-is (zs .1 .1 .0) r _ g is) .0)) $
         returns ! (look ! 37 refl) $
         move ! (37 ∷ 38 ∷ []) $ forget ! 0 refl $ free1 ! $ move ! (35 ∷ 36 ∷ []) $ forget ! 0 refl $ free1 ! $ move ! (33 ∷ 34 ∷ []) $ forget ! 0 refl $ free1 ! $ move ! (31 ∷ 32 ∷ []) $ forget ! 0 refl $ free1 ! $ move ! (29 ∷ 30 ∷ []) $ forget ! 0 refl $ free1 ! $ move ! (27 ∷ 28 ∷ []) $ forget ! 0 refl $ free1 ! $ move ! (25 ∷ 26 ∷ []) $ forget ! 0 refl $ free1 ! $ move ! (23 ∷ 24 ∷ []) $ forget ! 0 refl $ free1 ! $ move ! (0 ∷ 22 ∷ []) $ forget ! 0 refl $ free1 ! $ move ! (19 ∷ 20 ∷ []) $ forget ! 0 refl $ free1 ! $ move ! (17 ∷ 18 ∷ []) $ forget ! 0 refl $ free1 ! $ move ! (15 ∷ 16 ∷ []) $ forget ! 0 refl $ free1 ! $ move ! (13 ∷ 14 ∷ []) $ forget ! 0 refl $ free1 ! $ move ! (11 ∷ 12 ∷ []) $ forget ! 0 refl $ free1 ! $ move ! (9 ∷ 10 ∷ []) $ forget ! 0 refl $ free1 ! $ move ! (7 ∷ 8 ∷ []) $ forget ! 0 refl $ free1 ! $ free0 ! $
         keep ! (2 ∷ 1 ∷ 7 ∷ 6 ∷ 8 ∷ 4 ∷ []) $ by ! (exits (zs .1 .1 .0) r (zs .1 .1 .1 .0) (zs .1 .1 .1 .1 .1 .1 .0) (out-is (zs .1 .1 .0) r _ g is) e l l′))))))))))))))))))))))))))))
