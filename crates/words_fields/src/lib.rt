@@ -25,12 +25,12 @@ pub fn fields(w: u64) -> Fields
 pub fn word(kind: u64, d: u64, a: u64, b: u64, c: u64, v: u64) -> u64
     ensures { λ r. ⌜ r ≡ cutWord kind d a b c v ⌝ }
 {
-    kind % 256
-        + ((d % 16) << 8)
-        + ((a % 16) << 12)
-        + ((b % 16) << 16)
-        + ((c % 16) << 20)
-        + ((v % 0x1_0000_0000) << 32)
+    kind % field::BYTE
+        + ((d % field::FOUR_BITS) << field::AT_D)
+        + ((a % field::FOUR_BITS) << field::AT_A)
+        + ((b % field::FOUR_BITS) << field::AT_B)
+        + ((c % field::FOUR_BITS) << field::AT_C)
+        + ((v % field::NUMBER) << field::AT_V)
 }
 
 pub fn pack(f: Fields) -> u64
@@ -39,12 +39,15 @@ pub fn pack(f: Fields) -> u64
     word(f.kind, f.d, f.a, f.b, f.c, f.v)
 }
 
+// The lowest bit of each register field.
+const LOWEST: u64 = (1 << field::AT_D) + (1 << field::AT_A) + (1 << field::AT_B);
+
 // Whether no register field of a word names the hidden register, all of whose four bits stand: one test for the three.
 pub fn guests(w: u64) -> bool
     ensures { λ r. ⌜ r ≡ guestsOf w ⌝ }
 {
     let pairs = w & (w >> 1);
-    (pairs & (pairs >> 2)) & 0x1_1100 == 0
+    (pairs & (pairs >> 2)) & LOWEST == 0
 }
 
 // By its kind.
