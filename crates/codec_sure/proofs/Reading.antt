@@ -6,7 +6,7 @@ use Prim.Native.Nat.{ℕ, zero, suc, _+_, _*_, _/_, _%_, _^_, _≤_, _<_}
 use native.Mathlib.Omega.{arith}
 use lib.ListN.{length, getD}
 use lib.Dec.{ltb, eqb}
-use borrow.Author.Tests.{eq-eqb, eqb-false, ltb-true}
+use borrow.Author.Tests.{eq-eqb, eqb-true, eqb-false, ltb-true}
 use Rattle.rules.specs.declared.Fields.{Fields}
 use Rattle.rules.specs.declared.One.{One}
 use Rattle.rules.specs.declared.One.the-variants.{Word}
@@ -121,7 +121,7 @@ module _ (s : List ℕ) (m at k d a : ℕ) (g : Begun s m at k d a) where
           ))
 
       pub sure-word : (w : ℕ) → w ≡ packOf k d a (b .value) (c .value) (v .value)
-          → (r : Bool) → (r ≡ true → judgeWord w ≡ 0) → ((ltb d 16 && ltb a 16 && ltb (b .value) 16 && ltb (c .value) 16) && r) ≡ true → Word w (v .next) ≡ oneOf s
+          → (r : Bool) → r ≡ eqb (judgeWord w) 0 → ((ltb d 16 && ltb a 16 && ltb (b .value) 16 && ltb (c .value) 16) && r) ≡ true → Word w (v .next) ≡ oneOf s
       sure-word w ew r jr t =
           let t₃ = both (ltb d 16 && ltb a 16 && ltb (b .value) 16 && ltb (c .value) 16) r t in
           let t₂ = both _ _ (t₃ .0) in
@@ -134,7 +134,7 @@ module _ (s : List ℕ) (m at k d a : ℕ) (g : Begun s m at k d a) where
           let hc : c .value < 2 ^ 4 = ltb-true (c .value) 16 (t₂ .1) in
           let back = bits-pack read (hk, hd, ha, hb, hc) in
           let judged : 0 ≡ judgeOf (not (eqb m (mapOf read))) read =
-          sym (jr (t₃ .1)) ∙ ap judgeWord ew ∙ rw (back .1, back .0, eq-eqb m (mapOf read) map-is) in
+          sym (eqb-true (judgeWord w) 0 (sym jr ∙ t₃ .1)) ∙ ap judgeWord ew ∙ rw (back .1, back .0, eq-eqb m (mapOf read) map-is) in
           let long = g .long in
           one-fields s m (g .map) (λ (z : length s ≡ 0). omega arith) read read-is (v .next) next-v (g .small) (omega (arith, size-most m (g .small), next-v)) (Word w (v .next))
           (fields-word m read (mapOf read) refl 0 judged refl w (v .next) ew next-v)

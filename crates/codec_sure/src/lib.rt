@@ -3,6 +3,7 @@ use codec_bytes::quad;
 use codec_bytes::wide;
 use rules::One;
 use rules::Refusal;
+use words::field;
 use words::guest::clean;
 ghost use mathlib.Core.Path.{_≡_};
 ghost use Prim.Native.Nat.{_+_, _*_, _≤_, _<_};
@@ -68,7 +69,12 @@ fn join(kind: u64, d: u64, a: u64, b: u64, c: u64, v: u64) -> u64
     requires { ⌜ (kind < 256) × (d < 256) × (a < 256) × (b < 256) × (c < 256) × (v < 4294967296) ⌝ }
     ensures { λ r. ⌜ r ≡ packOf kind d a b c v ⌝ }
 {
-    kind + (d << 8) + (a << 12) + (b << 16) + (c << 20) + (v << 32)
+    kind
+        + (d << field::AT_D)
+        + (a << field::AT_A)
+        + (b << field::AT_B)
+        + (c << field::AT_C)
+        + (v << field::AT_V)
 }
 
 // The fields from b on, and the instruction where it is plain that it is taken, or no answer.
@@ -89,7 +95,10 @@ fn sure_rest(s: &[u8], m: usize, at: usize, kind: u64, d: u64, a: u64) -> One
         return One::Bad(UNSURE);
     }
     let w = join(kind, d, a, b.value, c.value, v.value);
-    let fits = (d < 16) & (a < 16) & (b.value < 16) & (c.value < 16);
+    let fits = (d < field::FOUR_BITS)
+        & (a < field::FOUR_BITS)
+        & (b.value < field::FOUR_BITS)
+        & (c.value < field::FOUR_BITS);
     if fits & clean(w) {
         return One::Word(w, v.next);
     }

@@ -8,8 +8,8 @@ use words_fields::guests;
 use words_refusals::TOP_KIND;
 use words_refusals::judge;
 ghost use mathlib.Core.Path.{_≡_};
-ghost use mathlib.Core.Bool.{true};
 ghost use Prim.Native.Nat.{_≤_};
+ghost use lib.Dec.{eqb};
 ghost use lib.ListN.{length};
 ghost use Rattle.rules.specs.Names.{topKind};
 ghost use Rattle.rules.specs.Words.{guestLimits, judgeWord, judgeAt, firstRefused};
@@ -38,10 +38,10 @@ fn stray_bits(k: u64) -> u64
     }
 }
 
-// Whether one AND and its registers show that a word is an instruction, which is the common case. A register field
-// that the kind lacks is 0, and passes.
+// Whether a word is an instruction: one AND and its registers tell. A register field that the kind lacks is 0, and
+// passes.
 pub fn clean(w: u64) -> bool
-    ensures { λ r. ⌜ (r ≡ true → judgeWord w ≡ 0) ⌝ }
+    ensures { λ r. ⌜ r ≡ eqb (judgeWord w) 0 ⌝ }
 {
     let k = field::kind(w);
     if k > TOP_KIND {
@@ -75,7 +75,7 @@ pub fn judge_at(n: usize, w: u64) -> u8
         return Refusal::TAKEN;
     }
     let number = by_fields(w);
-    if number != 0 {
+    if number != Refusal::TAKEN {
         return number;
     }
     if landing_bad {
@@ -92,8 +92,8 @@ pub fn judge_all(words: &[u64], taken: Answer) -> Answer
     let mut i: usize = 0;
     while i < n {
         let number = judge_at(n, words[i]);
-        if number != 0 {
-            return Answer { number, place: i };
+        if number != Refusal::TAKEN {
+            return Answer::refused_at(number, i);
         }
         i += 1;
     }

@@ -1,6 +1,5 @@
-use mathlib.Core.Bool.{false≢true}
 use borrow.Author.Needs.{needs}
-use Rattle.words_guest.proofs.Judging.{clean-good}
+use Rattle.words_guest.proofs.Judging.{clean-unknown, clean-is}
 use Rattle.words_guest.proofs.clean.Statement.{statement}
 use Rattle.words_guest.proofs.clean.Tie as tie
 
@@ -9,7 +8,7 @@ clean-spec =
     tie.close
     (tie.spec
     (λ c κs. search needs)
-    (λ c e. absurd (false≢true e))
+    (λ c. search (clean-unknown, needs))
     (λ c κs. search needs)
     (λ c κs. search needs)
-    (λ c. search (clean-good, needs)))
+    (λ c. search (clean-is, needs)))

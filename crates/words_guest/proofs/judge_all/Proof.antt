@@ -1,5 +1,5 @@
 use Prim.Native.Nat.{_≤_, _-_}
-use mathlib.Core.Path.{_≡_, refl}
+use mathlib.Core.Path.{_≡_, refl, _∙_}
 use native.Mathlib.Omega.{arith}
 use lib.ListN.{length, drop}
 use borrow.Author.Needs.{needs}
@@ -24,7 +24,8 @@ judge-all-spec =
     (λ c. search needs)
     (λ c. search needs)
     (λ c κs. search needs)
-    (λ c. search (refused-stop, needs))
+    (λ c κs. search needs)
+    (λ c. c .refused-at .ensures ∙ search (refused-stop, needs))
     (λ c. search needs)
     (λ c. search needs)
     (λ c. search (refused-more, needs))
