@@ -2,7 +2,7 @@
 use Prim.Native.Nat.{ℕ}
 use mathlib.Core.Path.{_≡_, refl, sym, _∙_, ap, subst}
 use mathlib.Core.Bool.{Bool, true, false}
-use mathlib.Core.List.{List, [], _∷_, map}
+use mathlib.Core.List.{List, [], map}
 use lib.Dec.{eqb}
 use lib.ListN.{length}
 use Rattle.rules.specs.declared.Layout.{Layout}
@@ -12,28 +12,24 @@ use Rattle.rules.specs.Machines.{installAnswer, installMemory}
 use Rattle.rules.specs.Runs.{Given, Carried as MachineCarried}
 use Rattle.rules.proofs.Conditions.{installs}
 use Rattle.sandbox_rules.proofs.Loading.{loads}
-use Rattle.capi_numbers.specs.Numbers.{layoutFrom, numbersAfter}
-use Rattle.capi_numbers.specs.Hosts.{installFor, loadFor, HostRan}
-use Rattle.capi_numbers.proofs.Numbers.{regs-again, at-again, status-of-record, after-known, untouched-by}
+use Rattle.capi_numbers.specs.Numbers.{layoutFrom}
+use Rattle.capi_numbers.specs.Hosts.{installFor, loadFor}
+use Rattle.capi_numbers.specs.Claims.{callsOf}
+use Rattle.capi_numbers.proofs.Numbers.{comes-back, called}
 use Rattle.rules.proofs.Counts.{apply-regs}
-use Rattle.capi_numbers.proofs.Calls.{keeps-regs}
-use Rattle.engine_rules.specs.declared.Engine.{Engine}
+use Rattle.capi_numbers.proofs.Calls.{calls-from, keeps-regs}
 use Rattle.engine_rules.specs.Engines.{engineOf, engineFirst, effectOn, withMemory, movedOf, startOf, refusalOf, refusalBy, runOf}
-use Rattle.engine_rules.specs.Claims.{Carried, carriedOf, atFirst, runOn, afterTaken, afterRun, Run, runsOf, Lends}
+use Rattle.engine_rules.specs.Claims.{Carried, carriedOf, atFirst, runOn, afterTaken, afterRun, Run, runAs, runsOf, Lends}
 use Rattle.engine_rules.proofs.Runs.{engineLoop}
 use Rattle.engine_rules.proofs.Isolation.{engine-isolation}
-use Rattle.capi_engine.specs.Records.{engineTo, engineFor}
-use Rattle.capi_engine.specs.Claims.{RecordBack, Untouched, callsOf, ranTo, Laid, installed, loaded, HostEngineIsolation}
+use Rattle.capi_engine.specs.Records.{engineTo, ranTo, engineFor}
+use Rattle.capi_engine.specs.Claims.{EngineBack, engineCall, Laid, installed, loaded, HostEngineIsolation}
 
-pub record-back : RecordBack
-record-back m n =
-    λ i. engineOf (regs-again guestRegisters (m .regs) (m .at) (m .status) n i) (at-again guestRegisters (m .regs) (m .at) (m .status) n i) (status-of-record guestRegisters (m .regs) (m .at) (m .status) n i)
-
-pub untouched : Untouched
-untouched xs r n e = ap (λ (m : Engine). numbersAfter guestRegisters xs (engineTo m)) e ∙ untouched-by guestRegisters xs n
+pub engine-back : EngineBack
+engine-back = comes-back guestRegisters engineOf (λ m. m .regs) (λ m. m .at) (λ m. m .status) (λ _. refl) (λ _ _ _. refl)
 
 -- ---- what is carried on is the record that the run left
-carries : (lay : Layout) (ws : List ℕ) (c : Carried) (g : Given) (t : Bool) → eqb (refusalOf lay ws (g .memory) .number) 0 ≡ t → (afterRun lay ws c g .engine ≡ runOn lay ws c g .outcome .engine) × (length (afterRun lay ws c g .engine .regs) ≡ length (c .engine .regs))
+carries : (lay : Layout) (ws : List ℕ) (c : Carried) (g : Given) (t : Bool) → eqb (refusalOf lay ws (g .memory) .number) 0 ≡ t → (runOn lay ws c g .outcome .engine ≡ afterRun lay ws c g .engine) × (length (afterRun lay ws c g .engine .regs) ≡ length (c .engine .regs))
 unfolding afterRun afterTaken runOn runOf effectOn
 carries lay ws c g true e =
     rw e (
@@ -43,21 +39,14 @@ carries lay ws c g true e =
     )
 carries lay ws c g false e = rw e (refl, refl)
 
--- a call is given the numbers of what is carried: it leaves those of the run
-call : (lay ws : List ℕ) (c : Carried) (g : Given) → length (c .engine .regs) ≡ guestRegisters
-    → engineFor lay ws (engineTo (c .engine)) (g .memory) (g .budget) (g .readings) (g .log) ≡ ranTo (runOn (layoutFrom lay) ws c g)
-unfolding engineFor runOn
-call lay ws c g n = rw (record-back (c .engine) n, after-known guestRegisters (c .engine .regs) (c .engine .at) (c .engine .status) n)
-
-calls-from : (lay ws : List ℕ) (c : Carried) (gs : List Given) → length (c .engine .regs) ≡ guestRegisters → callsOf lay ws (engineTo (c .engine)) gs ≡ map (λ (r : Run). ranTo (r .ran)) (runsOf (layoutFrom lay) ws c gs)
-unfolding callsOf runsOf
-calls-from lay ws c [] n = refl
-calls-from lay ws c (g ∷ gs) n =
+calls-are : (lay ws : List ℕ) (c : Carried) (gs : List Given) → length (c .engine .regs) ≡ guestRegisters → callsOf (engineCall lay ws) (engineTo (c .engine)) gs ≡ map (λ (r : Run). ranTo (r .ran)) (runsOf (layoutFrom lay) ws c gs)
+unfolding engineFor runOn runsOf
+calls-are lay ws =
     let l = layoutFrom lay in
-    let q = carries l ws c g _ refl in
-    rw (call lay ws c g n)
-    (ap (λ (rs : List HostRan). ranTo (runOn l ws c g) ∷ rs)
-    (ap (λ (m : Engine). callsOf lay ws (engineTo m) gs) (sym (q .0)) ∙ calls-from lay ws (afterRun l ws c g) gs (q .1 ∙ n)))
+    calls-from (λ c. engineTo (c .engine)) (afterRun l ws) (runAs l ws) (λ r. ranTo (r .ran)) (runsOf l ws) (λ _. refl) (λ _ _ _. refl) (engineCall lay ws)
+    (λ c. length (c .engine .regs) ≡ guestRegisters)
+    (λ c g. called engine-back (λ m. ranTo (runOf l ws m (g .memory) (g .budget) (g .readings) (g .log))) (c .engine))
+    (λ c g n. let q = carries l ws c g _ refl in (ap engineTo (q .0), q .1 ∙ n))
 
 -- ---- the memory that was laid out is an installation's
 record Stands (l : Layout) (pol : Policy) (mem left : List ℕ) : Type 0 where
@@ -77,7 +66,7 @@ host-engine-isolation lay pol mem ws left gs laid take lends =
     let s = stands laid in
     let size : length left ≡ length mem = ap length (s .memory) ∙ installs l pol mem (s .taken) .size in
     record {
-      calls = calls-from lay ws (atFirst l pol mem) gs refl;
+      calls = calls-are lay ws (atFirst l pol mem) gs refl;
       isolated =
           engine-isolation l pol ws mem gs
           (record {

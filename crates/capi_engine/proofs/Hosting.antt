@@ -6,12 +6,12 @@ use native.Mathlib.Omega.{arith}
 use Rattle.rules.specs.declared.Layout.{Layout}
 use Rattle.rules.specs.Names.{guestRegisters}
 use Rattle.capi_numbers.specs.Numbers.{layoutFrom, numbersAfter}
-use Rattle.capi_numbers.specs.Hosts.{HostRan, hostRan}
+use Rattle.capi_numbers.specs.Hosts.{hostRan, hostLeft}
 use Rattle.engine_rules.specs.declared.Engine.{Engine}
 use Rattle.engine_rules.specs.declared.EngineOutcome.{EngineOutcome}
 use Rattle.engine_rules.specs.Engines.{Ran, ranOf, runOf}
 use Rattle.engine_rules.proofs.Isolation.{RunCounts, run-counts, run-place}
-use Rattle.capi_engine.specs.Records.{engineFrom, engineTo, recordAfter, answerTo, engineFor}
+use Rattle.capi_engine.specs.Records.{engineFrom, engineTo, answerTo, ranTo, engineFor}
 
 -- place, pairs and readings have 32 bits
 pub narrow : (l : Layout) (ws mem rd log mem′ log′ : List ℕ) (budget : ℕ) (m : Engine) (o : EngineOutcome) → ranOf o mem′ log′ ≡ runOf l ws m mem budget rd log → budget < 2 ^ 32
@@ -27,6 +27,4 @@ pub left : (xs ms ws mem rd log log′ : List ℕ) (budget : ℕ) (l : Layout) (
     → (mem′ ms′ ns : List ℕ) → ranOf o mem′ log′ ≡ runOf l ws m mem budget rd log → ms′ ≡ numbersAfter guestRegisters ms (engineTo (o .engine)) → ns ≡ answerTo o
     → hostRan ns ms′ mem′ log′ ≡ engineFor xs ws ms mem budget rd log
 unfolding engineFor
-left xs ms ws mem rd log log′ budget l m o e p mem′ ms′ ns q t u =
-    let host : Ran → HostRan = λ r. hostRan (answerTo (r .outcome)) (recordAfter ms r) (r .mem) (r .log) in
-    rw (t, u, ← e, ← p) (ap host q)
+left xs ms ws mem rd log log′ budget l m o e p mem′ ms′ ns q t u = rw (t, u, ← e, ← p) (ap (λ (r : Ran). hostLeft guestRegisters ms (ranTo r)) q)

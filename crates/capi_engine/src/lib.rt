@@ -1,12 +1,11 @@
 // The engine over a C host's numbers, for the C interface: record and answer as arrays of u32.
+use capi_numbers::BEHIND;
 use capi_numbers::LAYOUT;
-use capi_numbers::STATUSES;
 use capi_numbers::layout_of;
-use capi_numbers::status_number;
-use capi_numbers::status_of;
+use capi_numbers::read_record;
+use capi_numbers::store_record;
 use engine_rules::Engine;
 use rules::Answer;
-use words_cells::store_cells;
 ghost use mathlib.Core.Path.{_≡_};
 ghost use mathlib.Core.List.{[], _∷_};
 ghost use Prim.Native.Nat.{_<_, _^_};
@@ -15,12 +14,8 @@ ghost use Rattle.capi_numbers.specs.Numbers.{numbersAfter};
 ghost use Rattle.capi_numbers.specs.Hosts.{hostRan};
 ghost use Rattle.capi_engine.specs.Records.{engineFrom, engineTo, engineFor};
 
-// Where index and status stand in a record, after its registers, and how many numbers it and an answer have.
-const INDEX: usize = Engine::REGISTERS;
-
-const STATUS: usize = INDEX + 1;
-
-pub const RECORD: usize = STATUS + 1;
+// How many numbers a record and an answer have.
+pub const RECORD: usize = Engine::REGISTERS + BEHIND;
 
 pub const ANSWER: usize = 5;
 
@@ -29,35 +24,20 @@ fn engine_of(xs: [u32; RECORD]) -> Engine
     ensures { λ r. ⌜ r ≡ engineFrom xs ⌝ }
 {
     let mut regs = [0u32; Engine::REGISTERS];
-    store_cells(&mut regs, 0, &xs[..Engine::REGISTERS]);
-    let status = status_of(xs[STATUS]);
+    let status = read_record(&xs, &mut regs);
     Engine {
         regs,
-        at: xs[INDEX],
+        at: xs[Engine::REGISTERS],
         status,
     }
 }
 
-// An engine's record.
-fn record_of(m: Engine) -> [u32; RECORD]
-    ensures { λ r. ⌜ r ≡ engineTo m ⌝ }
-{
-    let regs = m.regs;
-    let t = m.status;
-    let mut xs = [0u32; RECORD];
-    store_cells(&mut xs, 0, &regs);
-    xs[INDEX] = m.at;
-    xs[STATUS] = status_number(t);
-    xs
-}
-
-// The record after a run. One whose status number is no status was not run, and comes back as it was.
-fn record_after(m: Engine, xs: [u32; RECORD]) -> [u32; RECORD]
+// The record after a run that left this engine.
+fn record_after(m: Engine, mut xs: [u32; RECORD]) -> [u32; RECORD]
     ensures { λ r. ⌜ r ≡ numbersAfter guestRegisters xs (engineTo m) ⌝ }
 {
-    if xs[STATUS] < STATUSES {
-        return record_of(m);
-    }
+    let status = m.status;
+    store_record(&mut xs, &m.regs, m.at, status);
     xs
 }
 

@@ -5,30 +5,38 @@ use mathlib.Core.Bool.{Bool, true, false}
 use mathlib.Core.List.{List, [], _∷_, map}
 use lib.ListN.{length}
 use Rattle.rules.specs.declared.Layout.{Layout}
-use Rattle.rules.specs.declared.Machine.{Machine}
 use Rattle.rules.specs.declared.Ending.{Ending}
 use Rattle.rules.specs.declared.Effect.{Effect}
 use Rattle.rules.specs.Names.{registers}
 use Rattle.rules.specs.Policies.{Policy}
 use Rattle.rules.specs.Bundles.{checkAnswer}
 use Rattle.rules.specs.Machines.{machineOf, State, startOf, fits, runOf, installAnswer, installMachine, installMemory}
-use Rattle.rules.specs.Runs.{Given, Carried, carriedOf, atFirst, runOn, afterTaken, afterRun, Run, runsOf, Lends}
+use Rattle.rules.specs.Runs.{Given, Carried, carriedOf, atFirst, runOn, afterTaken, afterRun, Run, runAs, runsOf, Lends}
 use Rattle.rules.proofs.Loops.{Loop, keeps, machineLoop}
 use Rattle.rules.proofs.Counts.{apply-regs}
 use Rattle.rules.proofs.Conditions.{machine-of}
 use Rattle.rules.proofs.Isolation.{isolation}
 use Rattle.sandbox_rules.proofs.Loading.{loads}
-use Rattle.capi_numbers.specs.Numbers.{layoutFrom, machineFrom, machineTo, numbersAfter}
-use Rattle.capi_numbers.specs.Hosts.{checkFor, installFor, loadFor, HostRan, runFor}
-use Rattle.capi_numbers.specs.Claims.{RecordBack, Untouched, callsOf, ranTo, Ready, installed, loaded, HostIsolation}
-use Rattle.capi_numbers.proofs.Numbers.{regs-again, at-again, status-of-record, after-known, untouched-by}
+use Rattle.capi_numbers.specs.Numbers.{layoutFrom, machineFrom, machineTo}
+use Rattle.capi_numbers.specs.Hosts.{checkFor, installFor, loadFor, HostRan, ranTo, runFor}
+use Rattle.capi_numbers.specs.Claims.{MachineBack, callsOf, runCall, Ready, installed, loaded, HostIsolation}
+use Rattle.capi_numbers.proofs.Numbers.{comes-back, called}
 
-pub record-back : RecordBack
-record-back m n =
-    λ i. machineOf (regs-again registers (m .regs) (m .pc) (m .status) n i) (at-again registers (m .regs) (m .pc) (m .status) n i) (status-of-record registers (m .regs) (m .pc) (m .status) n i)
+pub machine-back : MachineBack
+machine-back = comes-back registers machineOf (λ m. m .regs) (λ m. m .pc) (λ m. m .status) (λ _. refl) (λ _ _ _. refl)
 
-pub untouched : Untouched
-untouched xs r n e = ap (λ (m : Machine). numbersAfter registers xs (machineTo m)) e ∙ untouched-by registers xs n
+-- ---- calls over a list are the runs over it, the machine's or the engine's, if each is a run on the numbers of what is carried
+module _ {C R : Type 0} (numbers : C → List ℕ) (next : C → Given → C) (runAs : C → Given → R) (left : R → HostRan) (runs : C → List Given → List R)
+    (none : (c : C) → runs c [] ≡ []) (more : (c : C) (g : Given) (gs : List Given) → runs c (g ∷ gs) ≡ runAs c g ∷ runs (next c g) gs)
+    (call : List ℕ → Given → HostRan) (Kept : C → Type 0) (ran : (c : C) (g : Given) → Kept c → call (numbers c) g ≡ left (runAs c g))
+    (carries : (c : C) (g : Given) → Kept c → (left (runAs c g) .after ≡ numbers (next c g)) × Kept (next c g)) where
+  pub calls-from : (c : C) (gs : List Given) → Kept c → callsOf call (numbers c) gs ≡ map left (runs c gs)
+  unfolding callsOf
+  calls-from c [] k = sym (ap (map left) (none c))
+  calls-from c (g ∷ gs) k =
+      let q = carries c g k in
+      rw (ran c g k, more c g gs)
+      (ap (λ (rs : List HostRan). left (runAs c g) ∷ rs) (ap (λ (ys : List ℕ). callsOf call ys gs) (q .0) ∙ calls-from (next c g) gs (q .1)))
 
 -- ---- a loop, the machine's or the engine's, keeps the count of registers
 pub keeps-regs : {R : Type 0} (l : Loop ℕ R) (regs : R → List ℕ) → ((e : Ending) (k : ℕ) (s : State) → regs (l .ends e k s) ≡ s .regs)
@@ -38,27 +46,20 @@ keeps-regs l regs ends acts n k s =
     (λ _ j t i _. ap length (ends _ j t) ∙ i) (λ _ j t i _ w _. ap length (ends w j t) ∙ i) (λ _ j t i _ _. acts _ t ∙ i) n k s refl
 
 -- ---- what is carried on is the record that the run left
-carries : (lay : Layout) (ws : List ℕ) (c : Carried) (g : Given) (t : Bool) → fits lay (g .memory) ≡ t → (afterRun lay ws c g .machine ≡ runOn lay ws c g .outcome .machine) × (length (afterRun lay ws c g .machine .regs) ≡ length (c .machine .regs))
+carries : (lay : Layout) (ws : List ℕ) (c : Carried) (g : Given) (t : Bool) → fits lay (g .memory) ≡ t → (runOn lay ws c g .outcome .machine ≡ afterRun lay ws c g .machine) × (length (afterRun lay ws c g .machine .regs) ≡ length (c .machine .regs))
 unfolding afterRun afterTaken runOn runOf
 carries lay ws c g true e =
     rw e (refl, keeps-regs (machineLoop lay ws (g .readings)) (λ r. r .outcome .machine .regs) (λ _ _ _. refl) (apply-regs (lay .ceilings) (g .readings)) (g .budget) 0 (startOf (c .machine) (g .memory) (g .log)))
 carries lay ws c g false e = rw e (refl, refl)
 
--- a call is given the numbers of what is carried: it leaves those of the run
-call : (lay ws : List ℕ) (c : Carried) (g : Given) → length (c .machine .regs) ≡ registers
-    → runFor lay ws (machineTo (c .machine)) (g .memory) (g .budget) (g .readings) (g .log) ≡ ranTo (runOn (layoutFrom lay) ws c g)
-unfolding runFor runOn
-call lay ws c g n = rw (record-back (c .machine) n, after-known registers (c .machine .regs) (c .machine .pc) (c .machine .status) n)
-
-calls-from : (lay ws : List ℕ) (c : Carried) (gs : List Given) → length (c .machine .regs) ≡ registers → callsOf lay ws (machineTo (c .machine)) gs ≡ map (λ (r : Run). ranTo (r .ran)) (runsOf (layoutFrom lay) ws c gs)
-unfolding callsOf runsOf
-calls-from lay ws c [] n = refl
-calls-from lay ws c (g ∷ gs) n =
+calls-are : (lay ws : List ℕ) (c : Carried) (gs : List Given) → length (c .machine .regs) ≡ registers → callsOf (runCall lay ws) (machineTo (c .machine)) gs ≡ map (λ (r : Run). ranTo (r .ran)) (runsOf (layoutFrom lay) ws c gs)
+unfolding runFor runOn runsOf
+calls-are lay ws =
     let l = layoutFrom lay in
-    let q = carries l ws c g _ refl in
-    rw (call lay ws c g n)
-    (ap (λ (rs : List HostRan). ranTo (runOn l ws c g) ∷ rs)
-    (ap (λ (m : Machine). callsOf lay ws (machineTo m) gs) (sym (q .0)) ∙ calls-from lay ws (afterRun l ws c g) gs (q .1 ∙ n)))
+    calls-from (λ c. machineTo (c .machine)) (afterRun l ws) (runAs l ws) (λ r. ranTo (r .ran)) (runsOf l ws) (λ _. refl) (λ _ _ _. refl) (runCall lay ws)
+    (λ c. length (c .machine .regs) ≡ registers)
+    (λ c g. called machine-back (λ m. ranTo (runOf l ws m (g .memory) (g .budget) (g .readings) (g .log))) (c .machine))
+    (λ c g n. let q = carries l ws c g _ refl in (ap machineTo (q .0), q .1 ∙ n))
 
 -- ---- what stands ready is an installation's, of a list that passed
 record Stands (l : Layout) (pol : Policy) (mem ws xs left : List ℕ) : Type 0 where
@@ -85,8 +86,8 @@ host-isolation lay pol mem ws xs left gs ready lends =
     let s = stands ready in
     let m = installMachine l pol mem in
     let n : length (m .regs) ≡ registers = rw (machine-of l pol mem (s .taken)) in
-    let first : carriedOf (machineFrom xs) left [] [] 0 ≡ atFirst l pol mem = rw (s .machine, s .memory, record-back m n) in
+    let first : carriedOf (machineFrom xs) left [] [] 0 ≡ atFirst l pol mem = rw (s .machine, s .memory, machine-back .recordBack m n) in
     record {
-      calls = ap (λ (ys : List ℕ). callsOf lay ws ys gs) (s .machine) ∙ calls-from lay ws (atFirst l pol mem) gs n;
+      calls = ap (λ (ys : List ℕ). callsOf (runCall lay ws) ys gs) (s .machine) ∙ calls-are lay ws (atFirst l pol mem) gs n;
       isolated = isolation l pol ws mem gs (record { passed = s .passed; installed = s .taken; lends = subst (λ (c : Carried). Lends l ws c gs) first lends });
     }

@@ -7,13 +7,15 @@ use native.Mathlib.Numerals.{add-one}
 use native.Mathlib.Omega.{arith}
 use borrow.Author.Tests.{lt-ltb, le-ltb, ltb-true}
 use lib.Dec.{ltb}
-use lib.ListN.{length, getD, set, take, drop, replicate, take-append-drop, length-append, length-drop, length-replicate, replicate-append-replicate}
-use lib.Seq.{sets, drop-cons, length-take-le, take-all, take-at, drop-at, set-at, getD-at, getD-append-add}
+use lib.ListN.{length, getD, set, take, drop, take-append-drop, length-append, length-drop, length-set}
+use lib.Seq.{sets, length-sets, drop-cons, length-take-le, take-all, take-at, set-at, getD-at, getD-append-add}
 use Rattle.rules.specs.declared.Status.{Status}
 use Rattle.rules.specs.declared.Status.the-variants.{Running, Ended, Stopped, Faulted, Strayed}
 use Rattle.rules.proofs.Bools.{cond-ind}
 use Rattle.words_cells.proofs.Storing.{store-front, store-all}
-use Rattle.capi_numbers.specs.Numbers.{numbersFrom, statuses, statusFrom, statusNumber, recordTo, statusIn, statusKnown, numbersAfter}
+use Rattle.capi_numbers.specs.Numbers.{numbersFrom, statuses, statusFrom, statusNumber, behind, recordTo, statusIn, recordFrom, statusKnown, numbersAfter}
+use Rattle.capi_numbers.specs.Hosts.{HostRan, hostRan, hostLeft}
+use Rattle.capi_numbers.specs.Claims.{ComesBack}
 
 -- ---- arrays
 
@@ -47,52 +49,81 @@ number-known Strayed = refl
 
 -- ---- records of n registers
 
-module _ (n : ℕ) where
-  -- the first n of its numbers, stored over zeros
-  pub registers-of : (xs regs : List ℕ) → length xs ≡ n + 2 → regs ≡ sets (replicate n 0) 0 (take n xs) → regs ≡ take n xs
-  registers-of xs regs h e = e ∙ store-all (replicate n 0) (take n xs) (length-replicate n 0 ∙ sym (length-take-le n xs (omega arith)))
+module _ (n : ℕ) (xs : List ℕ) (l : length xs ≡ n + behind) where
+  last-two : drop n xs ≡ getD xs n 0 ∷ statusIn n xs ∷ []
+  last-two = sym (take-all behind (drop n xs) (simp length-drop (omega arith))) ∙ spelt behind n xs (omega arith) ∙ rw add-one
 
-  -- registers stored over zeros, then the two others
-  pub record-of : (xs regs : List ℕ) (at k : ℕ) (t : Status) → length regs ≡ n → xs ≡ sets (replicate (n + 2) 0) 0 regs → k ≡ statusNumber t → set (set xs n at) (suc n) k ≡ recordTo regs at t
-  record-of xs regs at k t h e q =
-      let room : length regs ≤ length (replicate {A = ℕ} (n + 2) 0) = omega (arith, length-replicate {A = ℕ} (n + 2) 0) in
-      let rest : drop {A = ℕ} n (replicate (n + 2) 0) ≡ 0 ∷ 0 ∷ [] = ap (drop n) (sym (replicate-append-replicate n 2 0)) ∙ drop-at (replicate n 0) (0 ∷ 0 ∷ []) n (length-replicate n 0) in
-      let one : xs ≡ regs ++ 0 ∷ 0 ∷ [] = e ∙ store-front _ regs room ∙ ap (λ (ys : List ℕ). regs ++ ys) (ap (λ (m : ℕ). drop {A = ℕ} m (replicate (n + 2) 0)) h ∙ rest) in
-      let two : set xs n at ≡ (regs ++ at ∷ []) ++ 0 ∷ [] = ap (λ (ys : List ℕ). set ys n at) one ∙ set-at regs 0 (0 ∷ []) at n h ∙ sym (append-assoc regs (at ∷ []) (0 ∷ [])) in
-      ap (λ (ys : List ℕ). set ys (suc n) k) two ∙ set-at (regs ++ at ∷ []) 0 [] k (suc n) (simp length-append (omega arith))
-      ∙ append-assoc regs (at ∷ []) (k ∷ []) ∙ ap (λ (m : ℕ). regs ++ at ∷ m ∷ []) q
+  -- registers stored, then the two others
+  stored : (regs : List ℕ) (at k : ℕ) → length regs ≡ n → set (set (sets xs 0 regs) n at) (n + 1) k ≡ regs ++ at ∷ k ∷ []
+  stored regs at k h =
+      let one : sets xs 0 regs ≡ regs ++ getD xs n 0 ∷ statusIn n xs ∷ [] = store-front xs regs (omega arith) ∙ ap (λ (ys : List ℕ). regs ++ ys) (ap (λ (m : ℕ). drop m xs) h ∙ last-two) in
+      let two : set (sets xs 0 regs) n at ≡ (regs ++ at ∷ []) ++ statusIn n xs ∷ [] = ap (λ (ys : List ℕ). set ys n at) one ∙ set-at regs _ _ at n h ∙ sym (append-assoc regs (at ∷ []) (statusIn n xs ∷ [])) in
+      ap (λ (ys : List ℕ). set ys (n + 1) k) two ∙ set-at (regs ++ at ∷ []) _ [] k (n + 1) (simp length-append (omega arith)) ∙ append-assoc regs (at ∷ []) (k ∷ [])
 
-  module _ (xs : List ℕ) where
-    pub is-status : (left r : List ℕ) → statusIn n xs < statuses → r ≡ left → r ≡ numbersAfter n xs left
-    is-status left r h e = e ∙ sym (ap (λ (b : Bool). cond b left xs) (lt-ltb _ _ h))
+-- reading and storing a record in numbers
+module _ (xs regs : List ℕ) (l : length xs ≡ length regs + behind) where
+  pub front : length regs ≡ length (take (length regs) xs)
+  front = sym (length-take-le (length regs) xs (omega arith))
 
-    pub no-status : (left : List ℕ) → statuses ≤ statusIn n xs → xs ≡ numbersAfter n xs left
-    no-status left h = sym (ap (λ (b : Bool). cond b left xs) (le-ltb _ _ h))
+  pub registers-of : (left : List ℕ) → left ≡ sets regs 0 (take (length regs) xs) → left ≡ take (length regs) xs
+  registers-of left e = e ∙ store-all regs (take (length regs) xs) front
 
-    -- numbers whose status is one are those of the record that they stand for
-    pub numbers-back : length xs ≡ n + 2 → statusKnown n xs ≡ true → recordTo (take n xs) (getD xs n 0) (statusFrom (statusIn n xs)) ≡ xs
-    numbers-back l h =
-        let last : drop n xs ≡ getD xs n 0 ∷ statusIn n xs ∷ [] =
-        sym (take-all 2 (drop n xs) (simp length-drop (omega arith))) ∙ spelt 2 n xs (omega arith) in
-        rw (status-back _ (ltb-true _ _ h), ← last) (take-append-drop n xs)
+  pub room : (ys : List ℕ) (at : ℕ) → ys ≡ sets xs 0 regs → length regs + 1 < length (set ys (length regs) at)
+  room ys at e = rw (length-set, e, length-sets) (omega arith)
 
-    -- so a run that leaves the record leaves its numbers
-    pub untouched-by : length xs ≡ n + 2 → numbersAfter n xs (recordTo (take n xs) (getD xs n 0) (statusFrom (statusIn n xs))) ≡ xs
-    untouched-by l = cond-ind (λ (ys : List ℕ). ys ≡ xs) (statusKnown n xs) (λ h. numbers-back l h) (λ _. refl)
+  pub is-status : (ys : List ℕ) (at k : ℕ) (t : Status) → statusIn (length regs) xs < statuses → ys ≡ sets xs 0 regs → k ≡ statusNumber t
+      → set (set ys (length regs) at) (length regs + 1) k ≡ numbersAfter (length regs) xs (recordTo regs at t)
+  is-status ys at k t h e q = rw (lt-ltb _ _ h, e, q) (stored (length regs) xs l regs at (statusNumber t) refl)
 
-  -- a record in numbers has its parts, and a status
-  module _ (regs : List ℕ) (at : ℕ) (t : Status) (h : length regs ≡ n) where
-    pub regs-again : take n (recordTo regs at t) ≡ regs
-    regs-again = take-at regs _ n h
+  pub no-status : (left : List ℕ) → statuses ≤ statusIn (length regs) xs → xs ≡ numbersAfter (length regs) xs left
+  no-status left h = rw (le-ltb _ _ h)
 
-    pub at-again : getD (recordTo regs at t) n 0 ≡ at
-    at-again = getD-at regs at _ 0 n h
+-- of a record with n registers
+module _ (n : ℕ) (xs regs : List ℕ) where
+  pub record-read : {R : Type 0} (make : List ℕ → ℕ → Status → R) (t : Status) → regs ≡ take n xs → t ≡ statusFrom (statusIn n xs) → make regs (getD xs n 0) t ≡ recordFrom make n xs
+  record-read make t e q = λ i. make (e i) (getD xs n 0) (q i)
 
-    number-again : statusIn n (recordTo regs at t) ≡ statusNumber t
-    number-again = rw (← h, ← add-one (length regs)) (getD-append-add regs (at ∷ statusNumber t ∷ []) 1 0)
+  pub record-left : (left : List ℕ) (at : ℕ) (t : Status) → length regs ≡ n → left ≡ numbersAfter (length regs) xs (recordTo regs at t) → left ≡ numbersAfter n xs (recordTo regs at t)
+  record-left left at t h e = e ∙ ap (λ (k : ℕ). numbersAfter k xs (recordTo regs at t)) h
 
-    pub status-of-record : statusFrom (statusIn n (recordTo regs at t)) ≡ t
-    status-of-record = ap statusFrom number-again ∙ status-again t
+module _ (n : ℕ) (xs : List ℕ) where
+  -- numbers whose status is one are those of the record that they stand for
+  numbers-back : length xs ≡ n + behind → statusKnown n xs ≡ true → recordFrom recordTo n xs ≡ xs
+  numbers-back l h = rw (status-back _ (ltb-true _ _ h), ← last-two n xs l) (take-append-drop n xs)
 
-    pub after-known : (left : List ℕ) → numbersAfter n (recordTo regs at t) left ≡ left
-    after-known left = rw (number-again, number-known t)
+  -- so a run that leaves the record leaves its numbers
+  untouched : length xs ≡ n + behind → numbersAfter n xs (recordFrom recordTo n xs) ≡ xs
+  untouched l = cond-ind (λ (ys : List ℕ). ys ≡ xs) (statusKnown n xs) (λ h. numbers-back l h) (λ _. refl)
+
+-- a record in numbers has its parts, and a status
+module _ (n : ℕ) (regs : List ℕ) (at : ℕ) (t : Status) (h : length regs ≡ n) where
+  number-again : statusIn n (recordTo regs at t) ≡ statusNumber t
+  number-again = rw (← h) (getD-append-add regs (at ∷ statusNumber t ∷ []) 1 0)
+
+  record-again : {R : Type 0} (make : List ℕ → ℕ → Status → R) → recordFrom make n (recordTo regs at t) ≡ make regs at t
+  record-again make =
+      let rest : List ℕ = statusNumber t ∷ [] in
+      λ i. make (take-at regs (at ∷ rest) n h i) (getD-at regs at rest 0 n h i) ((ap statusFrom number-again ∙ status-again t) i)
+
+  known : statusKnown n (recordTo regs at t) ≡ true
+  known = ap (λ (x : ℕ). ltb x statuses) number-again ∙ number-known t
+
+-- so a record that its maker makes again of its parts comes back
+module _ {R : Type 0} (n : ℕ) (make : List ℕ → ℕ → Status → R) (regs : R → List ℕ) (at : R → ℕ) (status : R → Status) where
+  abbrev to : R → List ℕ
+  to m = recordTo (regs m) (at m) (status m)
+
+  pub comes-back : ((m : R) → make (regs m) (at m) (status m) ≡ m) → ((rs : List ℕ) (k : ℕ) (t : Status) → to (make rs k t) ≡ recordTo rs k t) → ComesBack n regs (recordFrom make n) to
+  comes-back again parts =
+      record {
+        numbersBack = λ xs l h. parts _ _ _ ∙ numbers-back n xs l h;
+        recordBack = λ m h. record-again n (regs m) (at m) (status m) h make ∙ again m;
+        known = λ m h. known n (regs m) (at m) (status m) h;
+        untouched = λ xs left l e. ap (λ (m : R). numbersAfter n xs (to m)) e ∙ ap (numbersAfter n xs) (parts _ _ _) ∙ untouched n xs l;
+      }
+
+-- and a call with its numbers leaves what a run of it leaves
+pub called : {R : Type 0} {n : ℕ} {regs : R → List ℕ} {from : List ℕ → R} {to : R → List ℕ} → ComesBack n regs from to → (run : R → HostRan) (m : R) → length (regs m) ≡ n → hostLeft n (to m) (run (from (to m))) ≡ run m
+called {R} {n} {regs} {from} {to} b run m h =
+    let r = run (from (to m)) in
+    ap (λ (t : Bool). hostRan (r .answer) (cond t (r .after) (to m)) (r .memory) (r .log)) (b .known m h) ∙ ap run (b .recordBack m h)

@@ -21,7 +21,7 @@ use Rattle.rules.proofs.Bools.{no}
 use Rattle.capi_numbers.specs.Numbers.{layoutFrom}
 use Rattle.capi_numbers.specs.Hosts.{checkFor, installFor, loadFor, runFor}
 use Rattle.capi_numbers.specs.Claims.{callsOf, installed, loaded}
-use Rattle.capi_numbers.specs.Sample.{layout, bytes, lot, left, SampleHolds}
+use Rattle.capi_numbers.specs.Sample.{layout, bytes, left, SampleHolds}
 
 -- a store to a free cell
 free-set : (mem : List ℕ) (i x : ℕ) → (inBox (layoutFrom layout) i || protected (layoutFrom layout) i) ≡ false → Matches (layoutFrom layout) (set mem i x) mem

@@ -4,41 +4,40 @@ use mathlib.Core.Path.{_≡_}
 use mathlib.Core.Bool.{true}
 use mathlib.Core.List.{List, [], _∷_, map}
 use lib.ListN.{length, getD, take}
-use Rattle.rules.specs.declared.Machine.{Machine}
 use Rattle.rules.specs.Names.{registers}
 use Rattle.rules.specs.Policies.{Policy}
-use Rattle.rules.specs.Machines.{Ran}
 use Rattle.rules.specs.Runs.{Given, carriedOf, Lends, allRuns}
 use Rattle.rules.specs.Claims.{Isolated}
-use Rattle.capi_numbers.specs.Numbers.{layoutFrom, statusKnown, machineFrom, machineTo, recordAfter, runAnswerTo}
-use Rattle.capi_numbers.specs.Hosts.{checkFor, installFor, HostLoaded, loadFor, HostRan, hostRan, runFor}
+use Rattle.capi_numbers.specs.Numbers.{layoutFrom, behind, statusKnown, numbersAfter, machineFrom, machineTo}
+use Rattle.capi_numbers.specs.Hosts.{checkFor, installFor, HostLoaded, loadFor, HostRan, ranTo, runFor}
 
 -- ---- a record, in numbers and back
 
--- eighteen numbers whose status is one, made into a record, are again these numbers
-abbrev pub NumbersBack : Type 0
-NumbersBack = (xs : List ℕ) → length xs ≡ registers + 2 → statusKnown registers xs ≡ true → machineTo (machineFrom xs) ≡ xs
+-- a record of n registers, which `from` makes of its numbers and `to` puts into numbers, comes back as it was
+pub record ComesBack {R : Type 0} (n : ℕ) (regs : R → List ℕ) (from : List ℕ → R) (to : R → List ℕ) : Type 0 where
+  -- numbers whose status is one, made into a record, are again these numbers
+  pub numbersBack : (xs : List ℕ) → length xs ≡ n + behind → statusKnown n xs ≡ true → to (from xs) ≡ xs
+  -- a record of n registers, put into numbers, is again this record
+  pub recordBack : (m : R) → length (regs m) ≡ n → from (to m) ≡ m
+  -- and its status number is a status
+  pub known : (m : R) → length (regs m) ≡ n → statusKnown n (to m) ≡ true
+  -- so a run that leaves the record as it was, as a refused one does, leaves its numbers, those too whose status is none
+  pub untouched : (xs : List ℕ) (left : R) → length xs ≡ n + behind → left ≡ from xs → numbersAfter n xs (to left) ≡ xs
 
--- a record of sixteen registers, put into numbers, is again this record
-abbrev pub RecordBack : Type 0
-RecordBack = (m : Machine) → length (m .regs) ≡ registers → machineFrom (machineTo m) ≡ m
-
--- so a run that leaves the record as it was, as a refused one does, leaves its numbers, those too whose status is none
-abbrev pub Untouched : Type 0
-Untouched = (xs : List ℕ) (r : Ran) → length xs ≡ registers + 2 → r .outcome .machine ≡ machineFrom xs → recordAfter xs r ≡ xs
+-- the machine's, of sixteen registers
+abbrev pub MachineBack : Type 0
+MachineBack = ComesBack registers (λ m. m .regs) machineFrom machineTo
 
 -- ---- a list of calls
 
--- what calls of hemdroas_run leave, each given the record's numbers as loading, installing or the last call left them
-unfoldable pub callsOf : List ℕ → List ℕ → List ℕ → List Given → List HostRan
-callsOf lay ws xs [] = []
-callsOf lay ws xs (g ∷ gs) =
-    let r = runFor lay ws xs (g .memory) (g .budget) (g .readings) (g .log) in
-    r ∷ callsOf lay ws (r .after) gs
+-- what calls leave, each given the record's numbers as loading, installing or the last call left them
+unfoldable pub callsOf : (List ℕ → Given → HostRan) → List ℕ → List Given → List HostRan
+callsOf call xs [] = []
+callsOf call xs (g ∷ gs) = call xs g ∷ callsOf call (call xs g .after) gs
 
--- what a run answers and leaves, in numbers
-abbrev pub ranTo : Ran → HostRan
-ranTo r = hostRan (runAnswerTo (r .outcome .answer)) (machineTo (r .outcome .machine)) (r .mem) (r .log)
+-- a call of hemdroas_run
+abbrev pub runCall : List ℕ → List ℕ → List ℕ → Given → HostRan
+runCall lay ws xs g = runFor lay ws xs (g .memory) (g .budget) (g .readings) (g .log)
 
 -- an answer's number
 abbrev pub number : List ℕ → ℕ
@@ -59,7 +58,7 @@ pub data Ready (lay : List ℕ) (pol : Policy) (mem : List ℕ) : List ℕ → L
 -- from there calls of hemdroas_run, each with the layout's numbers, these commands, the record's numbers as the last call left them and a memory
 -- that is, but for free cells, what the last call left: the calls are the runs of which demand 3 speaks, and it holds of them
 pub record CallsIsolated (lay : List ℕ) (pol : Policy) (ws xs mem : List ℕ) (gs : List Given) : Type 0 where
-  pub calls : callsOf lay ws xs gs ≡ map (λ r. ranTo (r .ran)) (allRuns (layoutFrom lay) pol ws mem gs)
+  pub calls : callsOf (runCall lay ws) xs gs ≡ map (λ r. ranTo (r .ran)) (allRuns (layoutFrom lay) pol ws mem gs)
   pub isolated : Isolated (layoutFrom lay) pol ws mem gs
 
 abbrev pub HostIsolation : Type 0

@@ -2,11 +2,12 @@
 use Prim.Native.Nat.{ℕ}
 use mathlib.Core.List.{List}
 use lib.ListN.{length}
+use Rattle.rules.specs.Names.{registers}
 use Rattle.rules.specs.Policies.{Policy}
 use Rattle.rules.specs.Bundles.{checkAnswer}
-use Rattle.rules.specs.Machines.{installAnswer, installMachine, installMemory, runOf}
+use Rattle.rules.specs.Machines.{installAnswer, installMachine, installMemory, Ran, runOf}
 use Rattle.sandbox_rules.specs.Loading.{loadAnswer, loadMachine, loadCommands, loadMemory}
-use Rattle.capi_numbers.specs.Numbers.{layoutFrom, machineFrom, machineTo, recordAfter, answerTo, runAnswerTo}
+use Rattle.capi_numbers.specs.Numbers.{layoutFrom, numbersAfter, machineFrom, machineTo, answerTo, runAnswerTo}
 
 -- hemdroas_check: the answer
 unfoldable pub checkFor : List ℕ → List ℕ → List ℕ
@@ -52,10 +53,15 @@ pub record HostRan : Type 0 where
 abbrev pub hostRan : List ℕ → List ℕ → List ℕ → List ℕ → HostRan
 hostRan a x mem log = record { answer = a; after = x; memory = mem; log = log }
 
+-- after what a run answers and leaves, in numbers, a record of n registers whose status number is no status is as it was
+abbrev pub hostLeft : ℕ → List ℕ → HostRan → HostRan
+hostLeft n xs r = hostRan (r .answer) (numbersAfter n xs (r .after)) (r .memory) (r .log)
+
+abbrev pub ranTo : Ran → HostRan
+ranTo r = hostRan (runAnswerTo (r .outcome .answer)) (machineTo (r .outcome .machine)) (r .mem) (r .log)
+
 unfoldable pub runFor : List ℕ → List ℕ → List ℕ → List ℕ → ℕ → List ℕ → List ℕ → HostRan
-runFor lay ws xs mem budget rd log =
-    let r = runOf (layoutFrom lay) ws (machineFrom xs) mem budget rd log in
-    hostRan (runAnswerTo (r .outcome .answer)) (recordAfter xs r) (r .mem) (r .log)
+runFor lay ws xs mem budget rd log = hostLeft registers xs (ranTo (runOf (layoutFrom lay) ws (machineFrom xs) mem budget rd log))
 
 -- hemdroas_preview: the answer, the record and the log that hemdroas_run would leave; record and memory, as they were
 pub record HostPreviewed : Type 0 where

@@ -1,5 +1,5 @@
 -- The numbers in which a C host holds layouts and records.
-use Prim.Native.Nat.{ℕ, zero, suc}
+use Prim.Native.Nat.{ℕ, zero, suc, _+_}
 use mathlib.Core.Bool.{Bool, cond}
 use mathlib.Core.List.{List, [], _∷_, _++_}
 use lib.ListN.{getD, take}
@@ -12,7 +12,7 @@ use Rattle.rules.specs.declared.Status.{Status}
 use Rattle.rules.specs.declared.Status.the-variants.{Running, Ended, Stopped, Faulted, Strayed}
 use Rattle.rules.specs.Names.{orders, registers, endingNumber, first}
 use Rattle.rules.specs.Layouts.{layoutOf}
-use Rattle.rules.specs.Machines.{machineOf, Ran}
+use Rattle.rules.specs.Machines.{machineOf}
 
 -- n numbers from place i on
 abbrev pub numbersFrom : ℕ → ℕ → List ℕ → List ℕ
@@ -40,12 +40,19 @@ statusNumber Stopped = 2
 statusNumber Faulted = 3
 statusNumber Strayed = 4
 
--- a record of n registers, a machine's or an engine's: its registers, then pc or index, then status
+-- a record, a machine's or an engine's: its registers, and behind them two numbers, pc or index and status
+abbrev pub behind : ℕ
+behind = 2
+
 abbrev pub recordTo : List ℕ → ℕ → Status → List ℕ
 recordTo regs at t = regs ++ (at ∷ statusNumber t ∷ [])
 
+-- of one with n registers its status number, and the record that its maker makes of it
 abbrev pub statusIn : ℕ → List ℕ → ℕ
-statusIn n xs = getD xs (suc n) 0
+statusIn n xs = getD xs (n + 1) 0
+
+abbrev pub recordFrom : {R : Type 0} → (List ℕ → ℕ → Status → R) → ℕ → List ℕ → R
+recordFrom make n xs = make (take n xs) (getD xs n 0) (statusFrom (statusIn n xs))
 
 -- whether its status number is a status
 abbrev pub statusKnown : ℕ → List ℕ → Bool
@@ -57,13 +64,10 @@ numbersAfter n xs left = cond (statusKnown n xs) left xs
 
 -- the machine's
 abbrev pub machineFrom : List ℕ → Machine
-machineFrom xs = machineOf (take registers xs) (getD xs registers 0) (statusFrom (statusIn registers xs))
+machineFrom xs = recordFrom machineOf registers xs
 
 abbrev pub machineTo : Machine → List ℕ
 machineTo m = recordTo (m .regs) (m .pc) (m .status)
-
-abbrev pub recordAfter : List ℕ → Ran → List ℕ
-recordAfter xs r = numbersAfter registers xs (machineTo (r .outcome .machine))
 
 -- an answer as number and place; a run's as ending, steps, pairs and readings used
 abbrev pub answerTo : Answer → List ℕ

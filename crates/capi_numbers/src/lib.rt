@@ -5,8 +5,10 @@ use rules::PolicyNumbers;
 use rules::Status;
 use words_cells::store_cells;
 ghost use mathlib.Core.Path.{_≡_};
+ghost use Prim.Native.Nat.{_+_};
+ghost use lib.ListN.{length, take};
 ghost use Rattle.rules.specs.Names.{registers};
-ghost use Rattle.capi_numbers.specs.Numbers.{layoutFrom, statusFrom, statusNumber, machineFrom, machineTo, numbersAfter};
+ghost use Rattle.capi_numbers.specs.Numbers.{layoutFrom, statusFrom, statusNumber, behind, recordTo, statusIn, numbersAfter, machineFrom, machineTo};
 
 // How many numbers a layout has, the ceilings behind the others; an answer; a run's answer.
 const CEILINGS: usize = 8;
@@ -17,12 +19,10 @@ pub const ANSWER: usize = 2;
 
 pub const RUN_ANSWER: usize = 4;
 
-// Where pc and status stand in a record, after its registers, and how many numbers it has.
-const PC: usize = Machine::REGISTERS;
+// Behind its registers a record has pc or index, then its status.
+pub const BEHIND: usize = 2;
 
-const STATUS: usize = PC + 1;
-
-pub const RECORD: usize = STATUS + 1;
+pub const RECORD: usize = Machine::REGISTERS + BEHIND;
 
 // A layout.
 pub fn layout_of(xs: &[u32; LAYOUT]) -> Layout
@@ -44,10 +44,10 @@ pub fn layout_of(xs: &[u32; LAYOUT]) -> Layout
     )
 }
 
-pub const STATUSES: u32 = 5;
+const STATUSES: u32 = 5;
 
 // A status; any number above 4 counts as faulted.
-pub fn status_of(x: u32) -> Status
+fn status_of(x: u32) -> Status
     ensures { λ r. ⌜ r ≡ statusFrom x ⌝ }
 {
     match x {
@@ -59,7 +59,7 @@ pub fn status_of(x: u32) -> Status
     }
 }
 
-pub fn status_number(t: Status) -> u32
+fn status_number(t: Status) -> u32
     ensures { λ r. ⌜ r ≡ statusNumber t ⌝ }
 {
     match t {
@@ -71,39 +71,57 @@ pub fn status_number(t: Status) -> u32
     }
 }
 
+// Reads a record's numbers, a machine's or an engine's: its registers into those lent, and its status.
+pub fn read_record(xs: &[u32], regs: &mut [u32]) -> Status
+    requires { ⌜ length (now xs) ≡ length (now regs) + behind ⌝ }
+    ensures registers { λ _. ⌜ now (regs .exit) ≡ take (length (now (regs .entry))) (now (xs .entry)) ⌝ }
+    ensures status { λ r. ⌜ r ≡ statusFrom (statusIn (length (now (regs .entry))) (now (xs .entry))) ⌝ }
+{
+    let n = regs.len();
+    let last = n + 1;
+    store_cells(regs, 0, &xs[..n]);
+    status_of(xs[last])
+}
+
+// Stores a record's numbers after a run. One whose status number is no status was not run, and stays as it was.
+pub fn store_record(xs: &mut [u32], regs: &[u32], at: u32, status: Status)
+    requires { ⌜ length (now xs) ≡ length (now regs) + behind ⌝ }
+    ensures { λ _. ⌜ now (xs .exit) ≡ numbersAfter (length (now (regs .entry))) (now (xs .entry)) (recordTo (now (regs .entry)) at status) ⌝ }
+{
+    let n = regs.len();
+    let last = n + 1;
+    if xs[last] < STATUSES {
+        store_cells(xs, 0, regs);
+        xs[n] = at;
+        xs[last] = status_number(status);
+    }
+}
+
 // A record's machine.
 pub fn machine_of(xs: [u32; RECORD]) -> Machine
     ensures { λ r. ⌜ r ≡ machineFrom xs ⌝ }
 {
     let mut regs = [0u32; Machine::REGISTERS];
-    store_cells(&mut regs, 0, &xs[..Machine::REGISTERS]);
-    let status = status_of(xs[STATUS]);
+    let status = read_record(&xs, &mut regs);
     Machine {
         regs,
-        pc: xs[PC],
+        pc: xs[Machine::REGISTERS],
         status,
     }
 }
 
-// A machine's record.
-pub fn record_of(m: Machine) -> [u32; RECORD]
-    ensures { λ r. ⌜ r ≡ machineTo m ⌝ }
+// The record after a run that left this machine.
+pub fn record_after(m: Machine, mut xs: [u32; RECORD]) -> [u32; RECORD]
+    ensures { λ r. ⌜ r ≡ numbersAfter registers xs (machineTo m) ⌝ }
 {
-    let regs = m.regs;
-    let t = m.status;
-    let mut xs = [0u32; RECORD];
-    store_cells(&mut xs, 0, &regs);
-    xs[PC] = m.pc;
-    xs[STATUS] = status_number(t);
+    let status = m.status;
+    store_record(&mut xs, &m.regs, m.pc, status);
     xs
 }
 
-// The record after a run. One whose status number is no status was not run, and comes back as it was.
-pub fn record_after(m: Machine, xs: [u32; RECORD]) -> [u32; RECORD]
-    ensures { λ r. ⌜ r ≡ numbersAfter registers xs (machineTo m) ⌝ }
+// A machine's record, stored over zeros: their status is one, running.
+pub fn record_of(m: Machine) -> [u32; RECORD]
+    ensures { λ r. ⌜ r ≡ machineTo m ⌝ }
 {
-    if xs[STATUS] < STATUSES {
-        return record_of(m);
-    }
-    xs
+    record_after(m, [0u32; RECORD])
 }

@@ -1,6 +1,6 @@
 -- What runs and previews answer and leave, said of the numbers of a C host.
 use Prim.Native.Nat.{ℕ, _^_, _<_}
-use mathlib.Core.Path.{_≡_, sym, _∙_, ap, subst}
+use mathlib.Core.Path.{_≡_, sym, ap, subst}
 use mathlib.Core.List.{List}
 use native.Mathlib.Omega.{arith}
 use Rattle.rules.specs.declared.Layout.{Layout}
@@ -8,8 +8,8 @@ use Rattle.rules.specs.declared.Machine.{Machine}
 use Rattle.rules.specs.declared.Outcome.{Outcome}
 use Rattle.rules.specs.Names.{registers}
 use Rattle.rules.specs.Machines.{Ran, ranOf, runOf}
-use Rattle.capi_numbers.specs.Numbers.{layoutFrom, machineFrom, machineTo, numbersAfter, recordAfter, runAnswerTo}
-use Rattle.capi_numbers.specs.Hosts.{HostRan, hostRan, runFor, hostPreviewed, previewFor}
+use Rattle.capi_numbers.specs.Numbers.{layoutFrom, machineFrom, machineTo, numbersAfter, runAnswerTo}
+use Rattle.capi_numbers.specs.Hosts.{HostRan, hostRan, hostLeft, ranTo, runFor, hostPreviewed, previewFor}
 use Rattle.rules.proofs.Counts.{RunCounts, run-counts}
 use Rattle.machine_preview.proofs.Laws.{Previewed}
 
@@ -30,9 +30,7 @@ module _ (xs ms ws mem rd log log′ : List ℕ) (budget : ℕ) (l : Layout) (m 
   pub left : (mem′ ms′ ns : List ℕ) → ranOf o mem′ log′ ≡ runOf l ws m mem budget rd log → ms′ ≡ numbersAfter registers ms (machineTo (o .machine)) → ns ≡ runAnswerTo (o .answer)
       → hostRan ns ms′ mem′ log′ ≡ runFor xs ws ms mem budget rd log
   unfolding runFor
-  left mem′ ms′ ns q t u =
-      let host : Ran → HostRan = λ r. hostRan (runAnswerTo (r .outcome .answer)) (recordAfter ms r) (r .mem) (r .log) in
-      rw (t, u, ← e, ← p) (ap host q)
+  left mem′ ms′ ns q t u = rw (t, u, ← e, ← p) (ap (λ (r : Ran). hostLeft registers ms (ranTo r)) q)
 
   -- a preview leaves what a run would, but memory and record as they were
   pub looked : (ms′ ns : List ℕ) → Previewed l ws m mem budget rd log o log′ → ms′ ≡ numbersAfter registers ms (machineTo (o .machine)) → ns ≡ runAnswerTo (o .answer)

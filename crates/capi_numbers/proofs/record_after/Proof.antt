@@ -1,5 +1,5 @@
 use Rattle.rules.specs.Names.{registers}
-use Rattle.capi_numbers.proofs.Numbers.{is-status, no-status}
+use Rattle.capi_numbers.proofs.Numbers.{record-left}
 use borrow.Author.Needs.{needs}
 use Rattle.capi_numbers.proofs.record_after.Statement.{statement}
 use Rattle.capi_numbers.proofs.record_after.Tie as tie
@@ -10,5 +10,4 @@ record-after-spec =
     (tie.spec
     (λ c. search needs)
     (λ c κs. search needs)
-    (λ c. search (is-status registers, needs))
-    (λ c. search (no-status registers, needs)))
+    (λ c. search (record-left registers, needs)))
