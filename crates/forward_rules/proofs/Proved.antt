@@ -4,7 +4,7 @@ use Rattle.forward_rules.proofs.Bound.{bounded}
 use Rattle.forward_rules.proofs.Finish.{goes-on, finishes, finishes-in}
 use Rattle.forward_rules.proofs.Once.{finishes-at-once}
 use Rattle.forward_rules.proofs.Agree.{checks-agree, forward-written, forward-read, always-finish, finishes-resumed, finishes-served}
-use Rattle.forward_rules.proofs.Samples.{answers, reaches}
+use Rattle.forward_rules.proofs.Samples.{answers, reaches, stepwise-holds}
 
 pub proved : Proved
 proved =
@@ -22,4 +22,5 @@ proved =
       finishesServed = finishes-served;
       answers = answers;
       reaches = reaches;
+      stepwise = stepwise-holds;
     }

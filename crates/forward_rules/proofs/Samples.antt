@@ -1,5 +1,7 @@
 -- The samples, by computation.
 use mathlib.Core.Path.{_≡_, refl}
+use mathlib.Core.Bool.{Bool}
+use mathlib.Core.List.{List, [], _∷_}
 use lib.Count.{ones, leadingZeros}
 use lib.Dec.{lit≤}
 use Rattle.rules.specs.Layouts.{rightLayout}
@@ -9,9 +11,10 @@ use Rattle.rules.specs.Words.{judgeOf, judgeAt, firstRefused, instrOf, routine,
 use Rattle.rules.specs.Commands.{isCommand, commandOf, wordOf, fetchOf, plainOf}
 use Rattle.rules.specs.Bundles.{shapeOf, valid, readOff, bundleAt, isBundle, shapedAt, passesAt, checkFrom, checkAnswer, placeAnswer, rewriteAnswer}
 use Rattle.rules.specs.Machines.{installAnswer, installMemory, installMachine, effectOf, applyOf, runFrom, runOf}
-use Rattle.rules.specs.Runs.{runOn, afterTaken, afterRun, runsOf, Served}
+use Rattle.rules.specs.Runs.{Carried, atFirst, runOn, afterTaken, afterRun, runsOf, Lends, Served}
+use Rattle.rules.proofs.Bools.{no}
 use Rattle.forward_rules.specs.Forward.{forwardAt, forwardFrom, forwardAnswer, checkForwardAnswer}
-use Rattle.forward_rules.specs.Sample.{layout, policy, commands, memory, runs, Answers, Reaches}
+use Rattle.forward_rules.specs.Sample.{layout, policy, commands, memory, runs, Answers, Reaches, shortCommands, oneStep, oneStepEach, fourthAlone, stepwise, Stepwise}
 
 pub answers : Answers
 unfolding ones leadingZeros rightLayout judgeOf judgeAt firstRefused instrOf routine bundlesFor wordOf shapeOf valid readOff bundleAt isBundle shapedAt passesAt checkFrom checkAnswer forwardAt forwardFrom forwardAnswer checkForwardAnswer
@@ -37,4 +40,31 @@ reaches =
       paid = lit≤ tt;
       answers = refl;
       reached = refl;
+    }
+
+-- each run of one step is lent what the last one left
+lends : (c : Carried) (bs : List Bool) → Lends layout shortCommands c (oneStepEach c bs)
+lends c [] = tt
+lends c (b ∷ bs) = (λ l i s. refl, lends (afterRun layout shortCommands c (oneStep (c .memory) b)) bs)
+
+short-passed : checkAnswer layout shortCommands .number ≡ 0
+unfolding ones leadingZeros rightLayout instrOf routine bundlesFor wordOf shapeOf valid readOff bundleAt isBundle shapedAt passesAt checkFrom checkAnswer
+short-passed = refl
+
+short-served : Served layout policy shortCommands memory stepwise
+unfolding ones rightLayout rightPolicy rightLandings installAnswer
+short-served = record { passed = short-passed; installed = refl; lends = lends (atFirst layout policy memory) fourthAlone }
+
+pub stepwise-holds : Stepwise
+unfolding ones leadingZeros rightLayout rightPolicy rightLandings landingsOf judgeOf judgeAt firstRefused instrOf routine bundlesFor wordOf shapeOf isCommand commandOf fetchOf plainOf installAnswer installMemory installMachine effectOf applyOf runFrom runOf runOn afterTaken afterRun runsOf placeAnswer rewriteAnswer forwardAt forwardFrom forwardAnswer
+stepwise-holds =
+    record {
+      rewritten = refl;
+      forward = refl;
+      served = short-served;
+      resumed = (λ e. no e, (λ e. no e, (λ e. no e, (λ e. record { memory = refl; log = lit≤ tt; readings = lit≤ tt }, (λ e. no e, (λ e. no e, (λ e. no e, (λ e. no e, (λ e. no e, (λ e. no e, tt))))))))));
+      memories = (refl, (refl, (refl, (refl, (refl, (refl, (refl, (refl, (refl, (refl, tt))))))))));
+      budgets = (lit≤ tt, (lit≤ tt, (lit≤ tt, (lit≤ tt, (lit≤ tt, (lit≤ tt, (lit≤ tt, (lit≤ tt, (lit≤ tt, (lit≤ tt, tt))))))))));
+      enough = lit≤ tt;
+      answers = refl;
     }

@@ -1,6 +1,6 @@
 -- Every claim of this crate, a field each: its one term is `proved`, in proofs/Proved.antt.
 use Rattle.forward_rules.specs.Claims.{ChecksAgree, ForwardWritten, ForwardRead, Bounded, GoesOn, Finishes, FinishesIn, FinishesAtOnce, AlwaysFinish, FinishesResumed, FinishesServed}
-use Rattle.forward_rules.specs.Sample.{Answers, Reaches}
+use Rattle.forward_rules.specs.Sample.{Answers, Reaches, Stepwise}
 
 pub record Proved : Type 0 where
   pub checksAgree : ChecksAgree
@@ -16,3 +16,4 @@ pub record Proved : Type 0 where
   pub finishesServed : FinishesServed
   pub answers : Answers
   pub reaches : Reaches
+  pub stepwise : Stepwise

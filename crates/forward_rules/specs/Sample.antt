@@ -1,21 +1,22 @@
 -- Samples: answers of the two checks, and a routine on the premises of Bounded and AlwaysFinish that pauses once and reaches the bound.
-use Prim.Native.Nat.{ℕ, _≤_}
+use Prim.Native.Nat.{ℕ, _*_, _≤_}
 use mathlib.Core.Path.{_≡_}
+use mathlib.Core.Bool.{Bool, true, false, cond}
 use mathlib.Core.List.{List, [], _∷_, map}
-use lib.ListN.{set, replicate}
+use lib.ListN.{length, set, replicate}
 use Rattle.rules.specs.declared.Layout.{Layout}
-use Rattle.rules.specs.declared.Ending.the-variants.{Done, LogFull}
+use Rattle.rules.specs.declared.Ending.the-variants.{Done, LogFull, Spent}
 use Rattle.rules.specs.Names.{answer}
 use Rattle.rules.specs.Layouts.{layoutOf}
 use Rattle.samples.specs.Tray.{noLimits}
 use Rattle.rules.specs.Policies.{Policy, policyOf}
-use Rattle.rules.specs.Words.{packOf}
+use Rattle.rules.specs.Words.{packOf, bundlesFor}
 use Rattle.rules.specs.Bundles.{commandsOf, rewriteAnswer}
 use Rattle.rules.specs.Machines.{installMemory, runAnswer}
-use Rattle.rules.specs.Runs.{Given, atFirst, afterRun, Run, Served, allRuns}
+use Rattle.rules.specs.Runs.{Given, Carried, atFirst, afterRun, Run, Served, allRuns}
 use Rattle.rules.specs.Claims.{Every}
 use Rattle.forward_rules.specs.Forward.{forwardAnswer, checkForwardAnswer}
-use Rattle.forward_rules.specs.Claims.{mostSteps, stepsIn, Resumed, paidIn}
+use Rattle.forward_rules.specs.Claims.{mostSteps, stepsIn, Resumed, ResumedAfter, paidIn}
 
 -- SET r0, 70; always to instruction v; GOX on r0; order v
 abbrev pub plain : ℕ
@@ -87,3 +88,38 @@ pub record Reaches : Type 0 where
   pub paid : mostSteps 4 ≤ paidIn (allRuns layout policy commands memory runs)
   pub answers : map (λ (r : Run). r .ran .outcome .answer) (allRuns layout policy commands memory runs) ≡ runAnswer LogFull 6 1 0 ∷ runAnswer Done 7 1 0 ∷ []
   pub reached : stepsIn (allRuns layout policy commands memory runs) ≡ mostSteps 4
+
+-- one order: N is 2, and five steps are the most
+abbrev pub short : List ℕ
+short = order 0 ∷ []
+
+abbrev pub shortCommands : List ℕ
+shortCommands = commandsOf layout short
+
+-- runs of one step each, lent the memory that the last one left; where `true` stands with a free pair and a reading, else with none
+abbrev pub oneStep : List ℕ → Bool → Given
+oneStep mem b = record { memory = mem; budget = 1; readings = cond b (1800 ∷ []) []; log = cond b (0 ∷ 0 ∷ []) [] }
+
+abbrev pub oneStepEach : Carried → List Bool → List Given
+oneStepEach c [] = []
+oneStepEach c (b ∷ bs) = oneStep (c .memory) b ∷ oneStepEach (afterRun layout shortCommands c (oneStep (c .memory) b)) bs
+
+-- the third pauses and the fourth resumes it; the sixth ends, and four more come after it
+abbrev pub fourthAlone : List Bool
+fourthAlone = false ∷ false ∷ false ∷ true ∷ replicate 6 false
+
+abbrev pub stepwise : List Given
+stepwise = oneStepEach (atFirst layout policy memory) fourthAlone
+
+-- the premises of FinishesResumed
+pub record Stepwise : Type 0 where
+  pub rewritten : rewriteAnswer layout short 8 ≡ answer 0 8
+  pub forward : forwardAnswer short ≡ answer 0 0
+  pub served : Served layout policy shortCommands memory stepwise
+  pub resumed : ResumedAfter layout false (allRuns layout policy shortCommands memory stepwise)
+  pub memories : Every (λ (g : Given). length (g .memory) ≡ layout .size) stepwise
+  pub budgets : Every (λ (g : Given). 1 ≤ g .budget) stepwise
+  pub enough : 2 * mostSteps (bundlesFor (length short)) ≤ length stepwise
+  pub answers :
+      map (λ (r : Run). r .ran .outcome .answer) (allRuns layout policy shortCommands memory stepwise)
+      ≡ runAnswer Spent 1 0 0 ∷ runAnswer Spent 1 0 0 ∷ runAnswer LogFull 0 0 0 ∷ runAnswer Spent 1 1 0 ∷ runAnswer Spent 1 0 0 ∷ runAnswer Done 1 0 0 ∷ replicate 4 (runAnswer Done 0 0 0)
