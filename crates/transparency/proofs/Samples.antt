@@ -1,10 +1,12 @@
 -- The premises can be met, and the definitions compute.
-use Prim.Native.Nat.{ℕ, zero, suc, _<_}
-use mathlib.Core.Path.{_≡_, refl}
-use mathlib.Core.List.{[], _∷_}
+use Prim.Native.Nat.{ℕ, zero, suc, _<_, _≤_}
+use mathlib.Core.Path.{_≡_, refl, ap}
+use mathlib.Core.List.{List, [], _∷_}
 use native.Mathlib.Omega.{arith}
 use lib.Count.{ones, leadingZeros}
-use Rattle.rules.specs.declared.Status.the-variants.{Running}
+use lib.Dec.{lit<, lit≤}
+use lib.ListN.{getD}
+use Rattle.rules.specs.declared.Status.the-variants.{Running, Ended}
 use Rattle.rules.specs.Layouts.{rightLayout, inBox}
 use Rattle.rules.specs.Policies.{rightPolicy}
 use Rattle.rules.specs.Landings.{rightLandings, bitsFrom, landingsOf, marked}
@@ -12,19 +14,25 @@ use Rattle.rules.specs.Words.{judgeOf, judgeAt, firstRefused, instrOf, routine,
 use Rattle.rules.specs.Commands.{isCommand, commandOf, wordOf, fetchOf, plainOf}
 use Rattle.rules.specs.Bundles.{shapeOf, valid, readOff, bundleAt, isBundle, shapedAt, passesAt, checkFrom, checkAnswer, placeAnswer, rewriteAnswer}
 use Rattle.rules.specs.Machines.{landsAt, installAnswer, installMemory, installMachine, effectOf, applyOf, runFrom, runOf}
-use Rattle.rules.specs.Runs.{begins, begunFrom, runOn, afterTaken, afterRun, afterRuns, Served}
+use Rattle.rules.specs.Runs.{Given, begins, begunFrom, runOn, afterTaken, afterRun, afterRuns, after, Served}
+use Rattle.rules.specs.Claims.{Waiting}
 use Rattle.samples.specs.Sample.{layout}
-use lib.Dec.{lit<}
+use Rattle.engine_rules.specs.Engines.{sendOf, actOf, nextFor, movedOf, effectOn, runFrom as engineFrom, refusalOf, refusalBy, runOf as engineRunOf}
+use Rattle.engine_rules.specs.Claims.{runOn as engineOn, afterTaken as engineTaken, afterRun as engineRun, afterRuns as engineRuns, after as engineAfter}
 use Rattle.transparency.specs.Raw.{rawSent, rawDo, rawStep, rawAfter, Behaves}
-use Rattle.transparency.specs.Sample.{policy, code, commands, memory, readings, run, rawAt, SampleHolds}
+use Rattle.transparency.specs.Claims.{Begins, Behaved}
+use Rattle.transparency.specs.Sample.{policy, code, commands, memory, readings, run, pausedRun, rawAt, SampleHolds}
 
 passed : checkAnswer layout commands .number ≡ 0
 unfolding ones leadingZeros rightLayout instrOf routine bundlesFor wordOf shapeOf valid readOff bundleAt isBundle shapedAt passesAt checkFrom checkAnswer
 passed = refl
 
-served : Served layout policy commands memory (run ∷ [])
+installed : installAnswer layout policy memory .number ≡ 0
 unfolding ones rightLayout rightPolicy rightLandings installAnswer
-served = record { passed = passed; installed = refl; lends = (λ l i s. refl, tt) }
+installed = refl
+
+served : (g : Given) → g .memory ≡ installMemory layout policy memory → Served layout policy commands memory (g ∷ [])
+served g e = record { passed = passed; installed = installed; lends = (λ l i s. ap (λ (m : List ℕ). getD m i 0) e, tt) }
 
 behaves : (j : ℕ) → j < 8 → rawAt j .status ≡ Running → Behaves layout policy 16 (routine code (rawAt j .at)) (rawAt j)
 unfolding instrOf routine plainOf rawSent rawDo rawStep rawAfter inBox
@@ -38,18 +46,63 @@ behaves (suc (suc (suc (suc (suc (suc zero)))))) h t = λ z. omega (arith, z)
 behaves (suc (suc (suc (suc (suc (suc (suc zero))))))) h t = tt
 behaves (suc (suc (suc (suc (suc (suc (suc (suc j)))))))) h t = absurd (omega (arith, h))
 
-pub sample-holds : SampleHolds
-unfolding ones leadingZeros rightLayout rightPolicy rightLandings bitsFrom landingsOf marked judgeOf judgeAt firstRefused instrOf routine bundlesFor wordOf shapeOf isCommand commandOf fetchOf plainOf placeAnswer rewriteAnswer landsAt installAnswer installMemory installMachine effectOf applyOf runFrom runOf begins begunFrom runOn afterTaken afterRun afterRuns rawSent rawDo rawStep rawAfter
-sample-holds =
+-- of the first k instructions, where the runs used no reading but the first
+behaved : (us : List ℕ) (k : ℕ) → k ≤ 8 → Begins us readings → Behaved layout policy code memory memory us readings k
+unfolding leadingZeros bundlesFor
+behaved us k l b = record { box = record { room = lit< tt; cells = λ i h. refl }; readings = b; behaves = λ j m. behaves j (omega (arith, l, m)) }
+
+rewritten : rewriteAnswer layout code 64 .number ≡ 0
+unfolding ones leadingZeros rightLayout judgeOf judgeAt firstRefused bundlesFor placeAnswer rewriteAnswer
+rewritten = refl
+
+-- the machine, to its end and to the pause
+record MachineHolds : Type 0 where
+  begun : after layout policy commands memory (run ∷ []) .begun ≡ 8
+  over : after layout policy commands memory (run ∷ []) .machine .status ≡ Ended
+  used : Begins (after layout policy commands memory (run ∷ []) .consumed) readings
+  pausedBegun : after layout policy commands memory (pausedRun ∷ []) .begun ≡ 7
+  waiting : Waiting layout commands (after layout policy commands memory (pausedRun ∷ []) .machine)
+  pausedUsed : Begins (after layout policy commands memory (pausedRun ∷ []) .consumed) readings
+
+machine-holds : MachineHolds
+unfolding ones leadingZeros rightLayout rightPolicy rightLandings bitsFrom landingsOf marked instrOf routine bundlesFor wordOf shapeOf readOff bundleAt isCommand commandOf fetchOf plainOf landsAt installAnswer installMemory installMachine effectOf applyOf runFrom runOf begins begunFrom runOn afterTaken afterRun afterRuns
+machine-holds =
     record {
-      caged =
-          record {
-            taken = refl;
-            served = served;
-            behaved = record { box = record { room = lit< tt; cells = λ i h. refl }; readings = λ i h. refl; behaves = behaves };
-          };
       begun = refl;
       over = refl;
+      used = λ i h. refl;
+      pausedBegun = refl;
+      waiting = record { running = refl; event = 8; third = refl };
+      pausedUsed = λ i h. absurd (omega (arith, h));
+    }
+
+-- and the engine
+record EngineHolds : Type 0 where
+  taken : refusalOf layout code memory .number ≡ 0
+  counted : engineAfter layout policy code memory (run ∷ []) .counted ≡ 8
+  over : engineAfter layout policy code memory (run ∷ []) .engine .status ≡ Ended
+  used : Begins (engineAfter layout policy code memory (run ∷ []) .consumed) readings
+
+engine-holds : EngineHolds
+unfolding ones leadingZeros rightLayout rightPolicy rightLandings bitsFrom landingsOf marked judgeOf judgeAt firstRefused instrOf routine bundlesFor plainOf installAnswer installMemory applyOf sendOf actOf nextFor movedOf effectOn engineFrom refusalBy engineRunOf engineOn engineTaken engineRun engineRuns
+engine-holds = record { taken = refl; counted = refl; over = refl; used = λ i h. refl }
+
+pub sample-holds : SampleHolds
+unfolding instrOf routine plainOf rawSent rawDo rawStep rawAfter
+sample-holds =
+    let m = machine-holds in
+    let e = engine-holds in
+    record {
+      caged = record { taken = rewritten; served = served run refl; behaved = behaved _ 8 (lit≤ tt) (m .used) };
+      begun = m .begun;
+      over = m .over;
       recorded = refl;
       ended = refl;
+      pausedCaged = record { taken = rewritten; served = served pausedRun refl; behaved = behaved _ 6 (lit≤ tt) (m .pausedUsed) };
+      pausedBegun = m .pausedBegun;
+      waiting = m .waiting;
+      engineServed = record { taken = e .taken; installed = installed; lends = (λ l i s. refl, tt) };
+      engineBehaved = behaved _ 8 (lit≤ tt) (e .used);
+      counted = e .counted;
+      engineOver = e .over;
     }

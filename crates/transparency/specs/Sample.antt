@@ -5,14 +5,16 @@ use mathlib.Core.List.{List, [], _∷_, _++_}
 use lib.ListN.{replicate}
 use Rattle.rules.specs.declared.Status.the-variants.{Ended}
 use Rattle.rules.specs.Policies.{Policy, policyOf}
-use Rattle.rules.specs.Words.{packOf, routine}
+use Rattle.rules.specs.Words.{packOf}
 use Rattle.rules.specs.Bundles.{commandsOf}
 use Rattle.rules.specs.Machines.{installMemory}
 use Rattle.rules.specs.Guests.{pairOf}
 use Rattle.rules.specs.Runs.{Given, after}
+use Rattle.rules.specs.Claims.{Waiting}
 use Rattle.samples.specs.Sample.{layout}
+use Rattle.engine_rules.specs.Claims.{Served as EngineServed, after as engineAfter}
 use Rattle.transparency.specs.Raw.{Raw, rawRun}
-use Rattle.transparency.specs.Claims.{Caged}
+use Rattle.transparency.specs.Claims.{Behaved, Caged}
 
 -- the policy of `samples`, with instruction 6 as the one landing
 abbrev pub policy : Policy
@@ -40,10 +42,22 @@ run = record { memory = installMemory layout policy memory; budget = 1000; readi
 abbrev pub rawAt : ℕ → Raw
 rawAt k = rawRun layout code memory readings k
 
--- the premises of Undisturbed can be met: the caged run comes to its end after eight bundles, and the raw one after eight instructions
+-- with a log of one pair the second event is waited for
+abbrev pub pausedRun : Given
+pausedRun = record { memory = installMemory layout policy memory; budget = 1000; readings = readings; log = replicate 2 0 }
+
+-- the premises of Undisturbed can be met: the caged run comes to its end after eight bundles, and the raw one after eight instructions;
+-- so can those of UndisturbedPaused, with the seventh bundle begun, and of EngineUndisturbed
 pub record SampleHolds : Type 0 where
   pub caged : Caged layout policy code memory memory readings 64 (run ∷ []) 8
   pub begun : after layout policy commands memory (run ∷ []) .begun ≡ 8
   pub over : after layout policy commands memory (run ∷ []) .machine .status ≡ Ended
   pub recorded : rawAt 8 .records ≡ pairOf 0 6 ∷ pairOf 8 1800 ∷ []
   pub ended : rawAt 8 .status ≡ Ended
+  pub pausedCaged : Caged layout policy code memory memory readings 64 (pausedRun ∷ []) 6
+  pub pausedBegun : after layout policy commands memory (pausedRun ∷ []) .begun ≡ 7
+  pub waiting : Waiting layout commands (after layout policy commands memory (pausedRun ∷ []) .machine)
+  pub engineServed : EngineServed layout policy code memory (run ∷ [])
+  pub engineBehaved : Behaved layout policy code memory memory (engineAfter layout policy code memory (run ∷ []) .consumed) readings 8
+  pub counted : engineAfter layout policy code memory (run ∷ []) .counted ≡ 8
+  pub engineOver : engineAfter layout policy code memory (run ∷ []) .engine .status ≡ Ended
