@@ -1,6 +1,6 @@
 -- Laws of loading, one for each way out of the code.
 use Prim.Native.Nat.{ℕ, _≤_}
-use mathlib.Core.Path.{_≡_, refl, sym, ap, _∙_}
+use mathlib.Core.Path.{_≡_, refl, ap, _∙_}
 use mathlib.Core.List.{List, _++_}
 use native.Mathlib.Omega.{arith}
 use lib.ListN.{length, take, drop, length-append}
@@ -10,16 +10,13 @@ use Rattle.rules.specs.declared.Layout.{Layout}
 use Rattle.rules.specs.declared.Machine.{Machine}
 use Rattle.rules.specs.declared.Answer.{Answer}
 use Rattle.rules.specs.declared.Installed.{Installed}
-use Rattle.rules.specs.Names.{mostInstructions, answer, orElse}
+use Rattle.rules.specs.Names.{answer, orElse}
 use Rattle.rules.specs.Policies.{Policy}
-use Rattle.rules.specs.Bytes.{wordsIn, readAnswer}
-use Rattle.rules.specs.Bundles.{commandsOf, commandCount, rewriteAnswer, checkAnswer}
 use Rattle.rules.specs.Machines.{machineRefused, installAnswer, installMemory, installMachine, installOf}
-use Rattle.sandbox_rules.specs.Loading.{loadAnswer, loadCommands, loadMemory, loadMachine, loadOf}
-use Rattle.sandbox_translating.specs.Translating.{translateAnswer, Listed}
+use Rattle.sandbox_rules.specs.Loading.{translateAnswer, loadAnswer, loadCommands, loadMemory, loadMachine, loadOf}
+use Rattle.sandbox_translating.specs.Translating.{Listed}
 use Rattle.words_cells.proofs.Storing.{store-front}
 use Rattle.rules.proofs.Refusals.{else-next, else-kept}
-use Rattle.sandbox_translating.proofs.Elses.{else-three, else-twice}
 
 module _ (lay : Layout) (pol : Policy) (s out mem : List ℕ) where
   abbrev installs : Answer
@@ -30,14 +27,8 @@ module _ (lay : Layout) (pol : Policy) (s out mem : List ℕ) where
 
   -- a loaded routine has the answer that translating gave
   loads-are : (a : Answer) → a ≡ translateAnswer lay s (length out) → loads ≡ orElse a (orElse installs a)
-  unfolding loadAnswer translateAnswer
-  loads-are a e =
-      let R = readAnswer s mostInstructions in
-      let W = rewriteAnswer lay (wordsIn s) (length out) in
-      let C = checkAnswer lay (commandsOf lay (wordsIn s)) in
-      let d = answer 0 (commandCount (length (wordsIn s))) in
-      let a-is : a ≡ orElse (orElse R (orElse W C)) d = e ∙ else-three R W C d in
-      else-three R W C (orElse installs d) ∙ rw a-is (sym (else-twice (orElse R (orElse W C)) d installs refl))
+  unfolding loadAnswer
+  loads-are a e = rw (← e)
 
   module _ (a : Answer) (e : a ≡ translateAnswer lay s (length out)) where
     -- what a caller learns of the record, the commands and the memory

@@ -17,7 +17,7 @@ use Rattle.rules.specs.Runs.{Carried, atFirst, Lends}
 use Rattle.rules.proofs.Refusals.{else-next, else-none, output-start}
 use Rattle.rules.proofs.Counts.{Bounded, or-else, read-bound, rewrite-bound, rewrite-taken, check-bound, install-bound, length-commands}
 use Rattle.rules.proofs.Isolation.{isolation}
-use Rattle.sandbox_rules.specs.Loading.{loadAnswer, loadCommands, loadMemory, loadMachine}
+use Rattle.sandbox_rules.specs.Loading.{translateAnswer, loadAnswer, loadCommands, loadMemory, loadMachine}
 use Rattle.sandbox_rules.specs.Claims.{loadedAt, Loads}
 
 module _ (lay : Layout) (pol : Policy) (bytes : List ℕ) (room : ℕ) (mem : List ℕ) (z : loadAnswer lay pol bytes room mem .number ≡ 0) where
@@ -29,17 +29,19 @@ module _ (lay : Layout) (pol : Policy) (bytes : List ℕ) (room : ℕ) (mem : Li
     whole : loadAnswer lay pol bytes room mem ≡ answer 0 (commandCount (length (wordsIn bytes)))
 
   parts : Parts
-  unfolding loadAnswer
+  unfolding translateAnswer loadAnswer
   parts =
-      let r = else-none (readAnswer bytes mostInstructions) _ z in
+      let a = translateAnswer lay bytes room in
+      let t = else-none a _ z in
+      let i = else-none (installAnswer lay pol mem) a (t .1) in
+      let r = else-none (readAnswer bytes mostInstructions) _ (t .0) in
       let w = else-none (rewriteAnswer lay (wordsIn bytes) room) _ (r .1) in
       let c = else-none (checkAnswer lay (commandsOf lay (wordsIn bytes))) _ (w .1) in
-      let i = else-none (installAnswer lay pol mem) _ (c .1) in
       record {
         rewritten = w .0;
         passed = c .0;
         installed = i .0;
-        whole = else-next _ _ (r .0) ∙ else-next _ _ (w .0) ∙ else-next _ _ (c .0) ∙ else-next _ _ (i .0);
+        whole = else-next a _ (t .0) ∙ else-next _ a (i .0) ∙ else-next _ _ (r .0) ∙ else-next _ _ (w .0) ∙ else-next _ _ (c .0);
       }
 
   first : loadedAt lay pol bytes room mem ≡ atFirst lay pol mem
@@ -72,14 +74,20 @@ loads lay pol bytes out mem z =
     }
 
 -- the number fits a byte, and the place is at most the commands that there can be
-pub load-bound : (lay : Layout) (pol : Policy) (s : List ℕ) (room : ℕ) (mem : List ℕ) → Bounded mostCommands room (loadAnswer lay pol s room mem)
-unfolding loadAnswer
-load-bound lay pol s room mem =
+translate-bound : (lay : Layout) (s : List ℕ) (room : ℕ) → Bounded mostCommands room (translateAnswer lay s room)
+unfolding translateAnswer
+translate-bound lay s room =
     let ws = wordsIn s in
     let b = rewrite-bound lay ws room in
     or-else _ _ (readAnswer s mostInstructions) _ (read-bound s _ .number) (omega (arith, read-bound s mostInstructions .place))
     (λ _. or-else _ _ (rewriteAnswer lay ws room) _ (b .number) (b .place)
     (λ z. let e : commandCount (length ws) ≡ rewriteAnswer lay ws room .place = ap (λ (x : Answer). x .place) (sym (rewrite-taken lay ws room z)) in
     or-else _ _ (checkAnswer lay (commandsOf lay ws)) _ (check-bound lay _ .number) (omega (arith, check-bound lay (commandsOf lay ws) .place))
-    (λ _. or-else _ _ (installAnswer lay pol mem) _ (install-bound lay pol mem .number) (omega (arith, install-bound lay pol mem .place))
-    (λ _. record { number = lit< tt; place = omega (arith, b .place); taken = λ _. omega (arith, b .taken z) }))))
+    (λ _. record { number = lit< tt; place = omega (arith, b .place); taken = λ _. omega (arith, b .taken z) })))
+
+pub load-bound : (lay : Layout) (pol : Policy) (s : List ℕ) (room : ℕ) (mem : List ℕ) → Bounded mostCommands room (loadAnswer lay pol s room mem)
+unfolding loadAnswer
+load-bound lay pol s room mem =
+    let t = translate-bound lay s room in
+    or-else _ _ (translateAnswer lay s room) _ (t .number) (t .place)
+    (λ _. or-else _ _ (installAnswer lay pol mem) _ (install-bound lay pol mem .number) (omega (arith, install-bound lay pol mem .place)) (λ _. t))

@@ -12,13 +12,16 @@ use Rattle.rules.specs.Bytes.{wordsIn, readAnswer}
 use Rattle.rules.specs.Bundles.{commandsOf, commandCount, rewriteAnswer, checkAnswer}
 use Rattle.rules.specs.Machines.{machineRefused, installAnswer, installMemory, installMachine}
 
--- 'the first reject of reading, rewriting, checking, installing, or 0'; on success the place is the commands written; room is the length of the list to write them to
-unfoldable pub loadAnswer : Layout → Policy → List ℕ → ℕ → List ℕ → Answer
-loadAnswer lay pol s room mem =
+-- reading, rewriting to a list of length room, and checking; on success the place is the commands written
+unfoldable pub translateAnswer : Layout → List ℕ → ℕ → Answer
+translateAnswer lay s room =
     orElse (readAnswer s mostInstructions)
     (orElse (rewriteAnswer lay (wordsIn s) room)
-    (orElse (checkAnswer lay (commandsOf lay (wordsIn s)))
-    (orElse (installAnswer lay pol mem) (answer 0 (commandCount (length (wordsIn s)))))))
+    (orElse (checkAnswer lay (commandsOf lay (wordsIn s))) (answer 0 (commandCount (length (wordsIn s))))))
+
+-- 'the first reject of reading, rewriting, checking, installing, or 0', with the place that translating gave
+unfoldable pub loadAnswer : Layout → Policy → List ℕ → ℕ → List ℕ → Answer
+loadAnswer lay pol s room mem = let a = translateAnswer lay s room in orElse a (orElse (installAnswer lay pol mem) a)
 
 -- a refusal leaves commands and memory as they were, and yields the record of a refused installation
 unfoldable pub loadCommands : Layout → Policy → List ℕ → List ℕ → List ℕ → List ℕ

@@ -1,7 +1,7 @@
 -- Laws of translating, one for each way out of the code.
 use Prim.Native.Nat.{ℕ, _≤_, _<_}
 use mathlib.Core.Path.{_≡_, refl, sym, ap, _∙_}
-use mathlib.Core.Bool.{Bool, not}
+use mathlib.Core.Bool.{not}
 use mathlib.Core.Logic.{⊎-elim}
 use mathlib.Core.List.{List, _++_}
 use native.Mathlib.Omega.{arith}
@@ -21,7 +21,8 @@ use Rattle.rules.proofs.Bools.{cond-ind, cond-map, cases}
 use Rattle.rules.proofs.Refusals.{refused-map, else-next, else-kept, else-none}
 use Rattle.rules.proofs.Bytes.{read-ok}
 use Rattle.rules.proofs.Counts.{count-bound, length-commands, rewrite-taken, rewrite-bound}
-use Rattle.sandbox_translating.specs.Translating.{writtenAnswer, writtenOutput, inRoom, checkedAnswer, translateAnswer, Listed}
+use Rattle.sandbox_rules.specs.Loading.{translateAnswer}
+use Rattle.sandbox_translating.specs.Translating.{writtenAnswer, writtenOutput, inRoom, checkedAnswer, Listed}
 use Rattle.sandbox_translating.proofs.Elses.{else-assoc}
 
 -- ---- reading, then rewriting

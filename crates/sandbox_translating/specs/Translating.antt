@@ -5,9 +5,9 @@ use mathlib.Core.List.{List}
 use lib.ListN.{length, take}
 use Rattle.rules.specs.declared.Layout.{Layout}
 use Rattle.rules.specs.declared.Answer.{Answer}
-use Rattle.rules.specs.Names.{mostInstructions, answer, ifTaken, orElse, roomFor}
+use Rattle.rules.specs.Names.{mostInstructions, ifTaken, orElse, roomFor}
 use Rattle.rules.specs.Bytes.{wordsIn, readAnswer}
-use Rattle.rules.specs.Bundles.{commandsOf, commandCount, rewriteAnswer, rewriteOutput, checkAnswer}
+use Rattle.rules.specs.Bundles.{commandsOf, rewriteAnswer, rewriteOutput, checkAnswer}
 
 -- reading, then rewriting to a list of so many commands, and what that list then holds
 unfoldable pub writtenAnswer : Layout → List ℕ → ℕ → Answer
@@ -23,13 +23,6 @@ inRoom room a = orElse a (roomFor room (a .place))
 -- an answer of nothing refused, once the commands that it counts are checked
 unfoldable pub checkedAnswer : Layout → List ℕ → Answer → Answer
 checkedAnswer lay out a = orElse a (orElse (checkAnswer lay (take (a .place) out)) a)
-
--- reading, rewriting and checking
-unfoldable pub translateAnswer : Layout → List ℕ → ℕ → Answer
-translateAnswer lay s room =
-    orElse (readAnswer s mostInstructions)
-    (orElse (rewriteAnswer lay (wordsIn s) room)
-    (orElse (checkAnswer lay (commandsOf lay (wordsIn s))) (answer 0 (commandCount (length (wordsIn s))))))
 
 -- the commands that an answer counts stand at the start of a list, and there is room for them
 pub record Listed (lay : Layout) (s : List ℕ) (room : ℕ) (list : List ℕ) (a : Answer) : Type 0 where

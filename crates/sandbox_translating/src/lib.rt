@@ -8,7 +8,8 @@ ghost use Prim.Native.Nat.{_≤_};
 ghost use mathlib.Core.Path.{_≡_};
 ghost use lib.ListN.{length};
 ghost use Rattle.rules.specs.Names.{mostCommands};
-ghost use Rattle.sandbox_translating.specs.Translating.{writtenAnswer, writtenOutput, inRoom, checkedAnswer, translateAnswer, Listed};
+ghost use Rattle.sandbox_rules.specs.Loading.{translateAnswer};
+ghost use Rattle.sandbox_translating.specs.Translating.{writtenAnswer, writtenOutput, inRoom, checkedAnswer, Listed};
 
 // The commands of a routine's bytes, written to a list.
 fn write_commands(layout: Layout, bytes: &[u8], list: &mut [u64]) -> Answer
