@@ -16,12 +16,12 @@ use words_cells::store_cells;
 ghost use mathlib.Core.Path.{_≡_};
 ghost use mathlib.Core.List.{[]};
 ghost use Rattle.rules.specs.Names.{answer};
-ghost use Rattle.rules.specs.Policies.{policyOf, rightPolicy};
+ghost use Rattle.rules.specs.Policies.{lentPolicy, rightPolicy};
 ghost use Rattle.rules.specs.Machines.{machineRefused, installOf, installMemory};
 
 // Whether a policy can be installed under a layout: 10's four conditions.
 fn policy_right(layout: Layout, policy: PolicyNumbers, table: &[u8]) -> bool
-    ensures { λ r. ⌜ r ≡ rightPolicy layout (policyOf (policy .states) (policy .start) (now (table .entry)) []) ⌝ }
+    ensures { λ r. ⌜ r ≡ rightPolicy layout (lentPolicy policy (now (table .entry)) []) ⌝ }
 {
     let states = policy.states;
     let entries = entries_right(states, table);
@@ -48,8 +48,8 @@ pub fn install(
     landings: &[u32],
     memory: &mut [u32],
 ) -> Installed
-    ensures { λ r. ⌜ r ≡ installOf layout (policyOf (policy .states) (policy .start) (now (table .entry)) (now (landings .entry))) (now (memory .entry)) ⌝ }
-    ensures leaves { λ _. ⌜ now (memory .exit) ≡ installMemory layout (policyOf (policy .states) (policy .start) (now (table .entry)) (now (landings .entry))) (now (memory .entry)) ⌝ }
+    ensures { λ r. ⌜ r ≡ installOf layout (lentPolicy policy (now (table .entry)) (now (landings .entry))) (now (memory .entry)) ⌝ }
+    ensures leaves { λ _. ⌜ now (memory .exit) ≡ installMemory layout (lentPolicy policy (now (table .entry)) (now (landings .entry))) (now (memory .entry)) ⌝ }
 {
     if !fits(layout, memory.len()) {
         return refused(Refusal::BAD_LAYOUT);

@@ -7,7 +7,7 @@ use lib.Dec.{eqb, ltb}
 use Rattle.rules.specs.declared.PolicyNumbers.{PolicyNumbers}
 use Rattle.rules.specs.declared.Refusal.the-variants.{BadPolicy}
 use Rattle.rules.specs.Names.{mostStates, events, orders, noArrow, refusal, ifTaken, first}
-use Rattle.rules.specs.Policies.{Policy, policyOf, arrow, entriesRight, statesRight}
+use Rattle.rules.specs.Policies.{Policy, policyOf, lentPolicy, arrow, entriesRight, statesRight}
 use Rattle.policy_maps.specs.Maps.{build}
 use Rattle.policy_exploration.specs.Reach.{policyFrom, madeWith, reachOf, reachTable}
 use Rattle.policy_exploration.specs.declared.Made.{Made}
@@ -15,7 +15,7 @@ use Rattle.policy_merge.specs.declared.Merged.{Merged}
 
 -- a lent table with its policy's numbers, and one with none, of which only the arrows are asked; merging knows no landings
 abbrev pub sideOf : PolicyNumbers → List ℕ → Policy
-sideOf p t = policyOf (p .states) (p .start) t []
+sideOf p t = lentPolicy p t []
 
 abbrev pub arrowsOf : List ℕ → Policy
 arrowsOf t = policyOf 0 0 t []

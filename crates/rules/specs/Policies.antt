@@ -1,6 +1,6 @@
 -- Policies: a start state and a table of 16 bytes a state.
 use Rattle.rules.specs.Kit.{ℕ, _+_, _*_, Bool, true, _&&_, _||_, not, cond, List, [], _∷_, length, getD, eqb, leb, ltb}
-use Rattle.rules.specs.Types.{Layout}
+use Rattle.rules.specs.Types.{Layout, PolicyNumbers}
 use Rattle.rules.specs.Names.{mostStates, events, noArrow}
 
 -- what is installed: the state count, the start state and the table of a policy, and the list of landings
@@ -12,6 +12,10 @@ pub record Policy : Type 0 where
 
 abbrev pub policyOf : ℕ → ℕ → List ℕ → List ℕ → Policy
 policyOf s q t ls = record { states = s; start = q; table = t; landings = ls }
+
+-- that of a policy's numbers, with the table and the landings that are lent beside them
+abbrev pub lentPolicy : PolicyNumbers → List ℕ → List ℕ → Policy
+lentPolicy p t ls = policyOf (p .states) (p .start) t ls
 
 -- the state after event n in state s, or 255: 'byte 16 × s + n'; no entry is no arrow
 abbrev pub arrow : Policy → ℕ → ℕ → ℕ

@@ -1,5 +1,6 @@
 -- The types of src/lib.rt and their cases, for the files beside this one to bring in by one line.
 pub use Rattle.rules.specs.declared.Layout.{Layout}
+pub use Rattle.rules.specs.declared.PolicyNumbers.{PolicyNumbers}
 pub use Rattle.rules.specs.declared.Fields.{Fields}
 pub use Rattle.rules.specs.declared.Limits.{Limits}
 pub use Rattle.rules.specs.declared.Instr.{Instr}

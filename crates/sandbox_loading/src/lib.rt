@@ -12,7 +12,7 @@ use words_cells::store_words;
 ghost use Prim.Native.Nat.{_≤_};
 ghost use mathlib.Core.Path.{_≡_};
 ghost use lib.ListN.{length};
-ghost use Rattle.rules.specs.Policies.{policyOf};
+ghost use Rattle.rules.specs.Policies.{lentPolicy};
 ghost use Rattle.sandbox_rules.specs.Loading.{loadOf, loadCommands, loadMemory};
 
 // Loads a routine: its first refusal by reading, rewriting, checking or installing; or 0 and the
@@ -26,9 +26,9 @@ pub fn load(
     commands: &mut [u64],
     memory: &mut [u32],
 ) -> Installed
-    ensures answer { λ r. ⌜ r ≡ loadOf layout (policyOf (policy .states) (policy .start) (now (table .entry)) (now (landings .entry))) (now (bytes .entry)) (length (now (commands .entry))) (now (memory .entry)) ⌝ }
-    ensures commands { λ _. ⌜ now (commands .exit) ≡ loadCommands layout (policyOf (policy .states) (policy .start) (now (table .entry)) (now (landings .entry))) (now (bytes .entry)) (now (commands .entry)) (now (memory .entry)) ⌝ }
-    ensures memory { λ _. ⌜ now (memory .exit) ≡ loadMemory layout (policyOf (policy .states) (policy .start) (now (table .entry)) (now (landings .entry))) (now (bytes .entry)) (length (now (commands .entry))) (now (memory .entry)) ⌝ }
+    ensures answer { λ r. ⌜ r ≡ loadOf layout (lentPolicy policy (now (table .entry)) (now (landings .entry))) (now (bytes .entry)) (length (now (commands .entry))) (now (memory .entry)) ⌝ }
+    ensures commands { λ _. ⌜ now (commands .exit) ≡ loadCommands layout (lentPolicy policy (now (table .entry)) (now (landings .entry))) (now (bytes .entry)) (now (commands .entry)) (now (memory .entry)) ⌝ }
+    ensures memory { λ _. ⌜ now (memory .exit) ≡ loadMemory layout (lentPolicy policy (now (table .entry)) (now (landings .entry))) (now (bytes .entry)) (length (now (commands .entry))) (now (memory .entry)) ⌝ }
     ensures within { λ r. ⌜ (r .answer .number ≡ 0 → r .answer .place ≤ length (now (commands .exit))) ⌝ }
 {
     let mut list = [0u64; Bundle::MOST_COMMANDS];

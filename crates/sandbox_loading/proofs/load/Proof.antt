@@ -3,7 +3,7 @@ use mathlib.Core.Path.{sym}
 use native.Mathlib.Omega.{arith}
 use lib.ListN.{length}
 use lib.Seq.{length-take-le}
-use Rattle.rules.specs.Policies.{policyOf}
+use Rattle.rules.specs.Policies.{lentPolicy}
 use Rattle.sandbox_translating.specs.Translating.{Listed}
 use Rattle.sandbox_loading.proofs.Laws.{not-translated, not-installed, loaded}
 use borrow.Author.Needs.{needs}
@@ -23,7 +23,7 @@ returns : tie.Need-returns
 returns c =
     let t = c .before .before .before in
     let x = t .before .before .before .before .before .before .before .args in
-    not-translated (x .layout) (policyOf (x .policy .states) (x .policy .start) (x .table .now) (x .landings .now)) (x .bytes .now) (x .commands .now) (x .memory .now) _ (t .translate .ensures .0) (c .before .if1 .taken) _ (c .refused .ensures)
+    not-translated (x .layout) (lentPolicy (x .policy) (x .table .now) (x .landings .now)) (x .bytes .now) (x .commands .now) (x .memory .now) _ (t .translate .ensures .0) (c .before .if1 .taken) _ (c .refused .ensures)
 
 install-requires : tie.Need-install-requires
 install-requires c κs = search needs
@@ -36,7 +36,7 @@ returns-2 c =
     let i = c .before .before .before .before in
     let t = i .before .before .before .before in
     let x = t .before .before .before .before .before .before .before .args in
-    not-installed (x .layout) (policyOf (x .policy .states) (x .policy .start) (x .table .now) (x .landings .now)) (x .bytes .now) (x .commands .now) (x .memory .now) _ (t .translate .ensures .0) (i .before .before .if1 .left) _ (i .install .ensures .0) _ (i .install .ensures .1) (c .if2 .taken)
+    not-installed (x .layout) (lentPolicy (x .policy) (x .table .now) (x .landings .now)) (x .bytes .now) (x .commands .now) (x .memory .now) _ (t .translate .ensures .0) (i .before .before .if1 .left) _ (i .install .ensures .0) _ (i .install .ensures .1) (c .if2 .taken)
 
 -- what translating left, once installing answered
 listed : (c : tie.After-install) → let t = c .before .before .before .before in let x = t .before .before .before .before .before .before .before .args in Listed (x .layout) (x .bytes .now) (length (x .commands .now)) (t .translate .last .1 .1 .1 .0) (t .translate .result)
@@ -68,7 +68,7 @@ returns-3 c =
     let i = n .before .before .before .before in
     let t = i .before .before .before .before in
     let x = t .before .before .before .before .before .before .before .args in
-    loaded (x .layout) (policyOf (x .policy .states) (x .policy .start) (x .table .now) (x .landings .now)) (x .bytes .now) (x .commands .now) (x .memory .now) _ (t .translate .ensures .0) (i .before .before .if1 .left) _ (i .install .ensures .0) _ (i .install .ensures .1) (n .if2 .left) _ (t .translate .ensures .1 .0) _ (w .store-words .ensures)
+    loaded (x .layout) (lentPolicy (x .policy) (x .table .now) (x .landings .now)) (x .bytes .now) (x .commands .now) (x .memory .now) _ (t .translate .ensures .0) (i .before .before .if1 .left) _ (i .install .ensures .0) _ (i .install .ensures .1) (n .if2 .left) _ (t .translate .ensures .1 .0) _ (w .store-words .ensures)
 
 pub load-spec : {M : Type 1} → statement M
 load-spec =
