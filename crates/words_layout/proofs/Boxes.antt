@@ -1,6 +1,6 @@
 -- Laws of the layout test.
 use mathlib.Core.Path.{_≡_, sym, ap, _∙_, subst}
-use mathlib.Core.Bool.{Bool, true, false, _&&_, and-true, and-false}
+use mathlib.Core.Bool.{Bool, false, _&&_, and-true, and-false}
 use Prim.Native.Nat.{ℕ, zero, suc, _+_, _*_, _/_, _%_, _^_, _≤_, _<_}
 use native.Mathlib.Nat.{lt-of-lt-of-le, lt-of-not-le, not-le-of-lt, mod-eq-of-lt}
 use native.Mathlib.Omega.{arith}
@@ -9,7 +9,8 @@ use lib.Pow.{split, pow-mono}
 use lib.Dec.{leb, eqb}
 use borrow.Author.Tests.{le-ltb, lt-ltb, le-leb, lt-leb, eq-eqb, ne-eqb}
 use Rattle.rules.specs.declared.Layout.{Layout}
-use Rattle.rules.specs.Names.{mostCells, mostStates, baseBound, cellBits}
+use Rattle.rules.specs.Names.{mostCells, baseBound, cellBits}
+use Rattle.rules.specs.Policies.{statesRight}
 use Rattle.rules.specs.Layouts.{rightLayout, inRange, span, widthOf, inMemory, apart}
 use Rattle.rules.proofs.Masks.{one-bit}
 
@@ -55,10 +56,10 @@ module _ (l : Layout) where
     -- the tests that are left once those of SL ≤ SH < U and of the single one bit passed; the base has 32 bits by its type
     abbrev pub rest : ℕ → Bool
     rest w =
-        (leb 1 (l .size) && leb (l .size) mostCells && leb 1 (l .states) && leb (l .states) mostStates)
+        (leb 1 (l .size) && leb (l .size) mostCells && statesRight (l .states))
         && (eqb ((l .low / 2 ^ w * 2 ^ w) % 2 ^ cellBits) (l .low) && (inMemory l && apart l))
 
     pub right-rest : (w : ℕ) → l .low ≤ l .high → l .low < 2 ^ cellBits → l .base < baseBound → w ≡ widthOf l → rest w ≡ rightLayout l
     unfolding rightLayout
     right-rest w h n f e =
-        rw (aligned w e n, le-leb (l .low) (l .high) h, lt-ltb (l .high) (l .size) k, lt-ltb (l .base) baseBound f, o, and-true (leb 1 (l .size) && leb (l .size) mostCells && leb 1 (l .states) && leb (l .states) mostStates))
+        rw (aligned w e n, le-leb (l .low) (l .high) h, lt-ltb (l .high) (l .size) k, lt-ltb (l .base) baseBound f, o, and-true (leb 1 (l .size) && leb (l .size) mostCells && statesRight (l .states)))

@@ -34,8 +34,7 @@ pub fn right(l: Layout) -> bool
     let landings_end = landings as u64 + Layout::LANDING_CELLS as u64;
     let in_range = (1 <= size)
         & (size <= Layout::MOST_CELLS)
-        & (1 <= states)
-        & (states <= Layout::MOST_STATES);
+        & ((1 <= states) & (states <= Layout::MOST_STATES));
     let in_memory = (cell < size) & (end <= size as u64) & (landings_end <= size as u64);
     let apart = ((cell < low) | (high < cell))
         & ((cell < table) | (end <= cell as u64))
