@@ -13,7 +13,7 @@ use lib.ListN.{length, getD, set, take, drop, drop-of-length-le, length-set, rep
 use lib.Seq.{drop-cons, take-suc, take-all, ext-getD, getD-set-same, getD-set-other}
 use borrow.Author.Tests.{lt-ltb, le-ltb, le-leb, lt-leb, eqb-true, eqb-false, eq-eqb, ne-eqb, ltb-true, ltb-false}
 use Rattle.rules.specs.Names.{mostBundles, landingCells, cellBits}
-use Rattle.rules.specs.Landings.{listed, risingFrom, rightLandings, bitsFrom, landingCell, landingsOf}
+use Rattle.rules.specs.Landings.{listed, risingFrom, rightLandings, bitsFrom, landingsOf}
 use Rattle.rules.specs.Guests.{snoc}
 use Rattle.rules.proofs.Bools.{both, cases}
 use Rattle.rules.proofs.Landings.{length-landings, landings-at}
@@ -137,7 +137,7 @@ marks-more ls x l =
     rw e (getD-set-same (landingsOf ls) k v 0 (omega (arith, length-landings ls))
     ∙ ap (λ (c : ℕ). bitOr c (2 ^ (x % cellBits))) (landings-at ls k lk)
     ∙ bits-more ls (cellBits * k) cellBits (x % cellBits) (omega arith)
-    ∙ ap (λ (y : ℕ). landingCell (snoc ls y) k) at
+    ∙ ap (λ (y : ℕ). bitsFrom (snoc ls y) (cellBits * k) cellBits) at
     ∙ sym (landings-at (snoc ls x) k lk)))
     (λ q.
     let f = eqb-false i k q in
