@@ -93,10 +93,6 @@ commandKinds = command .event + 1
 abbrev pub plainStep : ℕ
 plainStep = command .set - guest .set
 
--- the kind of a word that is no command
-abbrev pub noCommand : ℕ
-noCommand = 255
-
 -- the table 'Rejects', with its words
 abbrev pub numberOf : Refusal → ℕ
 numberOf Taken = 0  -- taken
