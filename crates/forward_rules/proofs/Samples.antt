@@ -52,16 +52,15 @@ unfolding ones leadingZeros rightLayout instrOf routine bundlesFor wordOf shapeO
 short-passed = refl
 
 short-served : Served layout policy shortCommands memory stepwise
-unfolding ones rightLayout rightPolicy rightLandings installAnswer
-short-served = record { passed = short-passed; installed = refl; lends = lends (atFirst layout policy memory) fourthAlone }
+short-served = record { passed = short-passed; installed = served .installed; lends = lends (atFirst layout policy memory) fourthAlone }
 
 pub stepwise-holds : Stepwise
 unfolding ones leadingZeros rightLayout rightPolicy rightLandings landingsOf judgeOf judgeAt firstRefused instrOf routine bundlesFor wordOf shapeOf isCommand commandOf fetchOf plainOf installAnswer installMemory installMachine effectOf applyOf runFrom runOf runOn afterTaken afterRun runsOf placeAnswer rewriteAnswer forwardAt forwardFrom forwardAnswer
 stepwise-holds =
     record {
+      served = short-served;
       rewritten = refl;
       forward = refl;
-      served = short-served;
       resumed = (λ e. no e, (λ e. no e, (λ e. no e, (λ e. record { memory = refl; log = lit≤ tt; readings = lit≤ tt }, (λ e. no e, (λ e. no e, (λ e. no e, (λ e. no e, (λ e. no e, (λ e. no e, tt))))))))));
       memories = (refl, (refl, (refl, (refl, (refl, (refl, (refl, (refl, (refl, (refl, tt))))))))));
       budgets = (lit≤ tt, (lit≤ tt, (lit≤ tt, (lit≤ tt, (lit≤ tt, (lit≤ tt, (lit≤ tt, (lit≤ tt, (lit≤ tt, (lit≤ tt, tt))))))))));

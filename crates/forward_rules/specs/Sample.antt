@@ -113,9 +113,9 @@ stepwise = oneStepEach (atFirst layout policy memory) fourthAlone
 
 -- the premises of FinishesResumed
 pub record Stepwise : Type 0 where
+  pub served : Served layout policy shortCommands memory stepwise
   pub rewritten : rewriteAnswer layout short 8 ≡ answer 0 8
   pub forward : forwardAnswer short ≡ answer 0 0
-  pub served : Served layout policy shortCommands memory stepwise
   pub resumed : ResumedAfter layout false (allRuns layout policy shortCommands memory stepwise)
   pub memories : Every (λ (g : Given). length (g .memory) ≡ layout .size) stepwise
   pub budgets : Every (λ (g : Given). 1 ≤ g .budget) stepwise
