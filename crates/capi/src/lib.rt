@@ -2,6 +2,7 @@
 // its name for C here.
 use capi_numbers::ANSWER;
 use capi_numbers::LAYOUT;
+use capi_numbers::MADE;
 use capi_numbers::RECORD;
 use capi_numbers::RUN_ANSWER;
 ghost use mathlib.Core.Path.{_≡_};
@@ -16,9 +17,9 @@ ghost use Rattle.policy_precedence.specs.Precedence.{makeOf, makeTable};
 ghost use Rattle.forward_rules.specs.Forward.{forwardAnswer, checkForwardAnswer};
 ghost use Rattle.policy_determinise.specs.Drawings.{drawingOf, determiniseOf, determiniseTable};
 ghost use Rattle.capi_loading.specs.Hosts.{yesOrNo};
-ghost use Rattle.capi_precedence.specs.Hosts.{madeTo};
+ghost use Rattle.capi_precedence.specs.Hosts.{precedenceTo};
 ghost use Rattle.capi_engine.specs.Records.{engineFor};
-ghost use Rattle.capi_determinise.specs.Numbers.{madeTo as policyTo};
+ghost use Rattle.capi_determinise.specs.Numbers.{policyTo};
 ghost use Rattle.capi_merge.specs.Numbers.{hostMerged, mergeFor};
 
 // Reads a routine's bytes into words.
@@ -222,12 +223,8 @@ pub extern "C" fn hemdroas_engine(
 
 // Makes the policy of pairs of events, each first before its second.
 #[no_mangle]
-pub extern "C" fn hemdroas_precedence(
-    pairs: &[u8],
-    table: &mut [u8],
-    made: &mut [u32; capi_precedence::MADE],
-)
-    ensures made { λ _. ⌜ now (made .exit) ≡ madeTo (makeOf (now (pairs .entry)) (length (now (table .entry)))) ⌝ }
+pub extern "C" fn hemdroas_precedence(pairs: &[u8], table: &mut [u8], made: &mut [u32; MADE])
+    ensures made { λ _. ⌜ now (made .exit) ≡ precedenceTo (makeOf (now (pairs .entry)) (length (now (table .entry)))) ⌝ }
     ensures table { λ _. ⌜ now (table .exit) ≡ makeTable (now (pairs .entry)) (now (table .entry)) ⌝ }
 {
     capi_precedence::make(pairs, table, made);
@@ -240,7 +237,7 @@ pub extern "C" fn hemdroas_determinise(
     starts: u32,
     arrows: &[u16],
     table: &mut [u8],
-    made: &mut [u32; capi_determinise::MADE],
+    made: &mut [u32; MADE],
 )
     ensures made { λ _. ⌜ now (made .exit) ≡ policyTo (determiniseOf (drawingOf states starts (now (arrows .entry))) (length (now (table .entry)))) ⌝ }
     ensures table { λ _. ⌜ now (table .exit) ≡ determiniseTable (drawingOf states starts (now (arrows .entry))) (now (table .entry)) ⌝ }

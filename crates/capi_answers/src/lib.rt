@@ -1,11 +1,12 @@
 // Answers as the numbers of a C host.
 use capi_numbers::ANSWER;
+use capi_numbers::MADE;
 use capi_numbers::RUN_ANSWER;
 use rules::Answer;
 use rules::RunAnswer;
 ghost use mathlib.Core.Path.{_≡_};
 ghost use Prim.Native.Nat.{_<_, _^_};
-ghost use Rattle.capi_numbers.specs.Numbers.{answerTo, runAnswerTo};
+ghost use Rattle.capi_numbers.specs.Numbers.{answerTo, runAnswerTo, madeTo};
 
 pub fn answer_of(a: Answer) -> [u32; ANSWER]
     requires { ⌜ a .place < 2 ^ 32 ⌝ }
@@ -25,4 +26,12 @@ pub fn run_answer_of(a: RunAnswer) -> [u32; RUN_ANSWER]
         a.pairs as u32,
         a.used as u32,
     ]
+}
+
+// A made policy: its answer, its states and one number more.
+pub fn made_of(a: Answer, states: u32, more: u32) -> [u32; MADE]
+    requires { ⌜ a .place < 2 ^ 32 ⌝ }
+    ensures { λ r. ⌜ r ≡ madeTo a states more ⌝ }
+{
+    [a.number as u32, a.place as u32, states, more]
 }

@@ -13,7 +13,7 @@ use Rattle.policy_exploration.specs.declared.Made.{Made}
 use Rattle.policy_exploration.proofs.Reach.{place-most}
 use Rattle.policy_determinise.specs.Drawings.{drawingOf, setAfter, drawingRight, determiniseOf, determiniseTable}
 use Rattle.policy_determinise.proofs.Runs.{fit-of}
-use Rattle.capi_determinise.specs.Numbers.{startsFrom, madeTo}
+use Rattle.capi_determinise.specs.Numbers.{startsFrom, policyTo}
 
 pub starts-held : (q : ℕ) → q < 65536 → q ≡ startsFrom q
 unfolding startsFrom
@@ -60,6 +60,6 @@ module _ (s q r : ℕ) (ms table : List ℕ) (e : r ≡ startsFrom q) where
       go true f = rw (e, f) (refl, refl)
       go false f = rw (e, f, none s ms, wide s q ms (ltb-false q (2 ^ mostStates) f)) (refl, refl)
 
-  pub determinised : (left ns : List ℕ) (m : Made) → m ≡ determiniseOf (drawingOf s r ms) (length table) → left ≡ determiniseTable (drawingOf s r ms) table → ns ≡ madeTo m
-      → (ns ≡ madeTo (determiniseOf (drawingOf s q ms) (length table))) × (left ≡ determiniseTable (drawingOf s q ms) table)
-  determinised left ns m p l n = (n ∙ ap madeTo (p ∙ same .0), l ∙ same .1)
+  pub determinised : (left ns : List ℕ) (m : Made) → m ≡ determiniseOf (drawingOf s r ms) (length table) → left ≡ determiniseTable (drawingOf s r ms) table → ns ≡ policyTo m
+      → (ns ≡ policyTo (determiniseOf (drawingOf s q ms) (length table))) × (left ≡ determiniseTable (drawingOf s q ms) table)
+  determinised left ns m p l n = (n ∙ ap policyTo (p ∙ same .0), l ∙ same .1)

@@ -75,3 +75,7 @@ answerTo a = a .number ∷ a .place ∷ []
 
 abbrev pub runAnswerTo : RunAnswer → List ℕ
 runAnswerTo a = endingNumber (a .ending) ∷ a .steps ∷ a .pairs ∷ a .used ∷ []
+
+-- a made policy as its answer, its states and one number more
+abbrev pub madeTo : Answer → ℕ → ℕ → List ℕ
+madeTo a states more = a .number ∷ a .place ∷ states ∷ more ∷ []

@@ -10,7 +10,7 @@ ghost use lib.ListN.{length, take};
 ghost use Rattle.rules.specs.Names.{registers};
 ghost use Rattle.capi_numbers.specs.Numbers.{layoutFrom, statusFrom, statusNumber, behind, recordTo, statusIn, numbersAfter, machineFrom, machineTo};
 
-// How many numbers a layout has, the ceilings behind the others; an answer; a run's answer.
+// How many numbers a layout has, the ceilings behind the others; an answer; a run's answer; a made policy.
 const CEILINGS: usize = 8;
 
 pub const LAYOUT: usize = CEILINGS + PolicyNumbers::ORDERS as usize;
@@ -18,6 +18,8 @@ pub const LAYOUT: usize = CEILINGS + PolicyNumbers::ORDERS as usize;
 pub const ANSWER: usize = 2;
 
 pub const RUN_ANSWER: usize = 4;
+
+pub const MADE: usize = 4;
 
 // Behind its registers a record has pc or index, then its status.
 pub const BEHIND: usize = 2;

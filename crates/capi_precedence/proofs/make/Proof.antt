@@ -1,4 +1,4 @@
-use Rattle.capi_precedence.specs.Hosts.{madeTo}
+use Rattle.capi_precedence.specs.Hosts.{precedenceTo}
 use Rattle.capi_precedence.proofs.Places.{narrow-made}
 use mathlib.Core.Path.{_∙_, ap}
 use borrow.Author.Needs.{needs}
@@ -10,6 +10,9 @@ make-spec =
     tie.close
     (tie.spec
     (λ c κs. search needs)
-    (λ c κs. narrow-made _ _ _ (c .before .before .make .ensures .0))
     (λ c. search needs)
-    (λ c. (c .made-of .ensures ∙ ap madeTo (c .before .before .before .make .ensures .0), c .before .before .before .make .ensures .1)))
+    (λ c κs. narrow-made _ _ _ (c .before .before .before .make .ensures .0))
+    (λ c. search needs)
+    (λ c.
+    let e = c .before .before .before .before .make .ensures in
+    (c .made-of .ensures ∙ ap precedenceTo (e .0), e .1)))
