@@ -9,7 +9,7 @@ use Rattle.rules.specs.declared.Layout.{Layout}
 use Rattle.rules.specs.Names.{guestRegisters}
 use Rattle.rules.specs.Policies.{Policy}
 use Rattle.rules.specs.Machines.{installAnswer, installMemory}
-use Rattle.rules.specs.Runs.{Given, Carried as MachineCarried}
+use Rattle.rules.specs.Runs.{Given, eachRun, Carried as MachineCarried}
 use Rattle.rules.proofs.Conditions.{installs}
 use Rattle.sandbox_rules.proofs.Loading.{loads}
 use Rattle.capi_numbers.specs.Numbers.{layoutFrom}
@@ -19,7 +19,7 @@ use Rattle.capi_numbers.proofs.Numbers.{comes-back, called}
 use Rattle.rules.proofs.Counts.{apply-regs}
 use Rattle.capi_numbers.proofs.Calls.{calls-from, keeps-regs}
 use Rattle.engine_rules.specs.Engines.{engineOf, engineFirst, effectOn, withMemory, movedOf, startOf, refusalOf, refusalBy, runOf}
-use Rattle.engine_rules.specs.Claims.{Carried, carriedOf, atFirst, runOn, afterTaken, afterRun, Run, runAs, runsOf, Lends}
+use Rattle.engine_rules.specs.Claims.{Carried, carriedOf, atFirst, runOn, afterTaken, afterRun, runAs, Lends}
 use Rattle.engine_rules.proofs.Runs.{engineLoop}
 use Rattle.engine_rules.proofs.Isolation.{engine-isolation}
 use Rattle.capi_engine.specs.Records.{engineTo, ranTo, engineFor}
@@ -39,11 +39,11 @@ carries lay ws c g true e =
     )
 carries lay ws c g false e = rw e (refl, refl)
 
-calls-are : (lay ws : List ℕ) (c : Carried) (gs : List Given) → length (c .engine .regs) ≡ guestRegisters → callsOf (engineCall lay ws) (engineTo (c .engine)) gs ≡ map (λ (r : Run). ranTo (r .ran)) (runsOf (layoutFrom lay) ws c gs)
-unfolding engineFor runOn runsOf
+calls-are : (lay ws : List ℕ) (c : Carried) (gs : List Given) → length (c .engine .regs) ≡ guestRegisters → callsOf (engineCall lay ws) (engineTo (c .engine)) gs ≡ map (λ r. ranTo (r .ran)) (eachRun (runAs (layoutFrom lay) ws) (afterRun (layoutFrom lay) ws) c gs)
+unfolding engineFor runOn
 calls-are lay ws =
     let l = layoutFrom lay in
-    calls-from (λ c. engineTo (c .engine)) (afterRun l ws) (runAs l ws) (λ r. ranTo (r .ran)) (runsOf l ws) (λ _. refl) (λ _ _ _. refl) (engineCall lay ws)
+    calls-from (λ c. engineTo (c .engine)) (afterRun l ws) (runAs l ws) (λ r. ranTo (r .ran)) (engineCall lay ws)
     (λ c. length (c .engine .regs) ≡ guestRegisters)
     (λ c g. called engine-back (λ m. ranTo (runOf l ws m (g .memory) (g .budget) (g .readings) (g .log))) (c .engine))
     (λ c g n. let q = carries l ws c g _ refl in (ap engineTo (q .0), q .1 ∙ n))

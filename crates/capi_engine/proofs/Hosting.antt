@@ -5,11 +5,12 @@ use mathlib.Core.List.{List}
 use native.Mathlib.Omega.{arith}
 use Rattle.rules.specs.declared.Layout.{Layout}
 use Rattle.rules.specs.Names.{guestRegisters}
+use Rattle.rules.specs.Machines.{ranOf}
 use Rattle.capi_numbers.specs.Numbers.{layoutFrom, numbersAfter}
 use Rattle.capi_numbers.specs.Hosts.{hostRan, hostLeft}
 use Rattle.engine_rules.specs.declared.Engine.{Engine}
 use Rattle.engine_rules.specs.declared.EngineOutcome.{EngineOutcome}
-use Rattle.engine_rules.specs.Engines.{Ran, ranOf, runOf}
+use Rattle.engine_rules.specs.Engines.{Ran, runOf}
 use Rattle.engine_rules.proofs.Isolation.{RunCounts, run-counts, run-place}
 use Rattle.capi_engine.specs.Records.{engineFrom, engineTo, answerTo, ranTo, engineFor}
 

@@ -11,7 +11,7 @@ use Rattle.rules.specs.Names.{registers}
 use Rattle.rules.specs.Policies.{Policy}
 use Rattle.rules.specs.Bundles.{checkAnswer}
 use Rattle.rules.specs.Machines.{machineOf, State, startOf, fits, runOf, installAnswer, installMachine, installMemory}
-use Rattle.rules.specs.Runs.{Given, Carried, carriedOf, atFirst, runOn, afterTaken, afterRun, Run, runAs, runsOf, Lends}
+use Rattle.rules.specs.Runs.{Given, Carried, carriedOf, atFirst, runOn, afterTaken, afterRun, Run, runAs, Lends, eachRun}
 use Rattle.rules.proofs.Loops.{Loop, keeps, machineLoop}
 use Rattle.rules.proofs.Counts.{apply-regs}
 use Rattle.rules.proofs.Conditions.{machine-of}
@@ -26,16 +26,15 @@ pub machine-back : MachineBack
 machine-back = comes-back registers machineOf (λ m. m .regs) (λ m. m .pc) (λ m. m .status) (λ _. refl) (λ _ _ _. refl)
 
 -- ---- calls over a list are the runs over it, the machine's or the engine's, if each is a run on the numbers of what is carried
-module _ {C R : Type 0} (numbers : C → List ℕ) (next : C → Given → C) (runAs : C → Given → R) (left : R → HostRan) (runs : C → List Given → List R)
-    (none : (c : C) → runs c [] ≡ []) (more : (c : C) (g : Given) (gs : List Given) → runs c (g ∷ gs) ≡ runAs c g ∷ runs (next c g) gs)
-    (call : List ℕ → Given → HostRan) (Kept : C → Type 0) (ran : (c : C) (g : Given) → Kept c → call (numbers c) g ≡ left (runAs c g))
+module _ {C R : Type 0} (numbers : C → List ℕ) (next : C → Given → C) (runAs : C → Given → R) (left : R → HostRan) (call : List ℕ → Given → HostRan)
+    (Kept : C → Type 0) (ran : (c : C) (g : Given) → Kept c → call (numbers c) g ≡ left (runAs c g))
     (carries : (c : C) (g : Given) → Kept c → (left (runAs c g) .after ≡ numbers (next c g)) × Kept (next c g)) where
-  pub calls-from : (c : C) (gs : List Given) → Kept c → callsOf call (numbers c) gs ≡ map left (runs c gs)
-  unfolding callsOf
-  calls-from c [] k = sym (ap (map left) (none c))
+  pub calls-from : (c : C) (gs : List Given) → Kept c → callsOf call (numbers c) gs ≡ map left (eachRun runAs next c gs)
+  unfolding callsOf eachRun
+  calls-from c [] k = refl
   calls-from c (g ∷ gs) k =
       let q = carries c g k in
-      rw (ran c g k, more c g gs)
+      rw (ran c g k)
       (ap (λ (rs : List HostRan). left (runAs c g) ∷ rs) (ap (λ (ys : List ℕ). callsOf call ys gs) (q .0) ∙ calls-from (next c g) gs (q .1)))
 
 -- ---- a loop, the machine's or the engine's, keeps the count of registers
@@ -52,11 +51,11 @@ carries lay ws c g true e =
     rw e (refl, keeps-regs (machineLoop lay ws (g .readings)) (λ r. r .outcome .machine .regs) (λ _ _ _. refl) (apply-regs (lay .ceilings) (g .readings)) (g .budget) 0 (startOf (c .machine) (g .memory) (g .log)))
 carries lay ws c g false e = rw e (refl, refl)
 
-calls-are : (lay ws : List ℕ) (c : Carried) (gs : List Given) → length (c .machine .regs) ≡ registers → callsOf (runCall lay ws) (machineTo (c .machine)) gs ≡ map (λ (r : Run). ranTo (r .ran)) (runsOf (layoutFrom lay) ws c gs)
-unfolding runFor runOn runsOf
+calls-are : (lay ws : List ℕ) (c : Carried) (gs : List Given) → length (c .machine .regs) ≡ registers → callsOf (runCall lay ws) (machineTo (c .machine)) gs ≡ map (λ r. ranTo (r .ran)) (eachRun (runAs (layoutFrom lay) ws) (afterRun (layoutFrom lay) ws) c gs)
+unfolding runFor runOn
 calls-are lay ws =
     let l = layoutFrom lay in
-    calls-from (λ c. machineTo (c .machine)) (afterRun l ws) (runAs l ws) (λ r. ranTo (r .ran)) (runsOf l ws) (λ _. refl) (λ _ _ _. refl) (runCall lay ws)
+    calls-from (λ c. machineTo (c .machine)) (afterRun l ws) (runAs l ws) (λ r. ranTo (r .ran)) (runCall lay ws)
     (λ c. length (c .machine .regs) ≡ registers)
     (λ c g. called machine-back (λ m. ranTo (runOf l ws m (g .memory) (g .budget) (g .readings) (g .log))) (c .machine))
     (λ c g n. let q = carries l ws c g _ refl in (ap machineTo (q .0), q .1 ∙ n))

@@ -15,8 +15,8 @@ ghost use lib.ListN.{length};
 ghost use Rattle.rules.specs.declared.Status.the-variants.{Running};
 ghost use Rattle.rules.specs.Names.{mostInstructions};
 ghost use Rattle.rules.specs.Words.{bundlesFor};
-ghost use Rattle.rules.specs.Machines.{stateOf};
-ghost use Rattle.engine_rules.specs.Engines.{engineOf, Sound, Judged, outcomeOf, endAnswer, ranOf, runFrom, startOf, runOf};
+ghost use Rattle.rules.specs.Machines.{stateOf, ranOf};
+ghost use Rattle.engine_rules.specs.Engines.{engineOf, Sound, Judged, outcomeOf, endAnswer, runFrom, startOf, runOf};
 
 // ---- what a run answers
 

@@ -14,16 +14,16 @@ use Rattle.rules.specs.Words.{judgeOf, judgeAt, firstRefused, instrOf, routine,
 use Rattle.rules.specs.Commands.{wordOf, isCommand, commandOf, fetchOf, plainOf}
 use Rattle.rules.specs.Bundles.{shapeOf, readOff, bundleAt, rewriteAnswer, placeAnswer}
 use Rattle.rules.specs.Machines.{effectOf, installAnswer, installMemory, installMachine, applyOf, runFrom as machineFrom, runOf as machineRunOf}
-use Rattle.rules.specs.Runs.{begins, begunFrom, runOn as machineOn, afterTaken as machineTaken, afterRun as machineRun, afterRuns as machineAll, after as machineAfter}
+use Rattle.rules.specs.Runs.{Given, eachRun, afterAll, Lent, begins, begunFrom, runOn as machineOn, afterTaken as machineTaken, afterRun as machineRun, after as machineAfter}
 use Rattle.rules.specs.Claims.{Stands, Waiting}
 use Rattle.samples.specs.Sample.{layout, policy, code, commands, memory, runs as machineRuns, pausedRun}
 use Rattle.samples.proofs.Samples.{free-set, sample-holds as machine-holds}
 use Rattle.engine_rules.specs.Engines.{sendOf, actOf, nextFor, movedOf, effectOn, runFrom, refusalBy, runOf}
-use Rattle.engine_rules.specs.Claims.{runOn, afterTaken, afterRun, afterRuns, runsOf, after, Served, Beside}
+use Rattle.engine_rules.specs.Claims.{runOn, afterTaken, afterRun, after, Served, Beside}
 use Rattle.engine_rules.specs.Sample.{left, runs, machineOne, engineOne, SampleHolds}
 
 served-with : (x y : ℕ) → Served layout policy code (memory x) (runs y)
-unfolding ones rightLayout rightPolicy rightLandings installAnswer inBox inTable inLandings protected installMemory landingsOf runOn afterTaken afterRun judgeOf judgeAt firstRefused refusalBy
+unfolding ones rightLayout rightPolicy rightLandings installAnswer inBox inTable inLandings protected installMemory landingsOf runOn afterTaken afterRun judgeOf judgeAt firstRefused refusalBy eachRun
 served-with x y =
     record {
       taken = refl;
@@ -32,7 +32,7 @@ served-with x y =
     }
 
 nothing-used : (x y : ℕ) → after layout policy code (memory x) (runs y) .consumed ≡ []
-unfolding ones leadingZeros rightLayout rightPolicy rightLandings bitsFrom landingsOf judgeOf judgeAt firstRefused instrOf routine bundlesFor plainOf installAnswer installMemory applyOf sendOf actOf nextFor movedOf effectOn runFrom refusalBy runOf runOn afterTaken afterRun afterRuns
+unfolding ones leadingZeros rightLayout rightPolicy rightLandings bitsFrom landingsOf judgeOf judgeAt firstRefused instrOf routine bundlesFor plainOf installAnswer installMemory applyOf sendOf actOf nextFor movedOf effectOn runFrom refusalBy runOf runOn afterTaken afterRun afterAll
 nothing-used x y = refl
 
 beside-with : (x y : ℕ) → Beside layout policy code (memory x) 32 (machineRuns x) (runs y)
@@ -47,43 +47,31 @@ beside-with x y =
 
 -- the machine, given no log
 machine-waits : (x : ℕ) → Waiting layout commands (machineAfter layout policy commands (memory x) (pausedRun x ∷ []) .machine) × (machineAfter layout policy commands (memory x) (pausedRun x ∷ []) .begun ≡ 2)
-unfolding ones leadingZeros rightLayout rightPolicy rightLandings bitsFrom landingsOf instrOf routine bundlesFor wordOf shapeOf readOff bundleAt isCommand commandOf fetchOf plainOf installAnswer installMemory installMachine effectOf applyOf machineFrom machineRunOf begins begunFrom machineOn machineTaken machineRun machineAll
+unfolding ones leadingZeros rightLayout rightPolicy rightLandings bitsFrom landingsOf instrOf routine bundlesFor wordOf shapeOf readOff bundleAt isCommand commandOf fetchOf plainOf installAnswer installMemory installMachine effectOf applyOf machineFrom machineRunOf begins begunFrom machineOn machineTaken machineRun afterAll
 machine-waits x = (record { running = refl; event = 0; third = refl }, refl)
-
--- and neither uses a reading
-unread : (x : ℕ) → after layout policy code (memory x) (pausedRun x ∷ []) .consumed ≡ []
-unfolding ones leadingZeros rightLayout rightPolicy rightLandings bitsFrom landingsOf judgeOf judgeAt firstRefused instrOf routine bundlesFor plainOf installAnswer installMemory applyOf sendOf actOf nextFor movedOf effectOn runFrom refusalBy runOf runOn afterTaken afterRun afterRuns
-unread x = refl
-
-waits-with : (x : ℕ) → Beside layout policy code (memory x) 32 (pausedRun x ∷ []) (pausedRun x ∷ [])
-waits-with x =
-    record {
-      rewritten = beside-with x x .rewritten;
-      machine = record { passed = machine-holds .served x .passed; installed = machine-holds .served x .installed; lends = (λ l i s. refl, tt) };
-      engine = record { taken = served-with x x .taken; installed = served-with x x .installed; lends = (λ l i s. refl, tt) };
-      readings = λ i m n. absurd (let z : i < length (after layout policy code (memory x) (pausedRun x ∷ []) .consumed) = n in omega (arith, ap (λ (us : List ℕ). length us) (unread x)));
-    }
 
 -- the machine, after SET
 machine-stands : (x : ℕ) → let c = machineAfter layout policy commands (memory x) (machineOne x ∷ []) in Stands layout (c .machine) × (c .machine .status ≡ Running) × (c .begun ≡ 1)
-unfolding ones leadingZeros rightLayout rightPolicy rightLandings bitsFrom landingsOf instrOf routine bundlesFor wordOf shapeOf readOff bundleAt isCommand commandOf fetchOf plainOf installAnswer installMemory installMachine effectOf applyOf machineFrom machineRunOf begins begunFrom machineOn machineTaken machineRun machineAll
+unfolding ones leadingZeros rightLayout rightPolicy rightLandings bitsFrom landingsOf instrOf routine bundlesFor wordOf shapeOf readOff bundleAt isCommand commandOf fetchOf plainOf installAnswer installMemory installMachine effectOf applyOf machineFrom machineRunOf begins begunFrom machineOn machineTaken machineRun afterAll
 machine-stands x = (inl refl, refl, refl)
 
-unread-one : (x : ℕ) → after layout policy code (memory x) (engineOne x ∷ []) .consumed ≡ []
-unfolding ones leadingZeros rightLayout rightPolicy rightLandings bitsFrom landingsOf judgeOf judgeAt firstRefused instrOf routine bundlesFor plainOf installAnswer installMemory applyOf sendOf actOf nextFor movedOf effectOn runFrom refusalBy runOf runOn afterTaken afterRun afterRuns
-unread-one x = refl
+-- and the engine's one run uses no reading
+unread : (x : ℕ) → (after layout policy code (memory x) (pausedRun x ∷ []) .consumed ≡ []) × (after layout policy code (memory x) (engineOne x ∷ []) .consumed ≡ [])
+unfolding ones leadingZeros rightLayout rightPolicy rightLandings bitsFrom landingsOf judgeOf judgeAt firstRefused instrOf routine bundlesFor plainOf installAnswer installMemory applyOf sendOf actOf nextFor movedOf effectOn runFrom refusalBy runOf runOn afterTaken afterRun afterAll
+unread x = (refl, refl)
 
-level-with : (x : ℕ) → Beside layout policy code (memory x) 32 (machineOne x ∷ []) (engineOne x ∷ [])
-level-with x =
+one-each : (x : ℕ) (g h : Given) → Lent layout (installMemory layout policy (memory x)) g → Lent layout (installMemory layout policy (memory x)) h → after layout policy code (memory x) (h ∷ []) .consumed ≡ [] → Beside layout policy code (memory x) 32 (g ∷ []) (h ∷ [])
+unfolding eachRun
+one-each x g h lg lh none =
     record {
       rewritten = beside-with x x .rewritten;
-      machine = record { passed = machine-holds .served x .passed; installed = machine-holds .served x .installed; lends = (λ l i s. refl, tt) };
-      engine = record { taken = served-with x x .taken; installed = served-with x x .installed; lends = (λ l i s. refl, tt) };
-      readings = λ i m n. absurd (let z : i < length (after layout policy code (memory x) (engineOne x ∷ []) .consumed) = n in omega (arith, ap (λ (us : List ℕ). length us) (unread-one x)));
+      machine = record { passed = machine-holds .served x .passed; installed = machine-holds .served x .installed; lends = (lg, tt) };
+      engine = record { taken = served-with x x .taken; installed = served-with x x .installed; lends = (lh, tt) };
+      readings = λ i m n. absurd (let z : i < length (after layout policy code (memory x) (h ∷ []) .consumed) = n in omega (arith, ap (λ (us : List ℕ). length us) none));
     }
 
 pub sample-holds : SampleHolds
-unfolding ones leadingZeros rightLayout rightPolicy rightLandings bitsFrom landingsOf judgeOf judgeAt firstRefused instrOf routine bundlesFor plainOf installAnswer installMemory applyOf sendOf actOf nextFor movedOf effectOn runFrom refusalBy runOf runOn afterTaken afterRun afterRuns runsOf rewriteAnswer placeAnswer
+unfolding ones leadingZeros rightLayout rightPolicy rightLandings bitsFrom landingsOf judgeOf judgeAt firstRefused instrOf routine bundlesFor plainOf installAnswer installMemory applyOf sendOf actOf nextFor movedOf effectOn runFrom refusalBy runOf runOn afterTaken afterRun afterAll eachRun rewriteAnswer placeAnswer
 sample-holds =
     record {
       served = λ x. served-with x x;
@@ -92,11 +80,11 @@ sample-holds =
       counted = λ x. refl;
       recorded = λ x. refl;
       state = λ x. refl;
-      waits = waits-with;
+      waits = λ x. one-each x (pausedRun x) (pausedRun x) (λ l i s. refl) (λ l i s. refl) (unread x .0);
       third = λ x. machine-waits x .0;
       behind = λ x. machine-waits x .1;
       paused = λ x. refl;
-      level = level-with;
+      level = λ x. one-each x (machineOne x) (engineOne x) (λ l i s. refl) (λ l i s. refl) (unread x .1);
       stands = λ x. machine-stands x .0;
       running = λ x. machine-stands x .1;
       even = λ x. machine-stands x .2;

@@ -27,7 +27,7 @@ use Rattle.rules.specs.Commands.{fetchOf, holdsOf}
 use Rattle.rules.specs.Bundles.{shapeOf, addressOf, commandsOf, rewriteAnswer}
 use Rattle.rules.specs.Machines.{View, regAt, cellAt, entryOf, State, stateOf, machineOf, onward, applyOf, effectOf, eventEffect, endingOf, seen, fits, nextOf as machineNext, Ran as MachineRan, endedIn as machineEnded, startOf as machineStart, runFrom as machineFrom, runOf as machineRunOf, installMemory}
 use Rattle.rules.specs.Guests.{Guest, guestAfter, guestStart}
-use Rattle.rules.specs.Runs.{Given, Carried as MachineCarried, carriedOf as machineCarried, pairsOf, waitingAt, begins, begunFrom, eventIn, runOn as machineOn, afterTaken as machineTaken, afterRun as machineRun, after as machineAfter, atFirst as machineFirst, Lent as MachineLent}
+use Rattle.rules.specs.Runs.{Given, Lent, Carried as MachineCarried, carriedOf as machineCarried, pairsOf, waitingAt, begins, begunFrom, eventIn, runOn as machineOn, afterTaken as machineTaken, afterRun as machineRun, after as machineAfter}
 use Rattle.rules.specs.Claims.{Stands, Waiting, givenFor}
 use Rattle.rules.proofs.Bools.{no, cond-ind}
 use Rattle.rules.proofs.Facts.{Valid}
@@ -36,10 +36,10 @@ use Rattle.rules.proofs.Conditions.{bundled-routine}
 use Rattle.rules.proofs.Track.{first-yes, first-no, lent-cell, tracks, event-at, enter as machine-enter}
 use Rattle.rules.proofs.Isolation.{guest-rule, routine-tracked}
 use Rattle.engine_rules.specs.Engines.{sendOf, actOf, nextFor, nextOf, stepOf, entryAddress, Ran, endedIn, startOf, runFrom, runOf, refusalOf, refusalBy}
-use Rattle.engine_rules.specs.Claims.{Carried, carriedOf, atFirst, runOn, afterTaken, afterRun, after, Lent, Follows, InTurn, Meets, Beside, PausedBy, EngineWaits}
+use Rattle.engine_rules.specs.Claims.{Carried, carriedOf, runOn, afterTaken, afterRun, after, Follows, InTurn, Meets, Beside, PausedBy, EngineWaits}
 use Rattle.engine_rules.proofs.Runs.{run-none, engineLoop, taken-size, enter}
 use Rattle.engine_rules.proofs.Rule.{taken-of, ready-of, routine-of, stays, engine-rule, engine-machine, engine-paused, meet}
-use Rattle.engine_rules.proofs.Together.{runs-more, lends-more, machine-more, machine-lends}
+use Rattle.engine_rules.proofs.Together.{machine-more, engine-more, beside-more}
 use Rattle.engine_rules.proofs.Paused.{machine-next}
 
 -- ---- the engine: a run of one instruction that pauses is before an event that has its arrow
@@ -187,7 +187,7 @@ both-pause : (lay : Layout) (pol : Policy) (code mem : List ℕ) (room : ℕ) (g
     let c = machineAfter lay pol (commandsOf lay code) mem gs in
     let e = after lay pol code mem es in
     Stands lay (c .machine) → c .begun ≡ e .counted → c .machine .status ≡ Running →
-    (g h : Given) → MachineLent lay c g → Lent lay e h → length (g .memory) ≡ lay .size → length (h .memory) ≡ lay .size →
+    (g h : Given) → Lent lay (c .memory) g → Lent lay (e .memory) h → length (g .memory) ≡ lay .size → length (h .memory) ≡ lay .size →
     length (h .log) ≡ length (g .log) → length (h .readings) ≡ length (g .readings) → 3 ≤ g .budget →
     PausedBy (runOn lay code e (givenFor h 1) .outcome .answer .number) → Pause lay code c e g (givenFor h 1)
 unfolding runOn runOf
@@ -270,19 +270,10 @@ engine-waits lay pol code mem room gs es v x count run g h lg lh sg sh logs read
     let n = after lay pol code mem es in
     let h′ = givenFor h 1 in
     let y = both-pause lay pol code mem room gs es v x count run g h lg lh sg sh logs readings few p in
-    let mg = machine-more lay ws (machineFirst lay pol mem) gs g in
-    let mh = runs-more lay code (atFirst lay pol mem) es h′ in
-    let us : machineAfter lay pol ws mem (gs ++ (g ∷ [])) .consumed ≡ c .consumed = ap (λ (k : MachineCarried). k .consumed) mg ∙ y .machine in
-    let vs : after lay pol code mem (es ++ (h′ ∷ [])) .consumed ≡ n .consumed = ap (λ (k : Carried). k .consumed) mh ∙ y .engine in
-    let more : Beside lay pol code mem room (gs ++ (g ∷ [])) (es ++ (h′ ∷ [])) =
-    record {
-      rewritten = v .rewritten;
-      machine =
-          record { passed = v .machine .passed; installed = v .machine .installed; lends = machine-lends lay ws (machineFirst lay pol mem) gs g (v .machine .lends) lg };
-      engine =
-          record { taken = v .engine .taken; installed = v .engine .installed; lends = lends-more lay code (atFirst lay pol mem) es h′ (v .engine .lends) lh };
-      readings = subst (λ (k : List ℕ). InTurn k (after lay pol code mem (es ++ (h′ ∷ [])) .consumed)) (sym us) (subst (λ (k : List ℕ). InTurn (c .consumed) k) (sym vs) (v .readings));
-    } in
+    let mg = machine-more lay pol code mem room gs es v g h′ in
+    let mh = engine-more lay pol code mem room gs es v g h′ in
+    let turn = subst (λ (k : List ℕ). InTurn k (afterRun lay code n h′ .consumed)) (sym (y .machine)) (subst (λ (k : List ℕ). InTurn (c .consumed) k) (sym (y .engine)) (v .readings)) in
+    let more = beside-more lay pol code mem room gs es v g h′ lg lh turn in
     let begun : machineRun lay ws c g .begun ≡ afterRun lay code n h′ .counted + 1 = omega (arith, y .begun, y .counted, count) in
     let one : machineAfter lay pol ws mem (gs ++ (g ∷ [])) .begun ≡ after lay pol code mem (es ++ (h′ ∷ [])) .counted + 1 =
     ap (λ (k : MachineCarried). k .begun) mg ∙ begun ∙ sym (ap (λ (k : Carried). k .counted + 1) mh) in

@@ -9,11 +9,12 @@ use Rattle.rules.specs.Names.{answer}
 use Rattle.rules.specs.Words.{packOf}
 use Rattle.rules.specs.Machines.{installMemory}
 use Rattle.rules.specs.Guests.{pairOf}
-use Rattle.rules.specs.Runs.{Given, after as machineAfter}
+use Rattle.rules.specs.Runs.{Given, Run, recordedIn, after as machineAfter}
 use Rattle.rules.specs.Claims.{Stands, Waiting, givenFor}
 use Rattle.samples.specs.Sample.{layout, policy, code, commands, memory, given, runs as machineRuns, pausedRun}
+use Rattle.engine_rules.specs.declared.EngineOutcome.{EngineOutcome}
 use Rattle.engine_rules.specs.Engines.{refusalOf}
-use Rattle.engine_rules.specs.Claims.{atFirst, runOn, afterRun, after, Served, Beside, PausedBy, Run, allRuns, recordedIn}
+use Rattle.engine_rules.specs.Claims.{atFirst, runOn, afterRun, after, Served, Beside, PausedBy, allRuns}
 
 -- two instructions; a memory too short; a thousand, before which the host wrote x to the free cell 600
 abbrev pub firstRun : ℕ → Given
@@ -32,10 +33,10 @@ machineOne x = given (installMemory layout policy (memory x)) 4 x
 abbrev pub engineOne : ℕ → Given
 engineOne x = given (installMemory layout policy (memory x)) 1 x
 
-abbrev pub answersIn : List Run → List Answer
+abbrev pub answersIn : List (Run EngineOutcome) → List Answer
 answersIn rs = map (λ r. r .ran .outcome .answer) rs
 
-abbrev pub countsIn : List Run → List ℕ
+abbrev pub countsIn : List (Run EngineOutcome) → List ℕ
 countsIn rs = map (λ r. r .ran .outcome .steps) rs
 
 -- whatever x free cells and logs held, the runs are on the premise, and whatever y, beside the machine's runs of the same routine;

@@ -24,7 +24,7 @@ use Rattle.rules.specs.Policies.{Policy}
 use Rattle.rules.specs.Commands.{fetchOf, holdsOf}
 use Rattle.rules.specs.Bundles.{at4, addressOf, shapeOf, bundleAt}
 use Rattle.rules.specs.Machines.{View, State, Ran, regAt, entryOf, onward, effectOf, applyOf, seen, nextOf, stepOf, runFrom, startOf, runOf, fits}
-use Rattle.rules.specs.Runs.{Given, Carried, atFirst, runOn, afterTaken, afterRun, afterRuns, runsOf, Served}
+use Rattle.rules.specs.Runs.{Given, eachRun, afterAll, Carried, atFirst, runOn, afterTaken, afterRun, Served}
 use Rattle.rules.proofs.Bools.{no, cases, cond-ind}
 use Rattle.rules.proofs.Facts.{Valid, Bundled}
 use Rattle.rules.proofs.Loops.{Goes}
@@ -32,6 +32,7 @@ use Rattle.rules.proofs.Endings.{run-ind}
 use Rattle.rules.proofs.Conditions.{bundled-of, right-of, machine-of}
 use Rattle.forward_rules.specs.Forward.{forwardAt, checkForwardAnswer}
 use Rattle.forward_rules.specs.Claims.{mostSteps, stepsIn, Bounded}
+use Rattle.forward_rules.proofs.Runs.{runsOf, afterRuns}
 use Rattle.forward_rules.proofs.Class.{AllForward, class-of}
 
 -- a machine of the class neither runs on from an end nor stops for want of a landing
@@ -224,7 +225,7 @@ module _ (lay : Layout) (ws : List ℕ) (n : ℕ) (is : ℕ → Instr) (room : l
       by false e = rw (e, z) a
 
   pub ahead-runs : (t : ℕ) (c : Carried) (gs : List Given) → Behind t (c .machine) → Behind (t + stepsIn (runsOf lay ws c gs)) (afterRuns lay ws c gs .machine)
-  unfolding afterRuns runsOf
+  unfolding afterAll eachRun
   ahead-runs t c [] a = let z : t + 0 ≡ t = omega arith in rw z a
   ahead-runs t c (g ∷ gs) a =
       let x = runOn lay ws c g .outcome .answer .steps in

@@ -17,10 +17,9 @@ use Rattle.rules.specs.Layouts.{rightLayout}
 use Rattle.rules.specs.Policies.{Policy}
 use Rattle.rules.specs.Commands.{fetchOf}
 use Rattle.rules.specs.Bundles.{bundleAt}
-use Rattle.rules.specs.Machines.{State, seen, runFrom, startOf, runOf, fits}
-use Rattle.rules.specs.Guests.{Guest}
-use Rattle.rules.specs.Runs.{Given, Carried, atFirst, runOn, afterTaken, afterRun, afterRuns, runAs, runsOf, allRuns, after, Served}
-use Rattle.rules.specs.Claims.{Every}
+use Rattle.rules.specs.Machines.{State, seen, runFrom, startOf, runOf, fits, installMemory}
+use Rattle.rules.specs.Guests.{Guest, guestStart}
+use Rattle.rules.specs.Runs.{Given, Carried, atFirst, runOn, afterTaken, afterRun, runAs, allRuns, after, Served, Every, eachRun, afterAll}
 use Rattle.rules.proofs.Endings.{goes}
 use Rattle.rules.proofs.Conditions.{layout-of}
 use Rattle.rules.proofs.Sim.{Sim, over, live}
@@ -28,7 +27,7 @@ use Rattle.rules.proofs.Track.{tracks}
 use Rattle.rules.proofs.Isolation.{list-tracked}
 use Rattle.forward_rules.specs.Forward.{checkForwardAnswer}
 use Rattle.forward_rules.specs.Claims.{mostSteps, stepsIn, Resumed, pauses, ResumedAfter, GoesOn, Over, paidFor, paidBy, paidIn, Finishes, FinishesIn}
-use Rattle.forward_rules.proofs.Runs.{steps-some, ran-before, all-spent}
+use Rattle.forward_rules.proofs.Runs.{runsOf, afterRuns, steps-some, ran-before, all-spent}
 use Rattle.forward_rules.proofs.Bound.{ahead-all}
 
 -- ---- one run that is not refused
@@ -82,12 +81,12 @@ module _ (lay : Layout) (ws : List ℕ) where
   took c g false t e = rw t (omega arith)
 
   ran-all : (c : Carried) (gs : List Given) → afterRuns lay ws c gs .machine .status ≡ Running → c .machine .status ≡ Running
-  unfolding afterRuns
+  unfolding afterAll
   ran-all c [] e = e
   ran-all c (g ∷ gs) e = was-running c g _ refl (ran-all (afterRun lay ws c g) gs e)
 
   took-all : (c : Carried) (gs : List Given) → afterRuns lay ws c gs .machine .status ≡ Running → paidIn (runsOf lay ws c gs) ≤ stepsIn (runsOf lay ws c gs)
-  unfolding afterRuns runsOf
+  unfolding afterAll eachRun
   took-all c [] e = omega arith
   took-all c (g ∷ gs) e =
       let x = took c g _ refl (ran-all (afterRun lay ws c g) gs e) in
@@ -136,7 +135,7 @@ finishes lay pol ws mem gs f v p =
 
 -- ---- by the count of runs: each that is resumed takes a step
 step-each : (lay : Layout) (ws : List ℕ) → rightLayout lay ≡ true → (c : Carried) (gs : List Given) → Every (Resumed lay) gs → Every (λ (g : Given). 1 ≤ g .budget) gs → afterRuns lay ws c gs .machine .status ≡ Running → length gs ≤ stepsIn (runsOf lay ws c gs)
-unfolding afterRuns runsOf
+unfolding afterAll eachRun
 step-each lay ws right c [] ok b e = omega arith
 step-each lay ws right c (g ∷ gs) ok b e =
     let run = was-running lay ws c g _ refl (ran-all lay ws (afterRun lay ws c g) gs e) in
@@ -166,7 +165,7 @@ module _ (lay : Layout) (ws : List ℕ) (right : rightLayout lay ≡ true) where
   adds false false x y n a b l = omega (arith, b refl)
 
   step-two : (p : Bool) (c : Carried) (gs : List Given) → ResumedAfter lay p (runsOf lay ws c gs) → Every Sized gs → Every (λ (g : Given). 1 ≤ g .budget) gs → afterRuns lay ws c gs .machine .status ≡ Running → length gs ≤ 2 * stepsIn (runsOf lay ws c gs) + spare p
-  unfolding afterRuns runsOf
+  unfolding afterAll eachRun
   step-two p c [] ok m b e = omega arith
   step-two p c (g ∷ gs) ok m b e =
       let fit : fits lay (g .memory) ≡ true = rw (right, eq-eqb _ _ (m .0)) in

@@ -19,15 +19,16 @@ use Rattle.rules.specs.Names.{bundleLength}
 use Rattle.rules.specs.Commands.{fetchOf}
 use Rattle.rules.specs.Bundles.{shapeOf, bundleAt}
 use Rattle.rules.specs.Machines.{View, State, Ran, effectOf, applyOf, seen, nextOf, stepOf, runFrom, startOf, runOf, fits}
-use Rattle.rules.specs.Runs.{Given, Carried, atFirst, runOn, afterTaken, afterRun, afterRuns, runsOf, after, Lends, Served}
+use Rattle.rules.specs.Runs.{Given, eachRun, afterAll, Carried, atFirst, runOn, afterTaken, afterRun, after, Served}
 use Rattle.rules.proofs.Bools.{cases}
 use Rattle.rules.proofs.Facts.{Bundled}
 use Rattle.rules.proofs.Loops.{Goes}
+use Rattle.rules.proofs.Lists.{after-more, lends-first}
 use Rattle.rules.proofs.Endings.{goes, run-ind}
 use Rattle.rules.proofs.Conditions.{bundled-of, right-of, layout-of}
 use Rattle.rules.proofs.Progress.{Still, still, quiet}
 use Rattle.forward_rules.specs.Claims.{stepsIn, FinishesAtOnce, pauses}
-use Rattle.forward_rules.proofs.Runs.{ending-plain, all-spent}
+use Rattle.forward_rules.proofs.Runs.{runsOf, afterRuns, ending-plain, all-spent}
 use Rattle.forward_rules.proofs.Class.{AllForward, class-of}
 use Rattle.forward_rules.proofs.Bound.{Leads, Ahead, ahead-step, on-by-one, split, below-end, next-leads, ahead-all}
 use Rattle.forward_rules.proofs.Finish.{going-or-over}
@@ -119,19 +120,10 @@ module _ (lay : Layout) (ws : List ℕ) (n : ℕ) (is : ℕ → Instr) (room : l
 
 -- ---- a further run of a list
 module _ (lay : Layout) (ws : List ℕ) where
-  after-more : (c : Carried) (gs : List Given) (g : Given) → afterRuns lay ws c (gs ++ (g ∷ [])) ≡ afterRun lay ws (afterRuns lay ws c gs) g
-  unfolding afterRuns
-  after-more c [] g = refl
-  after-more c (x ∷ gs) g = after-more (afterRun lay ws c x) gs g
-
   steps-last : (c : Carried) (gs : List Given) (g : Given) → runOn lay ws (afterRuns lay ws c gs) g .outcome .answer .steps ≤ stepsIn (runsOf lay ws c (gs ++ (g ∷ [])))
-  unfolding afterRuns runsOf
+  unfolding afterAll eachRun
   steps-last c [] g = omega arith
   steps-last c (x ∷ gs) g = omega (arith, steps-last (afterRun lay ws c x) gs g)
-
-  ahead-first : (c : Carried) (gs : List Given) (g : Given) → Lends lay ws c (gs ++ (g ∷ [])) → Lends lay ws c gs
-  ahead-first c [] g l = tt
-  ahead-first c (x ∷ gs) g l = (l .0, ahead-first (afterRun lay ws c x) gs g (l .1))
 
 -- what lies behind the whole list lies behind the run
 fewer : (base n t pc : ℕ) (st : Status) → Ahead base n t pc st → Ahead base n 0 pc st
@@ -144,7 +136,7 @@ finishes-at-once lay pol ws mem gs g f v am =
     let is = bundleAt lay ws in
     let bs = bundled-of lay ws (v .passed) in
     let ok = right-of lay pol ws mem (v .passed) (v .installed) in
-    let v₀ : Served lay pol ws mem gs = record { passed = v .passed; installed = v .installed; lends = ahead-first lay ws (atFirst lay pol mem) gs g (v .lends) } in
+    let v₀ : Served lay pol ws mem gs = record { passed = v .passed; installed = v .installed; lends = lends-first (afterRun lay ws) lay (λ (c : Carried). c .memory) (atFirst lay pol mem) gs (g ∷ []) (v .lends) } in
     let c = after lay pol ws mem gs in
     let s = startOf (c .machine) (g .memory) (g .log) in
     let t : fits lay (g .memory) ≡ true = rw (layout-of lay ws (v .passed), eq-eqb (length (g .memory)) (lay .size) (am .memory)) in
@@ -154,7 +146,7 @@ finishes-at-once lay pol ws mem gs g f v am =
     (record { log = refl; pairs = λ r. omega (arith, a₀ .on r .0); used = λ r. omega (arith, a₀ .on r .0) }) in
     let a = ahead-all lay pol ws mem (gs ++ (g ∷ [])) f v in
     let ran : runOn lay ws c g ≡ runFrom lay ws (g .readings) (g .budget) 0 s = rw t in
-    let left : after lay pol ws mem (gs ++ (g ∷ [])) .machine ≡ runFrom lay ws (g .readings) (g .budget) 0 s .outcome .machine = ap (λ (x : Carried). x .machine) (after-more lay ws (atFirst lay pol mem) gs g) ∙ rw t in
+    let left : after lay pol ws mem (gs ++ (g ∷ [])) .machine ≡ runFrom lay ws (g .readings) (g .budget) 0 s .outcome .machine = ap (λ (x : Carried). x .machine) (after-more (afterRun lay ws) (atFirst lay pol mem) gs g) ∙ rw t in
     ⊎-elim
     (λ run.
     let o = a .on run in

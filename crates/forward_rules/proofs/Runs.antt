@@ -1,4 +1,4 @@
--- What holds of each run, whatever the commands: its steps, and when it pauses.
+-- Lists of runs from anywhere, and what holds of each run, whatever the commands: its steps, and when it pauses.
 use mathlib.Core.Path.{_≡_, refl, sym, _∙_, ap, subst}
 use mathlib.Core.Bool.{true, false}
 use mathlib.Core.Logic.{⊎-elim}
@@ -6,16 +6,25 @@ use mathlib.Core.List.{List}
 use Prim.Native.Nat.{ℕ, zero, suc, _+_, _≤_}
 use native.Mathlib.Omega.{arith}
 use Rattle.rules.specs.declared.Layout.{Layout}
+use Rattle.rules.specs.declared.Outcome.{Outcome}
 use Rattle.rules.specs.declared.Status.{Status}
 use Rattle.rules.specs.declared.Status.the-variants.{Running, Ended, Stopped, Faulted, Strayed}
 use Rattle.rules.specs.declared.Ending.{Ending}
 use Rattle.rules.specs.declared.Effect.the-variants.{Wait}
 use Rattle.rules.specs.Commands.{fetchOf}
 use Rattle.rules.specs.Machines.{State, Ran, seen, nextOf, stepOf, endingOf, runFrom}
+use Rattle.rules.specs.Runs.{Given, eachRun, afterAll, Run, Carried, afterRun, runAs}
 use Rattle.rules.proofs.Bools.{no}
 use Rattle.rules.proofs.Loops.{Goes}
 use Rattle.rules.proofs.Endings.{Pauses, pauses as pauses-only, run-ind}
 use Rattle.forward_rules.specs.Claims.{pauses}
+
+-- the runs of a list, and what is carried on after them
+abbrev pub runsOf : Layout → List ℕ → Carried → List Given → List (Run Outcome)
+runsOf lay ws c gs = eachRun (runAs lay ws) (afterRun lay ws) c gs
+
+abbrev pub afterRuns : Layout → List ℕ → Carried → List Given → Carried
+afterRuns lay ws c gs = afterAll (afterRun lay ws) c gs
 
 -- what a status ends with is no pause
 pub ending-plain : (t : Status) → pauses (endingOf t) ≡ false

@@ -11,7 +11,7 @@ use Rattle.rules.specs.Words.{judgeOf, judgeAt, firstRefused, instrOf, routine,
 use Rattle.rules.specs.Commands.{isCommand, commandOf, wordOf, fetchOf, plainOf}
 use Rattle.rules.specs.Bundles.{shapeOf, valid, readOff, bundleAt, isBundle, shapedAt, passesAt, checkFrom, checkAnswer, placeAnswer, rewriteAnswer}
 use Rattle.rules.specs.Machines.{installAnswer, installMemory, installMachine, effectOf, applyOf, runFrom, runOf}
-use Rattle.rules.specs.Runs.{Carried, atFirst, runOn, afterTaken, afterRun, runsOf, Lends, Served}
+use Rattle.rules.specs.Runs.{Carried, atFirst, runOn, afterTaken, afterRun, Lends, Served, eachRun}
 use Rattle.rules.proofs.Bools.{no}
 use Rattle.forward_rules.specs.Forward.{forwardAt, forwardFrom, forwardAnswer, checkForwardAnswer}
 use Rattle.forward_rules.specs.Sample.{layout, policy, commands, memory, runs, Answers, Reaches, shortCommands, oneStep, oneStepEach, fourthAlone, stepwise, Stepwise}
@@ -26,11 +26,11 @@ unfolding ones leadingZeros rightLayout instrOf routine bundlesFor wordOf shapeO
 passed = refl
 
 served : Served layout policy commands memory runs
-unfolding ones rightLayout rightPolicy rightLandings installAnswer
+unfolding ones rightLayout rightPolicy rightLandings installAnswer eachRun
 served = record { passed = passed; installed = refl; lends = (λ l i s. refl, (λ l i s. refl, tt)) }
 
 pub reaches : Reaches
-unfolding ones leadingZeros rightLayout rightPolicy rightLandings landingsOf judgeOf judgeAt firstRefused instrOf routine bundlesFor wordOf shapeOf isCommand commandOf fetchOf plainOf installAnswer installMemory installMachine effectOf applyOf runFrom runOf runOn afterTaken afterRun runsOf placeAnswer rewriteAnswer forwardAt forwardFrom forwardAnswer
+unfolding ones leadingZeros rightLayout rightPolicy rightLandings landingsOf judgeOf judgeAt firstRefused instrOf routine bundlesFor wordOf shapeOf isCommand commandOf fetchOf plainOf installAnswer installMemory installMachine effectOf applyOf runFrom runOf runOn afterTaken afterRun eachRun placeAnswer rewriteAnswer forwardAt forwardFrom forwardAnswer
 reaches =
     record {
       rewritten = refl;
@@ -44,6 +44,7 @@ reaches =
 
 -- each run of one step is lent what the last one left
 lends : (c : Carried) (bs : List Bool) → Lends layout shortCommands c (oneStepEach c bs)
+unfolding eachRun
 lends c [] = tt
 lends c (b ∷ bs) = (λ l i s. refl, lends (afterRun layout shortCommands c (oneStep (c .memory) b)) bs)
 
@@ -55,7 +56,7 @@ short-served : Served layout policy shortCommands memory stepwise
 short-served = record { passed = short-passed; installed = served .installed; lends = lends (atFirst layout policy memory) fourthAlone }
 
 pub stepwise-holds : Stepwise
-unfolding ones leadingZeros rightLayout rightPolicy rightLandings landingsOf judgeOf judgeAt firstRefused instrOf routine bundlesFor wordOf shapeOf isCommand commandOf fetchOf plainOf installAnswer installMemory installMachine effectOf applyOf runFrom runOf runOn afterTaken afterRun runsOf placeAnswer rewriteAnswer forwardAt forwardFrom forwardAnswer
+unfolding ones leadingZeros rightLayout rightPolicy rightLandings landingsOf judgeOf judgeAt firstRefused instrOf routine bundlesFor wordOf shapeOf isCommand commandOf fetchOf plainOf installAnswer installMemory installMachine effectOf applyOf runFrom runOf runOn afterTaken afterRun eachRun placeAnswer rewriteAnswer forwardAt forwardFrom forwardAnswer
 stepwise-holds =
     record {
       served = short-served;

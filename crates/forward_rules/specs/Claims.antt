@@ -7,6 +7,7 @@ use mathlib.Core.List.{List, [], _∷_, _++_}
 use lib.ListN.{length}
 use Rattle.rules.specs.declared.Layout.{Layout}
 use Rattle.rules.specs.declared.Machine.{Machine}
+use Rattle.rules.specs.declared.Outcome.{Outcome}
 use Rattle.rules.specs.declared.Status.the-variants.{Running, Ended, Stopped}
 use Rattle.rules.specs.declared.Ending.{Ending}
 use Rattle.rules.specs.declared.Ending.the-variants.{Done, NoArrow, Fault, LogFull, Silent, Spent, NoLanding, Refused}
@@ -14,8 +15,7 @@ use Rattle.rules.specs.Names.{bundleLength, answer}
 use Rattle.rules.specs.Policies.{Policy}
 use Rattle.rules.specs.Words.{bundlesFor}
 use Rattle.rules.specs.Bundles.{commandsOf, rewriteAnswer}
-use Rattle.rules.specs.Runs.{Given, Run, runOn, allRuns, after, Served}
-use Rattle.rules.specs.Claims.{Every}
+use Rattle.rules.specs.Runs.{Given, Every, Run, runOn, allRuns, after, Served}
 use Rattle.forward_rules.specs.Forward.{forwardAnswer, checkForwardAnswer}
 
 -- ---- the two checks agree
@@ -48,7 +48,7 @@ abbrev pub mostSteps : ℕ → ℕ
 mostSteps N = bundleLength * (N - 1) + 1
 
 -- the 'counted steps over all its runs'; a refused run answers 0
-abbrev pub stepsIn : List Run → ℕ
+abbrev pub stepsIn : List (Run Outcome) → ℕ
 stepsIn [] = 0
 stepsIn (r ∷ rs) = r .ran .outcome .answer .steps + stepsIn rs
 
@@ -78,7 +78,7 @@ pauses NoLanding = false
 pauses Refused = false
 
 -- of the runs of a list: each that follows a pause resumes it so; `paused` says whether the run before the list paused
-abbrev pub ResumedAfter : Layout → Bool → List Run → Type 0
+abbrev pub ResumedAfter : Layout → Bool → List (Run Outcome) → Type 0
 ResumedAfter lay paused [] = Unit {0}
 ResumedAfter lay paused (r ∷ rs) =
     (paused ≡ true → Resumed lay (r .given)) × ResumedAfter lay (pauses (r .ran .outcome .answer .ending)) rs
@@ -108,10 +108,10 @@ paidFor NoArrow steps budget = budget
 paidFor Fault steps budget = budget
 paidFor NoLanding steps budget = budget
 
-abbrev pub paidBy : Run → ℕ
+abbrev pub paidBy : Run Outcome → ℕ
 paidBy r = paidFor (r .ran .outcome .answer .ending) (r .ran .outcome .answer .steps) (r .given .budget)
 
-abbrev pub paidIn : List Run → ℕ
+abbrev pub paidIn : List (Run Outcome) → ℕ
 paidIn [] = 0
 paidIn (r ∷ rs) = paidBy r + paidIn rs
 

@@ -13,8 +13,7 @@ use Rattle.rules.specs.Policies.{Policy, policyOf}
 use Rattle.rules.specs.Words.{packOf, bundlesFor}
 use Rattle.rules.specs.Bundles.{commandsOf, rewriteAnswer}
 use Rattle.rules.specs.Machines.{installMemory, runAnswer}
-use Rattle.rules.specs.Runs.{Given, Carried, atFirst, afterRun, Run, Served, allRuns}
-use Rattle.rules.specs.Claims.{Every}
+use Rattle.rules.specs.Runs.{Given, Carried, atFirst, afterRun, Served, allRuns, Every}
 use Rattle.forward_rules.specs.Forward.{forwardAnswer, checkForwardAnswer}
 use Rattle.forward_rules.specs.Claims.{mostSteps, stepsIn, Resumed, ResumedAfter, paidIn}
 
@@ -86,7 +85,7 @@ pub record Reaches : Type 0 where
   pub served : Served layout policy commands memory runs
   pub resumed : Every (Resumed layout) runs
   pub paid : mostSteps 4 ≤ paidIn (allRuns layout policy commands memory runs)
-  pub answers : map (λ (r : Run). r .ran .outcome .answer) (allRuns layout policy commands memory runs) ≡ runAnswer LogFull 6 1 0 ∷ runAnswer Done 7 1 0 ∷ []
+  pub answers : map (λ r. r .ran .outcome .answer) (allRuns layout policy commands memory runs) ≡ runAnswer LogFull 6 1 0 ∷ runAnswer Done 7 1 0 ∷ []
   pub reached : stepsIn (allRuns layout policy commands memory runs) ≡ mostSteps 4
 
 -- one order: N is 2, and five steps are the most
@@ -121,5 +120,5 @@ pub record Stepwise : Type 0 where
   pub budgets : Every (λ (g : Given). 1 ≤ g .budget) stepwise
   pub enough : 2 * mostSteps (bundlesFor (length short)) ≤ length stepwise
   pub answers :
-      map (λ (r : Run). r .ran .outcome .answer) (allRuns layout policy shortCommands memory stepwise)
+      map (λ r. r .ran .outcome .answer) (allRuns layout policy shortCommands memory stepwise)
       ≡ runAnswer Spent 1 0 0 ∷ runAnswer Spent 1 0 0 ∷ runAnswer LogFull 0 0 0 ∷ runAnswer Spent 1 1 0 ∷ runAnswer Spent 1 0 0 ∷ runAnswer Done 1 0 0 ∷ replicate 4 (runAnswer Done 0 0 0)

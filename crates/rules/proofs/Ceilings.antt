@@ -1,7 +1,7 @@
 -- Every recorded order is at most its ceiling.
 use mathlib.Core.Path.{sym, subst}
-use mathlib.Core.List.{List, [], _∷_, _++_}
-use Prim.Native.Nat.{ℕ, _+_, _-_, _*_}
+use mathlib.Core.List.{List, [], _∷_}
+use Prim.Native.Nat.{ℕ, _-_, _*_}
 use native.Mathlib.Omega.{arith}
 use lib.ListN.{length, getD}
 use Rattle.rules.specs.declared.Layout.{Layout}
@@ -12,16 +12,13 @@ use Rattle.rules.specs.Layouts.{limited}
 use Rattle.rules.specs.Commands.{fetchOf}
 use Rattle.rules.specs.Machines.{State, applyOf, seen, nextOf, endingOf, Ran, startOf, fits, runOf}
 use Rattle.rules.specs.Guests.{pairOf}
-use Rattle.rules.specs.Runs.{Given, Carried, runOn, afterRun, runsOf, recordedIn, pairsOf}
-use Rattle.rules.specs.Claims.{Every, Limited, Ceilings}
+use Rattle.rules.specs.Runs.{Given, pairsOf, Every, Carried, runOn, afterRun, runAs}
+use Rattle.rules.specs.Claims.{Limited, Ceilings}
 use Rattle.rules.proofs.Bools.{cond-ind}
 use Rattle.rules.proofs.Loops.{Loop, stepIn, keeps, machineLoop}
 use Rattle.rules.proofs.Counts.{Room, room}
+use Rattle.rules.proofs.Lists.{every-append, recorded-every}
 use Rattle.rules.proofs.Sim.{pairs-more}
-
-pub every-append : {A : Type 0} (P : A → Type 0) (xs ys : List A) → Every P xs → Every P ys → Every P (xs ++ ys)
-every-append P [] ys a b = b
-every-append P (x ∷ xs) ys a b = (a .0, every-append P xs ys (a .1) b)
 
 abbrev pub LimitedIn : Layout → List ℕ → ℕ → Type 0
 LimitedIn lay log n = Every (Limited lay) (pairsOf log n)
@@ -60,8 +57,4 @@ run-limited lay ws c g =
     (λ _. tt)
 
 pub ceilings : Ceilings
-unfolding runsOf
-ceilings lay ws c [] = tt
-ceilings lay ws c (g ∷ gs) =
-    let r = runOn lay ws c g in
-    every-append (Limited lay) (pairsOf (r .log) (r .outcome .answer .pairs)) (recordedIn (runsOf lay ws (afterRun lay ws c g) gs)) (run-limited lay ws c g) (ceilings lay ws (afterRun lay ws c g) gs)
+ceilings lay ws = recorded-every (runAs lay ws) (afterRun lay ws) (Limited lay) (run-limited lay ws)

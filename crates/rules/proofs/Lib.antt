@@ -17,6 +17,7 @@ pub mod Passing
 pub mod Shapes
 pub mod Endings
 pub mod Sim
+pub mod Lists
 pub mod Track
 pub mod Twins
 pub mod Isolation

@@ -11,6 +11,7 @@ use lib.ListN.{length, getD, set, length-set, List·getD-eq-default}
 use lib.Seq.{getD-set-same, getD-set-other, set-out}
 use Rattle.rules.specs.declared.Command.{Command}
 use Rattle.rules.specs.declared.Command.the-variants.{Nop, Halt, Plain, Load, Store, GoIf, GoReg, Look, StopIf, Keep, Event, Stray}
+use Rattle.rules.specs.declared.Status.{Status}
 use Rattle.rules.specs.declared.Status.the-variants.{Running}
 use Rattle.rules.specs.declared.Ending.{Ending}
 use Rattle.rules.specs.declared.Effect.{Effect}
@@ -24,15 +25,16 @@ use Rattle.rules.specs.Layouts.{inBox, rightLayout}
 use Rattle.rules.specs.Policies.{Policy}
 use Rattle.rules.specs.Landings.{marked}
 use Rattle.rules.specs.Commands.{fetchOf}
-use Rattle.rules.specs.Machines.{viewOf, landsAt, effectOf, State, stateOf, withPair, applyOf, seen, nextOf, stepOf, Ran, fits, startOf, runFrom, runOf, installMemory}
+use Rattle.rules.specs.Machines.{viewOf, landsAt, effectOf, State, stateOf, withPair, applyOf, seen, nextOf, stepOf, RanWith, fits, startOf, runFrom, runOf, installMemory}
 use Rattle.rules.specs.Bundles.{shapeOf}
 use Rattle.rules.specs.Guests.{Pair, Guest, rOf, guestStart}
-use Rattle.rules.specs.Runs.{Given, pairsOf, Carried, atFirst, runOn, afterTaken, begins, afterRun, runsOf, Matches, Lent, Lends, Served}
-use Rattle.rules.specs.Claims.{Each, Alike, Same}
+use Rattle.rules.specs.Runs.{Given, pairsOf, Carried, atFirst, runOn, afterTaken, begins, afterRun, Matches, Lent, Lends, Served, Each, eachRun, Run, carriedOf, runAs, allRuns}
+use Rattle.rules.specs.Claims.{Alike, Same}
 use Rattle.rules.proofs.Bools.{cases, both}
 use Rattle.rules.proofs.Landings.{marked-same}
 use Rattle.rules.proofs.Facts.{Right, Valid, Bundled}
 use Rattle.rules.proofs.Loops.{Goes, Loop, stepIn, alikes, machineLoop}
+use Rattle.rules.proofs.Lists.{LentAll}
 use Rattle.rules.proofs.Conditions.{machine-of}
 use Rattle.rules.proofs.Sim.{Mid, start, rest, load1, load2, store1, store2, gox1, gox2, gox3, event1, event2, event3, Sim, over, live, Known, Stays}
 use Rattle.rules.proofs.Track.{lent-box, lent-cell, lent-table, lent-landing, tracks, step-known, enter, stays-run}
@@ -186,79 +188,79 @@ module _ {R : Type 0} (a : Loop ℕ R) (lay : Layout) (In : State → Type 0)
       same-next : (s t : State) → In s × Twin lay s t → s .status ≡ Running → a .next t ≡ a .next s
       same-next s t x r = ap (a .next) (x .1 .same) ∙ next s (t .mem) (t .log) (x .0) r (beside-twin s t (x .1))
 
-record RanAlike (lay : Layout) (r r′ : Ran) : Type 0 where
-  outcome : r .outcome ≡ r′ .outcome
-  logged : pairsOf (r .log) (r .outcome .answer .pairs) ≡ pairsOf (r′ .log) (r′ .outcome .answer .pairs)
-  seen : Matches lay (r .mem) (r′ .mem)
+-- what two runs leave, with the same outcome and pairs, in memories that are alike
+pub record RanAlike {O : Type 0} (lay : Layout) (pairs : O → ℕ) (r r′ : RanWith O) : Type 0 where
+  pub outcome : r .outcome ≡ r′ .outcome
+  pub logged : pairsOf (r .log) (pairs (r .outcome)) ≡ pairsOf (r′ .log) (pairs (r′ .outcome))
+  pub seen : Matches lay (r .mem) (r′ .mem)
 
--- what the simulation knows of a list of runs: `In` within a run with readings rd, `Out` between two
-record Watched (lay : Layout) (ws : List ℕ) (In : List ℕ → State → Type 0) (Out : Carried → Type 0) : Type 0 where
-  safe : (rd : List ℕ) (s : State) → In rd s → s .status ≡ Running → Safe lay (fetchOf ws (lay .base) (s .pc)) (s .regs) (s .mem)
-  step : (rd : List ℕ) (s : State) → In rd s → s .status ≡ Running → ((d : Ending) → nextOf lay ws rd s ≡ Wait d → ⊥) → In rd (stepOf lay ws rd s)
-  enter : (c : Carried) (g : Given) → length (g .memory) ≡ lay .size → Lent lay c g → Out c → In (g .readings) (startOf (c .machine) (g .memory) (g .log))
-  leave : (c : Carried) (g : Given) → Lent lay c g → Out c → Out (afterRun lay ws c g)
+-- two runs given alike start as twins
+pub starts-alike : (lay : Layout) (regs : List ℕ) (pc : ℕ) (t : Status) (mem mem′ : List ℕ) (g g′ : Given) → length (g .memory) ≡ lay .size → Alike g g′ → Lent lay mem g → Lent lay mem′ g′ → Matches lay mem mem′ → Twin lay (stateOf regs pc t (g .memory) (g .log) 0 0) (stateOf regs pc t (g′ .memory) (g′ .log) 0 0)
+starts-alike lay regs pc t mem mem′ g g′ l a lent lent′ m =
+    record {
+      same = refl;
+      seen = λ i h. lent l i h ∙ m i h ∙ sym (lent′ (sym (a .memory) ∙ l) i h);
+      size = a .memory;
+      long = a .log;
+      logged = λ i m. absurd (omega arith);
+    }
 
-record Like (lay : Layout) (c c′ : Carried) : Type 0 where
-  machine : c .machine ≡ c′ .machine
-  seen : Matches lay (c .memory) (c′ .memory)
+-- two runs of a list that do the same, and go on from the same record and from memories that are alike
+pub record Onward {M O : Type 0} (lay : Layout) (m m′ : M) (r r′ : Run O) : Type 0 where
+  pub outcome : r .ran .outcome ≡ r′ .ran .outcome
+  pub logged : pairsOf (r .ran .log) (r .pairs) ≡ pairsOf (r′ .ran .log) (r′ .pairs)
+  pub from : m ≡ m′
+  pub seen : Matches lay (r .memory) (r′ .memory)
 
--- two runs, and what is carried on after them
-record Onward (lay : Layout) (ws : List ℕ) (c c′ : Carried) (g g′ : Given) : Type 0 where
-  outcome : runOn lay ws c g .outcome ≡ runOn lay ws c′ g′ .outcome
-  logged : pairsOf (runOn lay ws c g .log) (runOn lay ws c g .outcome .answer .pairs) ≡ pairsOf (runOn lay ws c′ g′ .log) (runOn lay ws c′ g′ .outcome .answer .pairs)
-  machine : afterRun lay ws c g .machine ≡ afterRun lay ws c′ g′ .machine
-  seen : Matches lay (afterRun lay ws c g .memory) (afterRun lay ws c′ g′ .memory)
-
-module _ (lay : Layout) (ws : List ℕ) (In : List ℕ → State → Type 0) (Out : Carried → Type 0) (known : Watched lay ws In Out) where
-  run-alike : (rd : List ℕ) (n k : ℕ) (s : State) (mem log : List ℕ) → In rd s → Twin lay s (besides s mem log) → RanAlike lay (runFrom lay ws rd n k s) (runFrom lay ws rd n k (besides s mem log))
-  run-alike rd n k s mem log w t =
-      loop-alike (machineLoop lay ws rd) lay (In rd) (λ s k. refl) (λ s mem log i r w. next-alike lay ws rd s mem log w (known .safe rd s i r))
-      (λ s mem log i r w. apply-alike lay rd (nextOf lay ws rd s) s mem log w) (known .step rd) (RanAlike lay)
-      (λ e k s mem log w. record { outcome = refl; logged = pairs-alike (s .log) log (s .pairs) (w .logged); seen = w .seen }) n k s mem log w t
-
-  -- ---- lists of runs
-  onward : (c c′ : Carried) (g g′ : Given) (b : Bool) → fits lay (g .memory) ≡ b → Alike g g′ → Lent lay c g → Lent lay c′ g′ → Out c → Like lay c c′ → Onward lay ws c c′ g g′
-  unfolding runOn runOf afterRun afterTaken
-  onward c c′ g g′ true f a lent lent′ w k =
-      let f′ : fits lay (g′ .memory) ≡ true = rw (← a .memory) f in
-      let same : g .readings ≡ g′ .readings = a .readings in
-      let l = eqb-true _ _ (both (rightLayout lay) (eqb (length (g .memory)) (lay .size)) f .1) in
-      let l′ = sym (a .memory) ∙ l in
-      let t : Twin lay (startOf (c .machine) (g .memory) (g .log)) (startOf (c .machine) (g′ .memory) (g′ .log)) =
-      record {
-        same = refl;
-        seen = λ i h. lent l i h ∙ k .seen i h ∙ sym (lent′ l′ i h);
-        size = a .memory;
-        long = a .log;
-        logged = λ i m. absurd (omega arith);
-      } in
-      let r = run-alike (g .readings) (g .budget) 0 (startOf (c .machine) (g .memory) (g .log)) (g′ .memory) (g′ .log) (known .enter c g l lent w) t in
-      record {
-        outcome = rw (f, f′, ← same, ← a .budget, ← k .machine) (r .outcome);
-        logged = rw (f, f′, ← same, ← a .budget, ← k .machine) (r .logged);
-        machine = rw (f, f′, ← same, ← a .budget, ← k .machine) (ap (λ (o : Outcome). o .machine) (r .outcome));
-        seen = rw (f, f′, ← same, ← a .budget, ← k .machine) (r .seen);
-      }
-  onward c c′ g g′ false f a lent lent′ w k =
-      let f′ : fits lay (g′ .memory) ≡ false = rw (← a .memory) f in
-      record { outcome = rw (f, f′, ← k .machine); logged = rw (f, f′); machine = rw (f, f′) (k .machine); seen = rw (f, f′) (k .seen) }
-
-  runs-alike : (c c′ : Carried) (gs gs′ : List Given) → Each Alike gs gs′ → Lends lay ws c gs → Lends lay ws c′ gs′ → Out c → Like lay c c′ → Each (Same lay) (runsOf lay ws c gs) (runsOf lay ws c′ gs′)
-  unfolding runsOf
-  runs-alike c c′ [] [] a l l′ w k = tt
-  runs-alike c c′ [] (g′ ∷ gs′) a l l′ w k = absurd a
-  runs-alike c c′ (g ∷ gs) [] a l l′ w k = absurd a
-  runs-alike c c′ (g ∷ gs) (g′ ∷ gs′) a l l′ w k =
-      let o = onward c c′ g g′ _ refl (a .0) (l .0) (l′ .0) w k in (
+-- lists of runs whose runs do so; `Out` is known of the first between two runs
+module _ {C M O : Type 0} (lay : Layout) (of : C → M) (memory : C → List ℕ) (run : C → Given → Run O) (on : C → Given → C) (Out : C → Type 0)
+    (left : (c : C) (g : Given) → run c g .memory ≡ memory (on c g))
+    (stays : (c : C) (g : Given) → Lent lay (memory c) g → Out c → Out (on c g))
+    (each : (c c′ : C) (g g′ : Given) → Alike g g′ → Lent lay (memory c) g → Lent lay (memory c′) g′ → Out c → of c ≡ of c′ → Matches lay (memory c) (memory c′) → Onward lay (of (on c g)) (of (on c′ g′)) (run c g) (run c′ g′)) where
+  pub runs-alike : (c c′ : C) (gs gs′ : List Given) → Each Alike gs gs′ → LentAll on lay memory c gs → LentAll on lay memory c′ gs′ → Out c → of c ≡ of c′ → Matches lay (memory c) (memory c′) → Each (Same lay) (eachRun run on c gs) (eachRun run on c′ gs′)
+  unfolding eachRun
+  runs-alike c c′ [] [] a l l′ w e m = tt
+  runs-alike c c′ [] (g′ ∷ gs′) a l l′ w e m = absurd a
+  runs-alike c c′ (g ∷ gs) [] a l l′ w e m = absurd a
+  runs-alike c c′ (g ∷ gs) (g′ ∷ gs′) a l l′ w e m =
+      let o = each c c′ g g′ (a .0) (l .0) (l′ .0) w e m in (
         record {
           outcome = o .outcome;
           logged = o .logged;
           cell = o .seen _ (lent-cell lay);
           box = λ i h. o .seen i (lent-box lay i h);
         },
-        runs-alike (afterRun lay ws c g) (afterRun lay ws c′ g′) gs gs′ (a .1) (l .1) (l′ .1) (known .leave c g (l .0) w)
-            (record { machine = o .machine; seen = o .seen }),
+        runs-alike (on c g) (on c′ g′) gs gs′ (a .1) (l .1) (l′ .1) (stays c g (l .0) w) (o .from) (rw (← left c g, ← left c′ g′) (o .seen)),
       )
+
+-- what the simulation knows of a list of runs: `In` within a run with readings rd, `Out` between two
+record Watched (lay : Layout) (ws : List ℕ) (In : List ℕ → State → Type 0) (Out : Carried → Type 0) : Type 0 where
+  safe : (rd : List ℕ) (s : State) → In rd s → s .status ≡ Running → Safe lay (fetchOf ws (lay .base) (s .pc)) (s .regs) (s .mem)
+  step : (rd : List ℕ) (s : State) → In rd s → s .status ≡ Running → ((d : Ending) → nextOf lay ws rd s ≡ Wait d → ⊥) → In rd (stepOf lay ws rd s)
+  enter : (c : Carried) (g : Given) → length (g .memory) ≡ lay .size → Lent lay (c .memory) g → Out c → In (g .readings) (startOf (c .machine) (g .memory) (g .log))
+  leave : (c : Carried) (g : Given) → Lent lay (c .memory) g → Out c → Out (afterRun lay ws c g)
+
+abbrev pairsIn : Outcome → ℕ
+pairsIn o = o .answer .pairs
+
+module _ (lay : Layout) (ws : List ℕ) (In : List ℕ → State → Type 0) (Out : Carried → Type 0) (known : Watched lay ws In Out) where
+  run-alike : (rd : List ℕ) (n k : ℕ) (s : State) (mem log : List ℕ) → In rd s → Twin lay s (besides s mem log) → RanAlike lay pairsIn (runFrom lay ws rd n k s) (runFrom lay ws rd n k (besides s mem log))
+  run-alike rd n k s mem log w t =
+      loop-alike (machineLoop lay ws rd) lay (In rd) (λ s k. refl) (λ s mem log i r w. next-alike lay ws rd s mem log w (known .safe rd s i r))
+      (λ s mem log i r w. apply-alike lay rd (nextOf lay ws rd s) s mem log w) (known .step rd) (RanAlike lay pairsIn)
+      (λ e k s mem log w. record { outcome = refl; logged = pairs-alike (s .log) log (s .pairs) (w .logged); seen = w .seen }) n k s mem log w t
+
+  onward : (c c′ : Carried) (g g′ : Given) (b : Bool) → fits lay (g .memory) ≡ b → Alike g g′ → Lent lay (c .memory) g → Lent lay (c′ .memory) g′ → Out c → c .machine ≡ c′ .machine → Matches lay (c .memory) (c′ .memory)
+      → Onward lay (afterRun lay ws c g .machine) (afterRun lay ws c′ g′ .machine) (runAs lay ws c g) (runAs lay ws c′ g′)
+  unfolding runOn runOf afterRun afterTaken
+  onward c c′ g g′ true f a lent lent′ w e m =
+      let f′ : fits lay (g′ .memory) ≡ true = rw (← a .memory) f in
+      let l = eqb-true _ _ (both (rightLayout lay) (eqb (length (g .memory)) (lay .size)) f .1) in
+      let r = run-alike (g .readings) (g .budget) 0 (startOf (c .machine) (g .memory) (g .log)) (g′ .memory) (g′ .log) (known .enter c g l lent w) (starts-alike lay _ _ _ (c .memory) (c′ .memory) g g′ l a lent lent′ m) in
+      rw (f, f′, ← a .readings, ← a .budget, ← e) (record { outcome = r .outcome; logged = r .logged; from = ap (λ (o : Outcome). o .machine) (r .outcome); seen = r .seen })
+  onward c c′ g g′ false f a lent lent′ w e m =
+      let f′ : fits lay (g′ .memory) ≡ false = rw (← a .memory) f in
+      rw (f, f′, ← e) (record { outcome = refl; logged = refl; from = refl; seen = m })
 
 -- ---- the simulation keeps the first list's reads within what is seen
 start-safe : (lay : Layout) (n : ℕ) (regs mem : List ℕ) (i : Instr) → Valid n i → getD mem (lay .cell) 0 < lay .states → Safe lay (shapeOf lay n i 0) regs mem
@@ -313,8 +315,10 @@ watched lay pol ws n is g0 ok bs =
       leave = λ c g lent w. stays-run lay pol ws n is ok bs g0 c g _ refl lent w;
     }
 
-pub alone : (lay : Layout) (pol : Policy) (ws mem : List ℕ) (gs : List Given) (n : ℕ) (is : ℕ → Instr) → Right lay pol n → Bundled lay ws n is → Stays lay pol n is (guestStart lay pol (installMemory lay pol mem)) (atFirst lay pol mem) → Served lay pol ws mem gs → (pol′ : Policy) (mem′ : List ℕ) (gs′ : List Given) → Served lay pol′ ws mem′ gs′ → Matches lay (installMemory lay pol mem) (installMemory lay pol′ mem′) → Each Alike gs gs′ → Each (Same lay) (runsOf lay ws (atFirst lay pol mem) gs) (runsOf lay ws (atFirst lay pol′ mem′) gs′)
+pub alone : (lay : Layout) (pol : Policy) (ws mem : List ℕ) (gs : List Given) (n : ℕ) (is : ℕ → Instr) → Right lay pol n → Bundled lay ws n is → Stays lay pol n is (guestStart lay pol (installMemory lay pol mem)) (atFirst lay pol mem) → Served lay pol ws mem gs → (pol′ : Policy) (mem′ : List ℕ) (gs′ : List Given) → Served lay pol′ ws mem′ gs′ → Matches lay (installMemory lay pol mem) (installMemory lay pol′ mem′) → Each Alike gs gs′ → Each (Same lay) (allRuns lay pol ws mem gs) (allRuns lay pol′ ws mem′ gs′)
 alone lay pol ws mem gs n is ok bs w v pol′ mem′ gs′ v′ m a =
     let g0 = guestStart lay pol (installMemory lay pol mem) in
-    runs-alike lay ws (Within lay pol n is g0) (Stays lay pol n is g0) (watched lay pol ws n is g0 ok bs) (atFirst lay pol mem) (atFirst lay pol′ mem′) gs gs′ a (v .lends) (v′ .lends) w
-    (record { machine = machine-of lay pol mem (v .installed) ∙ sym (machine-of lay pol′ mem′ (v′ .installed)); seen = m })
+    let k = watched lay pol ws n is g0 ok bs in
+    runs-alike lay (λ c. c .machine) (λ c. c .memory) (runAs lay ws) (afterRun lay ws) (Stays lay pol n is g0) (λ c g. refl) (k .leave)
+    (λ c c′ g g′. onward lay ws (Within lay pol n is g0) (Stays lay pol n is g0) k c c′ g g′ _ refl) (atFirst lay pol mem) (atFirst lay pol′ mem′) gs gs′ a (v .lends) (v′ .lends) w
+    (machine-of lay pol mem (v .installed) ∙ sym (machine-of lay pol′ mem′ (v′ .installed))) m

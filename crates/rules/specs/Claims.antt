@@ -1,6 +1,6 @@
 -- What is claimed of the definitions. Each claim is a type; its proof has the claim's name in small letters, in proofs/.
 use Rattle.rules.specs.Kit.{ℕ, suc, _+_, _-_, _*_, _/_, _%_, _^_, _<_, _≤_, _≡_, true, false, _⊎_, List, [], _∷_, _++_, length, getD, take, drop, ones, pos, sucℤ, _*ℤ_, _≤ℤ_, _<ℤ_, ltb}
-use Rattle.rules.specs.Types.{Layout, Instr, HALT, EVENT, Machine, Status, Running, Ended, Stopped, Faulted, Strayed, Ending, Done, NoArrow, Fault, LogFull, Silent, Spent, NoLanding, Refused, BadLayout}
+use Rattle.rules.specs.Types.{Layout, Instr, HALT, EVENT, Machine, Outcome, Status, Running, Ended, Stopped, Faulted, Strayed, Ending, Done, NoArrow, Fault, LogFull, Silent, Spent, NoLanding, Refused, BadLayout}
 use Rattle.rules.specs.Names.{events, orders, noArrow, mostInstructions, mostBundles, bundleLength, bundleShift, landingCells, cellBits, guestRegisters, numberOf, answer, endingNumber}
 use Rattle.rules.specs.Signed.{twos, sarOf, lessOf}
 use Rattle.rules.specs.Layouts.{span, rightLayout, widthOf, maskOf, inBox, protected}
@@ -12,7 +12,7 @@ use Rattle.rules.specs.Commands.{shlOf, fetchOf}
 use Rattle.rules.specs.Bundles.{addressOf, lastAddress, positionOf, shapeOf, bundleOf, valid, readOff, bundleAt, isBundle, baseRight, countRight, commandsOf, rewriteAnswer, rewriteOutput, checkAnswer}
 use Rattle.rules.specs.Machines.{State, onward, Ran, ranOf, outcomeOf, leftIn, fits, runFrom, runOf, installAnswer, installMemory}
 use Rattle.rules.specs.Guests.{Pair, Guest, guestAfter, guestStart, boxOf}
-use Rattle.rules.specs.Runs.{begins, begunFrom, Given, Carried, afterRun, allRuns, after, Run, runsOf, recordedIn, Matches, Lent, Served, pairsOf, eventsOf, waitingAt, pendingAt}
+use Rattle.rules.specs.Runs.{begins, begunFrom, Given, Every, Each, eachRun, Carried, afterRun, runAs, allRuns, after, Run, recordedIn, Matches, Lent, Served, pairsOf, eventsOf, waitingAt, pendingAt}
 
 -- ---- masks and sizes
 
@@ -246,7 +246,7 @@ abbrev pub Resumes : Type 0
 Resumes =
     (lay : Layout) (pol : Policy) (ws mem : List ℕ) (gs : List Given) → Served lay pol ws mem gs →
     let c = after lay pol ws mem gs in
-    c .machine .status ≡ Running → (g : Given) → Lent lay c g → length (g .memory) ≡ lay .size → 2 ≤ length (g .log) → 1 ≤ length (g .readings) →
+    c .machine .status ≡ Running → (g : Given) → Lent lay (c .memory) g → length (g .memory) ≡ lay .size → 2 ≤ length (g .log) → 1 ≤ length (g .readings) →
     Proceeds lay ws c g (c .begun + begins lay (c .machine .pc))
 
 -- so one that stands comes one bundle on
@@ -255,7 +255,7 @@ Progress =
     (lay : Layout) (pol : Policy) (ws mem : List ℕ) (gs : List Given) → Served lay pol ws mem gs →
     let c = after lay pol ws mem gs in
     Stands lay (c .machine) → c .machine .status ≡ Running →
-    (g : Given) → Lent lay c g → length (g .memory) ≡ lay .size → 2 ≤ length (g .log) → 1 ≤ length (g .readings) → Proceeds lay ws c g (c .begun + 1)
+    (g : Given) → Lent lay (c .memory) g → length (g .memory) ≡ lay .size → 2 ≤ length (g .log) → 1 ≤ length (g .readings) → Proceeds lay ws c g (c .begun + 1)
 
 -- ---- isolation
 
@@ -263,37 +263,26 @@ Progress =
 abbrev pub Recorded : Type 0
 Recorded = (lay : Layout) (pol : Policy) (ws mem : List ℕ) (gs : List Given) → after lay pol ws mem gs .records ≡ recordedIn (allRuns lay pol ws mem gs)
 
--- every element, and two lists element by element
-abbrev pub Every : {A : Type 0} → (A → Type 0) → List A → Type 0
-Every P [] = Unit {0}
-Every P (x ∷ xs) = P x × Every P xs
-
-abbrev pub Each : {A : Type 0} → (A → A → Type 0) → List A → List A → Type 0
-Each R [] [] = Unit {0}
-Each R [] (y ∷ ys) = ⊥
-Each R (x ∷ xs) [] = ⊥
-Each R (x ∷ xs) (y ∷ ys) = R x y × Each R xs ys
-
 -- request 2: an order's pair is at most its ceiling; of every list of runs of any commands, from any record
 abbrev pub Limited : Layout → Pair → Type 0
 Limited lay p = p .event < orders → p .value ≤ getD (lay .ceilings) (p .event) 0
 
 abbrev pub Ceilings : Type 0
-Ceilings = (lay : Layout) (ws : List ℕ) (c : Carried) (gs : List Given) → Every (Limited lay) (recordedIn (runsOf lay ws c gs))
+Ceilings = (lay : Layout) (ws : List ℕ) (c : Carried) (gs : List Given) → Every (Limited lay) (recordedIn (eachRun (runAs lay ws) (afterRun lay ws) c gs))
 
 -- a run does not answer 22, fault
-abbrev pub Sound : Run → Type 0
-Sound r = endingNumber (r .ran .outcome .answer .ending) ≡ endingNumber Fault → ⊥
+abbrev pub Sound : {O : Type 0} → Run O → Type 0
+Sound r = r .number ≡ endingNumber Fault → ⊥
 
 -- a run leaves its memory's length and every cell outside the sandbox but the state cell as it found them; the pairs that it counts
 -- are in its log, the readings among those it was given; beyond the counted pairs a log is as it was found
-pub record Kept (lay : Layout) (r : Run) : Type 0 where
+pub record Kept {O : Type 0} (lay : Layout) (r : Run O) : Type 0 where
   pub size : length (r .ran .mem) ≡ length (r .given .memory)
   pub cells : (i : ℕ) → inBox lay i ≡ false → (i ≡ lay .cell → ⊥) → getD (r .ran .mem) i 0 ≡ getD (r .given .memory) i 0
-  pub counted : 2 * r .ran .outcome .answer .pairs ≤ length (r .ran .log)
-  pub drawn : r .ran .outcome .answer .used ≤ length (r .given .readings)
+  pub counted : 2 * r .pairs ≤ length (r .ran .log)
+  pub drawn : r .used ≤ length (r .given .readings)
   pub logSize : length (r .ran .log) ≡ length (r .given .log)
-  pub logRest : (i : ℕ) → 2 * r .ran .outcome .answer .pairs ≤ i → getD (r .ran .log) i 0 ≡ getD (r .given .log) i 0
+  pub logRest : (i : ℕ) → 2 * r .pairs ≤ i → getD (r .ran .log) i 0 ≡ getD (r .given .log) i 0
 
 -- two runs given the same readings and budget, and logs and memories of the same lengths
 pub record Alike (g g′ : Given) : Type 0 where
@@ -303,9 +292,9 @@ pub record Alike (g g′ : Given) : Type 0 where
   pub memory : length (g .memory) ≡ length (g′ .memory)
 
 -- two runs with the same answer and record, the same logged pairs, and after them the same state cell and sandbox
-pub record Same (lay : Layout) (r r′ : Run) : Type 0 where
+pub record Same {O : Type 0} (lay : Layout) (r r′ : Run O) : Type 0 where
   pub outcome : r .ran .outcome ≡ r′ .ran .outcome
-  pub logged : pairsOf (r .ran .log) (r .ran .outcome .answer .pairs) ≡ pairsOf (r′ .ran .log) (r′ .ran .outcome .answer .pairs)
+  pub logged : pairsOf (r .ran .log) (r .pairs) ≡ pairsOf (r′ .ran .log) (r′ .pairs)
   pub cell : getD (r .memory) (lay .cell) 0 ≡ getD (r′ .memory) (lay .cell) 0
   pub box : (i : ℕ) → inBox lay i ≡ true → getD (r .memory) i 0 ≡ getD (r′ .memory) i 0
 
@@ -337,7 +326,7 @@ pub record PcLaws (lay : Layout) (ws : List ℕ) (c : Carried) : Type 0 where
   pub from : lay .base ≤ c .machine .pc
   pub within : c .machine .pc < lay .base + length ws
   pub top : lay .base + length ws ≤ 2 ^ 32
-  pub onward : (g : Given) → Lent lay c g → afterRun lay ws c (givenFor g 1) .machine .pc ≡ onward (c .machine .pc) → c .machine .pc + 1 < 2 ^ 32
+  pub onward : (g : Given) → Lent lay (c .memory) g → afterRun lay ws c (givenFor g 1) .machine .pc ≡ onward (c .machine .pc) → c .machine .pc + 1 < 2 ^ 32
 
 -- at every moment: a list of runs may end anywhere
 abbrev pub NoWrap : Type 0
@@ -354,10 +343,9 @@ pub record CellLaws (lay : Layout) (pol : Policy) (ws : List ℕ) (c : Carried) 
   pub arrows : allowed pol (eventsOf (c .records)) ≡ true
 
 -- 'which only a spent budget can show': a run that leaves pc there answers 25; a refused one leaves pc where it was
-abbrev pub OnlySpent : Layout → List ℕ → Run → Type 0
+abbrev pub OnlySpent : Layout → List ℕ → Run Outcome → Type 0
 OnlySpent lay ws r =
-    (r .ran .outcome .answer .ending ≡ Refused → ⊥) → (pendingAt lay ws (r .ran .outcome .machine) ≡ [] → ⊥) →
-    endingNumber (r .ran .outcome .answer .ending) ≡ endingNumber Spent
+    (r .ran .outcome .answer .ending ≡ Refused → ⊥) → (pendingAt lay ws (r .ran .outcome .machine) ≡ [] → ⊥) → r .number ≡ endingNumber Spent
 
 -- at every moment, those of pauses too: a list of runs may end anywhere
 abbrev pub StateCell : Type 0

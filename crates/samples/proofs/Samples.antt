@@ -17,8 +17,8 @@ use Rattle.rules.specs.Commands.{isCommand, commandOf, wordOf, fetchOf, plainOf
 use Rattle.rules.specs.Bundles.{shapeOf, valid, readOff, bundleAt, isBundle, shapedAt, passesAt, checkFrom, checkAnswer}
 use Rattle.rules.specs.Machines.{installAnswer, installMemory, installMachine, effectOf, applyOf, runFrom, runOf}
 use Rattle.rules.specs.Guests.{pairOf, Guest, guestOf, sentOf, doOf, guestStep, guestAfter, guestStart}
-use Rattle.rules.specs.Runs.{begins, begunFrom, runOn, afterTaken, afterRun, afterRuns, runsOf, Matches, Served, allRuns}
-use Rattle.rules.specs.Claims.{Each, Alike, Same}
+use Rattle.rules.specs.Runs.{Each, eachRun, afterAll, begins, begunFrom, runOn, afterTaken, afterRun, Matches, Served, allRuns}
+use Rattle.rules.specs.Claims.{Alike, Same}
 use Rattle.samples.specs.Sample.{layout, policy, code, commands, memory, left, runs, SampleHolds}
 use Rattle.rules.proofs.Bools.{no}
 use Rattle.rules.proofs.Isolation.{isolation}
@@ -32,7 +32,7 @@ unfolding ones leadingZeros rightLayout instrOf routine bundlesFor wordOf shapeO
 passed = refl
 
 served-with : (x : ℕ) → Served layout policy commands (memory x) (runs x)
-unfolding ones rightLayout rightPolicy rightLandings installAnswer inBox inTable inLandings protected afterRun
+unfolding ones rightLayout rightPolicy rightLandings installAnswer inBox inTable inLandings protected afterRun eachRun
 served-with x =
     record {
       passed = passed;
@@ -77,7 +77,7 @@ guest-with x =
     ap (λ (y : Guest). y .records) four
 
 pub sample-holds : SampleHolds
-unfolding ones leadingZeros rightLayout rightPolicy rightLandings bitsFrom landingsOf instrOf routine bundlesFor wordOf shapeOf readOff bundleAt isCommand commandOf fetchOf plainOf installAnswer installMemory installMachine effectOf applyOf runFrom runOf begins begunFrom runOn afterTaken afterRun afterRuns runsOf
+unfolding ones leadingZeros rightLayout rightPolicy rightLandings bitsFrom landingsOf instrOf routine bundlesFor wordOf shapeOf readOff bundleAt isCommand commandOf fetchOf plainOf installAnswer installMemory installMachine effectOf applyOf runFrom runOf begins begunFrom runOn afterTaken afterRun afterAll eachRun
 sample-holds =
     record {
       served = served-with;

@@ -7,6 +7,7 @@ use lib.ListN.{getD, set, replicate}
 use Rattle.rules.specs.declared.Layout.{Layout}
 use Rattle.rules.specs.declared.Ending.the-variants.{NoArrow, LogFull, Spent, Refused}
 use Rattle.rules.specs.declared.RunAnswer.{RunAnswer}
+use Rattle.rules.specs.declared.Outcome.{Outcome}
 use Rattle.rules.specs.Names.{guest}
 use Rattle.rules.specs.Layouts.{layoutOf}
 use Rattle.rules.specs.Policies.{Policy, policyOf}
@@ -14,8 +15,8 @@ use Rattle.rules.specs.Words.{packOf, routine}
 use Rattle.rules.specs.Bundles.{commandsOf}
 use Rattle.rules.specs.Machines.{installMemory, runAnswer}
 use Rattle.rules.specs.Guests.{pairOf, guestAfter, guestStart}
-use Rattle.rules.specs.Runs.{Given, atFirst, afterRun, Run, recordedIn, Matches, Served, allRuns, after, pendingAt}
-use Rattle.rules.specs.Claims.{Each, Alike, Same, Waiting}
+use Rattle.rules.specs.Runs.{Given, Each, atFirst, afterRun, Run, recordedIn, Matches, Served, allRuns, after, pendingAt}
+use Rattle.rules.specs.Claims.{Alike, Same, Waiting}
 use Rattle.samples.specs.Tray.{noLimits}
 
 abbrev pub layout : Layout
@@ -64,7 +65,7 @@ pausedRun x = record { memory = installMemory layout policy (memory x); budget =
 abbrev pub lateRun : ℕ → Given
 lateRun x = given (installMemory layout policy (memory x)) 11 x
 
-abbrev pub answersIn : List Run → List RunAnswer
+abbrev pub answersIn : List (Run Outcome) → List RunAnswer
 answersIn rs = map (λ r. r .ran .outcome .answer) rs
 
 -- whatever x and y free cells and logs held, the runs are on the premises of Isolation and of its (d);

@@ -14,11 +14,11 @@ use Rattle.rules.specs.Words.{judgeOf, judgeAt, firstRefused, instrOf, routine,
 use Rattle.rules.specs.Commands.{isCommand, commandOf, wordOf, fetchOf, plainOf}
 use Rattle.rules.specs.Bundles.{shapeOf, valid, readOff, bundleAt, isBundle, shapedAt, passesAt, checkFrom, checkAnswer, placeAnswer, rewriteAnswer}
 use Rattle.rules.specs.Machines.{landsAt, installAnswer, installMemory, installMachine, effectOf, applyOf, runFrom, runOf}
-use Rattle.rules.specs.Runs.{Given, begins, begunFrom, runOn, afterTaken, afterRun, afterRuns, after, Served}
+use Rattle.rules.specs.Runs.{Given, begins, begunFrom, runOn, afterTaken, afterRun, after, Served, eachRun, afterAll}
 use Rattle.rules.specs.Claims.{Waiting}
 use Rattle.samples.specs.Sample.{layout}
 use Rattle.engine_rules.specs.Engines.{sendOf, actOf, nextFor, movedOf, effectOn, runFrom as engineFrom, refusalOf, refusalBy, runOf as engineRunOf}
-use Rattle.engine_rules.specs.Claims.{runOn as engineOn, afterTaken as engineTaken, afterRun as engineRun, afterRuns as engineRuns, after as engineAfter}
+use Rattle.engine_rules.specs.Claims.{runOn as engineOn, afterTaken as engineTaken, afterRun as engineRun, after as engineAfter}
 use Rattle.transparency.specs.Raw.{rawSent, rawDo, rawStep, rawAfter, Behaves}
 use Rattle.transparency.specs.Claims.{Begins, Behaved}
 use Rattle.transparency.specs.Sample.{policy, code, commands, memory, readings, run, pausedRun, rawAt, SampleHolds}
@@ -32,6 +32,7 @@ unfolding ones rightLayout rightPolicy rightLandings installAnswer
 installed = refl
 
 served : (g : Given) → g .memory ≡ installMemory layout policy memory → Served layout policy commands memory (g ∷ [])
+unfolding eachRun
 served g e = record { passed = passed; installed = installed; lends = (λ l i s. ap (λ (m : List ℕ). getD m i 0) e, tt) }
 
 behaves : (j : ℕ) → j < 8 → rawAt j .status ≡ Running → Behaves layout policy 16 (routine code (rawAt j .at)) (rawAt j)
@@ -65,7 +66,7 @@ record MachineHolds : Type 0 where
   pausedUsed : Begins (after layout policy commands memory (pausedRun ∷ []) .consumed) readings
 
 machine-holds : MachineHolds
-unfolding ones leadingZeros rightLayout rightPolicy rightLandings bitsFrom landingsOf marked instrOf routine bundlesFor wordOf shapeOf readOff bundleAt isCommand commandOf fetchOf plainOf landsAt installAnswer installMemory installMachine effectOf applyOf runFrom runOf begins begunFrom runOn afterTaken afterRun afterRuns
+unfolding ones leadingZeros rightLayout rightPolicy rightLandings bitsFrom landingsOf marked instrOf routine bundlesFor wordOf shapeOf readOff bundleAt isCommand commandOf fetchOf plainOf landsAt installAnswer installMemory installMachine effectOf applyOf runFrom runOf begins begunFrom runOn afterTaken afterRun afterAll
 machine-holds =
     record {
       begun = refl;
@@ -84,11 +85,11 @@ record EngineHolds : Type 0 where
   used : Begins (engineAfter layout policy code memory (run ∷ []) .consumed) readings
 
 engine-holds : EngineHolds
-unfolding ones leadingZeros rightLayout rightPolicy rightLandings bitsFrom landingsOf marked judgeOf judgeAt firstRefused instrOf routine bundlesFor plainOf installAnswer installMemory applyOf sendOf actOf nextFor movedOf effectOn engineFrom refusalBy engineRunOf engineOn engineTaken engineRun engineRuns
+unfolding ones leadingZeros rightLayout rightPolicy rightLandings bitsFrom landingsOf marked judgeOf judgeAt firstRefused instrOf routine bundlesFor plainOf installAnswer installMemory applyOf sendOf actOf nextFor movedOf effectOn engineFrom refusalBy engineRunOf engineOn engineTaken engineRun afterAll
 engine-holds = record { taken = refl; counted = refl; over = refl; used = λ i h. refl }
 
 pub sample-holds : SampleHolds
-unfolding instrOf routine plainOf rawSent rawDo rawStep rawAfter
+unfolding instrOf routine plainOf rawSent rawDo rawStep rawAfter eachRun
 sample-holds =
     let m = machine-holds in
     let e = engine-holds in

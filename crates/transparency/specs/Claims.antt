@@ -15,7 +15,7 @@ use Rattle.rules.specs.Bundles.{rewriteAnswer, commandsOf}
 use Rattle.rules.specs.Guests.{Pair}
 use Rattle.rules.specs.Runs.{Given, Carried, Lent, Served, after}
 use Rattle.rules.specs.Claims.{Stands, Waiting, Proceeds, givenFor}
-use Rattle.engine_rules.specs.Claims.{Enough, Served as EngineServed, Lent as EngineLent, after as engineAfter, afterRun as engineRun}
+use Rattle.engine_rules.specs.Claims.{Enough, Served as EngineServed, after as engineAfter, afterRun as engineRun}
 use Rattle.transparency.specs.Raw.{Raw, rawStart, rawRun, BehavesFor}
 
 -- a raw memory that has the sandbox, with the same cells in it
@@ -77,7 +77,7 @@ UndisturbedNext =
     (lay : Layout) (pol : Policy) (code mem raw reads : List ℕ) (room : ℕ) (gs : List Given) →
     let c = after lay pol (commandsOf lay code) mem gs in
     Caged lay pol code mem raw reads room gs (c .begun) → Stands lay (c .machine) → rawRun lay code raw reads (c .begun) .status ≡ Running →
-    (g : Given) → Lent lay c g → Enough lay g → Proceeds lay (commandsOf lay code) c g (c .begun + 1)
+    (g : Given) → Lent lay (c .memory) g → Enough lay g → Proceeds lay (commandsOf lay code) c g (c .begun + 1)
 
 -- ---- the engine
 
@@ -95,4 +95,4 @@ EngineUndisturbedNext =
     (lay : Layout) (pol : Policy) (code mem raw reads : List ℕ) (gs : List Given) → EngineServed lay pol code mem gs →
     let c = engineAfter lay pol code mem gs in
     Behaved lay pol code mem raw (c .consumed) reads (c .counted) → rawRun lay code raw reads (c .counted) .status ≡ Running →
-    (g : Given) → EngineLent lay c g → Enough lay g → engineRun lay code c (givenFor g 1) .counted ≡ c .counted + 1
+    (g : Given) → Lent lay (c .memory) g → Enough lay g → engineRun lay code c (givenFor g 1) .counted ≡ c .counted + 1
