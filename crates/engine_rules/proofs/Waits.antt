@@ -36,7 +36,7 @@ use Rattle.rules.proofs.Conditions.{bundled-routine}
 use Rattle.rules.proofs.Track.{first-yes, first-no, lent-cell, tracks, event-at, enter as machine-enter}
 use Rattle.rules.proofs.Isolation.{guest-rule, routine-tracked}
 use Rattle.engine_rules.specs.Engines.{sendOf, actOf, nextFor, nextOf, stepOf, entryAddress, Ran, endedIn, startOf, runFrom, runOf, refusalOf, refusalBy}
-use Rattle.engine_rules.specs.Claims.{Carried, carriedOf, runOn, afterTaken, afterRun, after, Follows, InTurn, Meets, Beside, PausedBy, EngineWaits}
+use Rattle.engine_rules.specs.Claims.{Carried, carriedOf, runOn, afterTaken, afterRun, after, Follows, InTurn, Meets, AfterBoth, PausedBy, EngineWaits}
 use Rattle.engine_rules.proofs.Runs.{run-none, engineLoop, taken-size, enter}
 use Rattle.engine_rules.proofs.Rule.{taken-of, ready-of, routine-of, stays, engine-rule, engine-machine, engine-paused, meet}
 use Rattle.engine_rules.proofs.Together.{machine-more, engine-more, beside-more}
@@ -183,13 +183,12 @@ record Pause (lay : Layout) (code : List ℕ) (c : MachineCarried) (n : Carried)
   counted : afterRun lay code n h .counted ≡ n .counted
   engine : afterRun lay code n h .consumed ≡ n .consumed
 
-both-pause : (lay : Layout) (pol : Policy) (code mem : List ℕ) (room : ℕ) (gs es : List Given) → Beside lay pol code mem room gs es →
-    let c = machineAfter lay pol (commandsOf lay code) mem gs in
-    let e = after lay pol code mem es in
+both-pause : AfterBoth
+    (λ lay code c e.
     Stands lay (c .machine) → c .begun ≡ e .counted → c .machine .status ≡ Running →
     (g h : Given) → Lent lay (c .memory) g → Lent lay (e .memory) h → length (g .memory) ≡ lay .size → length (h .memory) ≡ lay .size →
     length (h .log) ≡ length (g .log) → length (h .readings) ≡ length (g .readings) → 3 ≤ g .budget →
-    PausedBy (runOn lay code e (givenFor h 1) .outcome .answer .number) → Pause lay code c e g (givenFor h 1)
+    PausedBy (runOn lay code e (givenFor h 1) .outcome .answer .number) → Pause lay code c e g (givenFor h 1))
 unfolding runOn runOf
 both-pause lay pol code mem room gs es v x count run g h lg lh sg sh logs readings few p =
     let ws = commandsOf lay code in
