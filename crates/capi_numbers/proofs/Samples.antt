@@ -14,7 +14,7 @@ use Rattle.rules.specs.Words.{judgeOf, judgeAt, firstRefused, instrOf, routine,
 use Rattle.rules.specs.Bytes.{byteAt, quadAt, fieldsAt, oneFields, oneMap, oneOf, scanOf, wordsOf, readAnswer}
 use Rattle.rules.specs.Commands.{isCommand, commandOf, wordOf, fetchOf, plainOf}
 use Rattle.rules.specs.Bundles.{shapeOf, placeAnswer, rewriteAnswer, valid, readOff, bundleAt, isBundle, shapedAt, passesAt, checkFrom, checkAnswer}
-use Rattle.rules.specs.Machines.{installAnswer, installMemory, installMachine, effectOf, applyOf, runFrom, runOf}
+use Rattle.rules.specs.Machines.{installAnswer, installMemory, installMachine, effectOf, applyOf, runOf, loopFrom}
 use Rattle.sandbox_rules.specs.Loading.{translateAnswer, loadAnswer, loadCommands, loadMemory, loadMachine}
 use Rattle.rules.specs.Runs.{runOn, afterTaken, afterRun, Matches, eachRun}
 use Rattle.rules.proofs.Bools.{no}
@@ -28,7 +28,7 @@ free-set : (mem : List ℕ) (i x : ℕ) → (inBox (layoutFrom layout) i || prot
 free-set mem i x f j s = getD-set-other mem i j x 0 (λ e. no (sym f ∙ ap (λ (k : ℕ). inBox (layoutFrom layout) k || protected (layoutFrom layout) k) (sym e) ∙ s))
 
 pub sample-holds : SampleHolds
-unfolding ones leadingZeros layoutFrom rightLayout rightPolicy rightLandings inBox inTable inLandings protected bitsFrom landingsOf judgeOf judgeAt firstRefused byteAt quadAt fieldsAt oneFields oneMap oneOf scanOf wordsOf readAnswer instrOf routine bundlesFor wordOf shapeOf placeAnswer rewriteAnswer valid readOff bundleAt isBundle shapedAt passesAt checkFrom checkAnswer isCommand commandOf fetchOf plainOf installAnswer installMemory installMachine translateAnswer loadAnswer loadCommands loadMemory loadMachine effectOf applyOf runFrom runOf runOn afterTaken afterRun checkFor installFor loadFor runFor callsOf eachRun
+unfolding ones leadingZeros layoutFrom rightLayout rightPolicy rightLandings inBox inTable inLandings protected bitsFrom landingsOf judgeOf judgeAt firstRefused byteAt quadAt fieldsAt oneFields oneMap oneOf scanOf wordsOf readAnswer instrOf routine bundlesFor wordOf shapeOf placeAnswer rewriteAnswer valid readOff bundleAt isBundle shapedAt passesAt checkFrom checkAnswer isCommand commandOf fetchOf plainOf installAnswer installMemory installMachine translateAnswer loadAnswer loadCommands loadMemory loadMachine effectOf applyOf loopFrom runOf runOn afterTaken afterRun checkFor installFor loadFor runFor callsOf eachRun
 sample-holds =
     record {
       loaded = refl;

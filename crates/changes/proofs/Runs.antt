@@ -18,7 +18,7 @@ use Rattle.rules.specs.declared.Ending.{Ending}
 use Rattle.rules.specs.declared.Ending.the-variants.{Done, NoArrow, Fault, LogFull, Silent, Spent, NoLanding, Refused}
 use Rattle.rules.specs.Names.{orders}
 use Rattle.rules.specs.Commands.{fetchOf}
-use Rattle.rules.specs.Machines.{View, effectOf, State, applyOf, seen, nextOf, Ran, ranOf, outcomeOf, endingOf, endedIn, unlessOver, unlessWait, startOf, fits, runFrom, runOf}
+use Rattle.rules.specs.Machines.{View, effectOf, State, applyOf, seen, nextOf, Ran, ranOf, outcomeOf, endingOf, endedIn, unlessOver, unlessWait, startOf, fits, runFrom, runOf, loopFrom}
 use Rattle.rules.proofs.Bools.{no}
 use Rattle.changes.specs.Claims.{BothPause, effectBefore, nextBefore, runFromBefore, runBefore, PausedBoth, RunLaws, SilentRuns}
 use Rattle.changes.proofs.Pauses.{silent-first}
@@ -145,7 +145,7 @@ module _ (lay : Layout) (ws reads : List ℕ) where
     from Strayed = unpaused over (ended (s .status))
 
   runs : (n k : ℕ) (s : State) → Laws (runFrom lay ws reads n k s) (runFromBefore lay ws reads n k s)
-  unfolding runFrom runFromBefore
+  unfolding loopFrom runFromBefore
   runs zero k s = unpaused _ (ended (s .status))
   runs (suc n) k s = from n k s (runs n) (s .status)
 

@@ -22,7 +22,7 @@ use Rattle.rules.specs.Policies.{arrow}
 use Rattle.rules.specs.Words.{routine, bundlesFor}
 use Rattle.rules.specs.Commands.{fetchOf}
 use Rattle.rules.specs.Bundles.{shapeOf, addressOf, commandsOf, rewriteAnswer}
-use Rattle.rules.specs.Machines.{State, applyOf, effectOf, eventEffect, endingOf, unlessWait, seen, fits, nextOf as machineNext, stepOf as machineStep, Ran as MachineRan, startOf as machineStart, runFrom as machineFrom, runOf as machineRun, installMemory}
+use Rattle.rules.specs.Machines.{State, applyOf, effectOf, eventEffect, endingOf, unlessWait, seen, fits, nextOf as machineNext, stepOf as machineStep, Ran as MachineRan, startOf as machineStart, runFrom as machineFrom, runOf as machineRun, installMemory, loopFrom}
 use Rattle.rules.specs.Guests.{Guest, guestAfter, guestStart}
 use Rattle.rules.specs.Runs.{runOn as machineOn, after as machineAfter}
 use Rattle.rules.proofs.Bools.{cond-ind}
@@ -58,7 +58,7 @@ sent caps rd s v f u =
     event-ind (Sent caps rd s) v f u (λ go. absurd (go LogFull refl)) (λ go. absurd (go Silent refl)) (λ _. (refl, refl)) (λ _. (refl, refl))
 
 machine-one : (lay : Layout) (ws rd : List ℕ) (s : State) (v f u : ℕ) → s .status ≡ Running → machineNext lay ws rd s ≡ eventEffect v f u → endingNumber (machineFrom lay ws rd 1 0 s .outcome .answer .ending) ≡ numberBy (eventEffect v f u)
-unfolding machineFrom
+unfolding loopFrom
 machine-one lay ws rd s v f u run z =
     loop-ind (machineLoop lay ws rd) 0 0 s (λ (r : MachineRan). endingNumber (r .outcome .answer .ending) ≡ numberBy (eventEffect v f u)) (λ o. absurd (o run))
     (λ _ w y. ap numberBy (sym y ∙ z))
@@ -68,7 +68,7 @@ machine-one lay ws rd s v f u run z =
     ap (λ (x : Status). endingNumber (endingOf x)) t ∙ sym (q .0))
 
 engine-one : (lay : Layout) (ws rd : List ℕ) (s : State) (v f u : ℕ) → s .status ≡ Running → nextOf lay ws rd s ≡ eventEffect v f u → runFrom lay ws rd 1 0 s .outcome .answer .number ≡ numberBy (eventEffect v f u)
-unfolding runFrom effectOn
+unfolding loopFrom effectOn
 engine-one lay ws rd s v f u run z =
     loop-ind (engineLoop lay ws rd) 0 0 s (λ (r : Ran). r .outcome .answer .number ≡ numberBy (eventEffect v f u)) (λ o. absurd (o run))
     (λ _ w y. ap numberBy (sym y ∙ z))

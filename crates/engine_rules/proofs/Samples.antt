@@ -13,12 +13,12 @@ use Rattle.rules.specs.Landings.{rightLandings, bitsFrom, landingsOf}
 use Rattle.rules.specs.Words.{judgeOf, judgeAt, firstRefused, instrOf, routine, bundlesFor}
 use Rattle.rules.specs.Commands.{wordOf, isCommand, commandOf, fetchOf, plainOf}
 use Rattle.rules.specs.Bundles.{shapeOf, readOff, bundleAt, rewriteAnswer, placeAnswer}
-use Rattle.rules.specs.Machines.{effectOf, installAnswer, installMemory, installMachine, applyOf, runFrom as machineFrom, runOf as machineRunOf}
-use Rattle.rules.specs.Runs.{Given, eachRun, afterAll, Lent, begins, begunFrom, runOn as machineOn, afterTaken as machineTaken, afterRun as machineRun, after as machineAfter}
+use Rattle.rules.specs.Machines.{effectOf, installAnswer, installMemory, installMachine, applyOf, runOf as machineRunOf, loopFrom}
+use Rattle.rules.specs.Runs.{Given, eachRun, afterAll, Lent, begins, runOn as machineOn, afterTaken as machineTaken, afterRun as machineRun, after as machineAfter}
 use Rattle.rules.specs.Claims.{Stands, Waiting}
 use Rattle.samples.specs.Sample.{layout, policy, code, commands, memory, runs as machineRuns, pausedRun}
 use Rattle.samples.proofs.Samples.{free-set, sample-holds as machine-holds}
-use Rattle.engine_rules.specs.Engines.{sendOf, actOf, nextFor, movedOf, effectOn, runFrom, refusalBy, runOf}
+use Rattle.engine_rules.specs.Engines.{sendOf, actOf, nextFor, movedOf, effectOn, refusalBy, runOf}
 use Rattle.engine_rules.specs.Claims.{runOn, afterTaken, afterRun, after, Served, Beside}
 use Rattle.engine_rules.specs.Sample.{left, runs, machineOne, engineOne, SampleHolds}
 
@@ -32,7 +32,7 @@ served-with x y =
     }
 
 nothing-used : (x y : ℕ) → after layout policy code (memory x) (runs y) .consumed ≡ []
-unfolding ones leadingZeros rightLayout rightPolicy rightLandings bitsFrom landingsOf judgeOf judgeAt firstRefused instrOf routine bundlesFor plainOf installAnswer installMemory applyOf sendOf actOf nextFor movedOf effectOn runFrom refusalBy runOf runOn afterTaken afterRun afterAll
+unfolding ones leadingZeros rightLayout rightPolicy rightLandings bitsFrom landingsOf judgeOf judgeAt firstRefused instrOf routine bundlesFor plainOf installAnswer installMemory applyOf sendOf actOf nextFor movedOf effectOn loopFrom refusalBy runOf runOn afterTaken afterRun afterAll
 nothing-used x y = refl
 
 beside-with : (x y : ℕ) → Beside layout policy code (memory x) 32 (machineRuns x) (runs y)
@@ -47,17 +47,17 @@ beside-with x y =
 
 -- the machine, given no log
 machine-waits : (x : ℕ) → Waiting layout commands (machineAfter layout policy commands (memory x) (pausedRun x ∷ []) .machine) × (machineAfter layout policy commands (memory x) (pausedRun x ∷ []) .begun ≡ 2)
-unfolding ones leadingZeros rightLayout rightPolicy rightLandings bitsFrom landingsOf instrOf routine bundlesFor wordOf shapeOf readOff bundleAt isCommand commandOf fetchOf plainOf installAnswer installMemory installMachine effectOf applyOf machineFrom machineRunOf begins begunFrom machineOn machineTaken machineRun afterAll
+unfolding ones leadingZeros rightLayout rightPolicy rightLandings bitsFrom landingsOf instrOf routine bundlesFor wordOf shapeOf readOff bundleAt isCommand commandOf fetchOf plainOf installAnswer installMemory installMachine effectOf applyOf loopFrom machineRunOf begins machineOn machineTaken machineRun afterAll
 machine-waits x = (record { running = refl; event = 0; third = refl }, refl)
 
 -- the machine, after SET
 machine-stands : (x : ℕ) → let c = machineAfter layout policy commands (memory x) (machineOne x ∷ []) in Stands layout (c .machine) × (c .machine .status ≡ Running) × (c .begun ≡ 1)
-unfolding ones leadingZeros rightLayout rightPolicy rightLandings bitsFrom landingsOf instrOf routine bundlesFor wordOf shapeOf readOff bundleAt isCommand commandOf fetchOf plainOf installAnswer installMemory installMachine effectOf applyOf machineFrom machineRunOf begins begunFrom machineOn machineTaken machineRun afterAll
+unfolding ones leadingZeros rightLayout rightPolicy rightLandings bitsFrom landingsOf instrOf routine bundlesFor wordOf shapeOf readOff bundleAt isCommand commandOf fetchOf plainOf installAnswer installMemory installMachine effectOf applyOf loopFrom machineRunOf begins machineOn machineTaken machineRun afterAll
 machine-stands x = (inl refl, refl, refl)
 
 -- and the engine's one run uses no reading
 unread : (x : ℕ) → (after layout policy code (memory x) (pausedRun x ∷ []) .consumed ≡ []) × (after layout policy code (memory x) (engineOne x ∷ []) .consumed ≡ [])
-unfolding ones leadingZeros rightLayout rightPolicy rightLandings bitsFrom landingsOf judgeOf judgeAt firstRefused instrOf routine bundlesFor plainOf installAnswer installMemory applyOf sendOf actOf nextFor movedOf effectOn runFrom refusalBy runOf runOn afterTaken afterRun afterAll
+unfolding ones leadingZeros rightLayout rightPolicy rightLandings bitsFrom landingsOf judgeOf judgeAt firstRefused instrOf routine bundlesFor plainOf installAnswer installMemory applyOf sendOf actOf nextFor movedOf effectOn loopFrom refusalBy runOf runOn afterTaken afterRun afterAll
 unread x = (refl, refl)
 
 one-each : (x : ℕ) (g h : Given) → Lent layout (installMemory layout policy (memory x)) g → Lent layout (installMemory layout policy (memory x)) h → after layout policy code (memory x) (h ∷ []) .consumed ≡ [] → Beside layout policy code (memory x) 32 (g ∷ []) (h ∷ [])
@@ -71,7 +71,7 @@ one-each x g h lg lh none =
     }
 
 pub sample-holds : SampleHolds
-unfolding ones leadingZeros rightLayout rightPolicy rightLandings bitsFrom landingsOf judgeOf judgeAt firstRefused instrOf routine bundlesFor plainOf installAnswer installMemory applyOf sendOf actOf nextFor movedOf effectOn runFrom refusalBy runOf runOn afterTaken afterRun afterAll eachRun rewriteAnswer placeAnswer
+unfolding ones leadingZeros rightLayout rightPolicy rightLandings bitsFrom landingsOf judgeOf judgeAt firstRefused instrOf routine bundlesFor plainOf installAnswer installMemory applyOf sendOf actOf nextFor movedOf effectOn loopFrom refusalBy runOf runOn afterTaken afterRun afterAll eachRun rewriteAnswer placeAnswer
 sample-holds =
     record {
       served = λ x. served-with x x;

@@ -20,7 +20,6 @@ use Rattle.rules.specs.declared.Command.the-variants.{Look, StopIf}
 use Rattle.rules.specs.declared.Effect.{Effect}
 use Rattle.rules.specs.declared.Effect.the-variants.{Go, Put, Wait}
 use Rattle.rules.specs.Names.{events, noArrow, hidden, registers, bundleLength, endingNumber}
-use Rattle.rules.specs.Policies.{Policy}
 use Rattle.rules.specs.Landings.{marked}
 use Rattle.rules.specs.Words.{routine, bundlesFor}
 use Rattle.rules.specs.Commands.{fetchOf, holdsOf}
@@ -37,7 +36,7 @@ use Rattle.rules.proofs.Track.{first-yes, first-no, lent-cell, tracks, event-at
 use Rattle.rules.proofs.Isolation.{guest-rule, routine-tracked}
 use Rattle.engine_rules.specs.Engines.{sendOf, actOf, nextFor, nextOf, stepOf, entryAddress, Ran, endedIn, startOf, runFrom, runOf, refusalOf, refusalBy}
 use Rattle.engine_rules.specs.Claims.{Carried, carriedOf, runOn, afterTaken, afterRun, after, Follows, InTurn, Meets, AfterBoth, PausedBy, EngineWaits}
-use Rattle.engine_rules.proofs.Runs.{run-none, engineLoop, taken-size, enter}
+use Rattle.engine_rules.proofs.Runs.{engineLoop, taken-size, enter}
 use Rattle.engine_rules.proofs.Rule.{taken-of, ready-of, routine-of, stays, engine-rule, engine-machine, engine-paused, meet}
 use Rattle.engine_rules.proofs.Together.{machine-more, engine-more, beside-more}
 use Rattle.engine_rules.proofs.Paused.{machine-next}
@@ -60,7 +59,7 @@ status-answers Strayed (inr h) = omega arith
 paused-waits : (lay : Layout) (ws rd : List ℕ) (s : State) → s .status ≡ Running → PausedBy (runFrom lay ws rd 1 0 s .outcome .answer .number) → (w : Ending) × (nextOf lay ws rd s ≡ Wait w)
 paused-waits lay ws rd s run =
     loop-ind (engineLoop lay ws rd) 0 0 s (λ (r : Ran). PausedBy (r .outcome .answer .number) → (w : Ending) × (nextOf lay ws rd s ≡ Wait w)) (λ o. absurd (o run)) (λ _ w z p. (w, z))
-    (λ _ go p. absurd (status-answers (stepOf lay ws rd s .status) (subst (λ (r : Ran). PausedBy (r .outcome .answer .number)) (run-none lay ws rd 1 (stepOf lay ws rd s)) p)))
+    (λ _ go p. absurd (status-answers (stepOf lay ws rd s .status) (subst (λ (r : Ran). PausedBy (r .outcome .answer .number)) (engineLoop lay ws rd .none 1 (stepOf lay ws rd s)) p)))
 
 act-waits : (lay : Layout) (N : ℕ) (i : Instr) (s : View) (w : Ending) → actOf lay N i s ≡ Wait w → (v : ℕ) × (i ≡ EVENT v)
 unfolding actOf

@@ -23,7 +23,7 @@ use Rattle.rules.specs.Names.{orders, noArrow, bundleLength}
 use Rattle.rules.specs.Policies.{Policy}
 use Rattle.rules.specs.Commands.{fetchOf, holdsOf}
 use Rattle.rules.specs.Bundles.{at4, addressOf, shapeOf, bundleAt}
-use Rattle.rules.specs.Machines.{View, State, Ran, regAt, entryOf, onward, effectOf, applyOf, seen, nextOf, stepOf, runFrom, startOf, runOf, fits}
+use Rattle.rules.specs.Machines.{View, State, Ran, regAt, entryOf, onward, effectOf, applyOf, seen, nextOf, stepOf, runFrom, startOf, runOf, fits, loopFrom}
 use Rattle.rules.specs.Runs.{Given, eachRun, afterAll, Carried, atFirst, runOn, afterTaken, afterRun, Served}
 use Rattle.rules.proofs.Bools.{no, cases, cond-ind}
 use Rattle.rules.proofs.Facts.{Valid, Bundled}
@@ -198,7 +198,7 @@ module _ (lay : Layout) (ws : List ℕ) (n : ℕ) (is : ℕ → Instr) (room : l
   ahead-run : (rd : List ℕ) (t j k : ℕ) (s : State) → Ahead (lay .base) n (t + k) (s .pc) (s .status) →
       let r = runFrom lay ws rd j k s .outcome in
       Ahead (lay .base) n (t + r .answer .steps) (r .machine .pc) (r .machine .status)
-  unfolding runFrom
+  unfolding loopFrom
   ahead-run rd t zero k s a = a
   ahead-run rd t (suc j) k s a =
       run-ind lay ws rd j k s (λ (r : Ran). Ahead (lay .base) n (t + r .outcome .answer .steps) (r .outcome .machine .pc) (r .outcome .machine .status))

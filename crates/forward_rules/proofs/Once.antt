@@ -18,7 +18,7 @@ use Rattle.rules.specs.declared.Effect.the-variants.{Go, Put, Cell, Order, Prob
 use Rattle.rules.specs.Names.{bundleLength}
 use Rattle.rules.specs.Commands.{fetchOf}
 use Rattle.rules.specs.Bundles.{shapeOf, bundleAt}
-use Rattle.rules.specs.Machines.{View, State, Ran, effectOf, applyOf, seen, nextOf, stepOf, runFrom, startOf, runOf, fits}
+use Rattle.rules.specs.Machines.{View, State, Ran, effectOf, applyOf, seen, nextOf, stepOf, runFrom, startOf, runOf, fits, loopFrom}
 use Rattle.rules.specs.Runs.{Given, eachRun, afterAll, Carried, atFirst, runOn, afterTaken, afterRun, after, Served}
 use Rattle.rules.proofs.Bools.{cases}
 use Rattle.rules.proofs.Facts.{Bundled}
@@ -103,7 +103,7 @@ module _ (lay : Layout) (ws : List ℕ) (n : ℕ) (is : ℕ → Instr) (room : l
       (next-third s l u)
 
   never-pauses : (j k : ℕ) (s : State) → Ahead (lay .base) n k (s .pc) (s .status) → Few (lay .base) size s → pauses (runFrom lay ws rd j k s .outcome .answer .ending) ≡ false
-  unfolding runFrom
+  unfolding loopFrom
   never-pauses zero k s a f = ending-plain (s .status)
   never-pauses (suc j) k s a f =
       run-ind lay ws rd j k s (λ (r : Ran). pauses (r .outcome .answer .ending) ≡ false)

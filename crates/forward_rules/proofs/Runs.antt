@@ -12,7 +12,7 @@ use Rattle.rules.specs.declared.Status.the-variants.{Running, Ended, Stopped, F
 use Rattle.rules.specs.declared.Ending.{Ending}
 use Rattle.rules.specs.declared.Effect.the-variants.{Wait}
 use Rattle.rules.specs.Commands.{fetchOf}
-use Rattle.rules.specs.Machines.{State, Ran, seen, nextOf, stepOf, endingOf, runFrom}
+use Rattle.rules.specs.Machines.{State, Ran, seen, nextOf, stepOf, endingOf, runFrom, loopFrom}
 use Rattle.rules.specs.Runs.{Given, eachRun, afterAll, Run, Carried, afterRun, runAs}
 use Rattle.rules.proofs.Bools.{no}
 use Rattle.rules.proofs.Loops.{Goes}
@@ -38,7 +38,7 @@ ending-plain Strayed = refl
 module _ (lay : Layout) (ws rd : List ℕ) where
   -- a run counts on from k
   pub steps-more : (j k : ℕ) (s : State) → k ≤ runFrom lay ws rd j k s .outcome .answer .steps
-  unfolding runFrom
+  unfolding loopFrom
   steps-more zero k s = omega arith
   steps-more (suc j) k s =
       run-ind lay ws rd j k s (λ (r : Ran). k ≤ r .outcome .answer .steps) (λ _. omega arith) (λ _ w z. omega arith)
@@ -53,7 +53,7 @@ module _ (lay : Layout) (ws rd : List ℕ) where
 
   -- one that leaves the machine running found it running
   pub ran-before : (j k : ℕ) (s : State) → runFrom lay ws rd j k s .outcome .machine .status ≡ Running → s .status ≡ Running
-  unfolding runFrom
+  unfolding loopFrom
   ran-before zero k s = λ e. e
   ran-before (suc j) k s =
       run-ind lay ws rd j k s (λ (r : Ran). r .outcome .machine .status ≡ Running → s .status ≡ Running) (λ f e. e) (λ r w z e. r) (λ r g e. r)
@@ -65,7 +65,7 @@ module _ (lay : Layout) (ws rd : List ℕ) where
   -- and, unless it pauses, used up its budget
   pub all-spent : (j k : ℕ) (s : State) → runFrom lay ws rd j k s .outcome .machine .status ≡ Running → pauses (runFrom lay ws rd j k s .outcome .answer .ending) ≡ false
       → k + j ≤ runFrom lay ws rd j k s .outcome .answer .steps
-  unfolding runFrom
+  unfolding loopFrom
   all-spent zero k s = λ e f. omega arith
   all-spent (suc j) k s =
       run-ind lay ws rd j k s (λ (r : Ran). r .outcome .machine .status ≡ Running → pauses (r .outcome .answer .ending) ≡ false → k + suc j ≤ r .outcome .answer .steps)

@@ -10,7 +10,7 @@ use Rattle.rules.specs.Landings.{rightLandings, landingsOf}
 use Rattle.rules.specs.Words.{judgeOf, judgeAt, firstRefused, instrOf, routine, bundlesFor}
 use Rattle.rules.specs.Commands.{isCommand, commandOf, wordOf, fetchOf, plainOf}
 use Rattle.rules.specs.Bundles.{shapeOf, valid, readOff, bundleAt, isBundle, shapedAt, passesAt, checkFrom, checkAnswer, placeAnswer, rewriteAnswer}
-use Rattle.rules.specs.Machines.{installAnswer, installMemory, installMachine, effectOf, applyOf, runFrom, runOf}
+use Rattle.rules.specs.Machines.{installAnswer, installMemory, installMachine, effectOf, applyOf, runOf, loopFrom}
 use Rattle.rules.specs.Runs.{Carried, atFirst, runOn, afterTaken, afterRun, Lends, Served, eachRun}
 use Rattle.rules.proofs.Bools.{no}
 use Rattle.forward_rules.specs.Forward.{forwardAt, forwardFrom, forwardAnswer, checkForwardAnswer}
@@ -30,7 +30,7 @@ unfolding ones rightLayout rightPolicy rightLandings installAnswer eachRun
 served = record { passed = passed; installed = refl; lends = (λ l i s. refl, (λ l i s. refl, tt)) }
 
 pub reaches : Reaches
-unfolding ones leadingZeros rightLayout rightPolicy rightLandings landingsOf judgeOf judgeAt firstRefused instrOf routine bundlesFor wordOf shapeOf isCommand commandOf fetchOf plainOf installAnswer installMemory installMachine effectOf applyOf runFrom runOf runOn afterTaken afterRun eachRun placeAnswer rewriteAnswer forwardAt forwardFrom forwardAnswer
+unfolding ones leadingZeros rightLayout rightPolicy rightLandings landingsOf judgeOf judgeAt firstRefused instrOf routine bundlesFor wordOf shapeOf isCommand commandOf fetchOf plainOf installAnswer installMemory installMachine effectOf applyOf loopFrom runOf runOn afterTaken afterRun eachRun placeAnswer rewriteAnswer forwardAt forwardFrom forwardAnswer
 reaches =
     record {
       rewritten = refl;
@@ -56,7 +56,7 @@ short-served : Served layout policy shortCommands memory stepwise
 short-served = record { passed = short-passed; installed = served .installed; lends = lends (atFirst layout policy memory) fourthAlone }
 
 pub stepwise-holds : Stepwise
-unfolding ones leadingZeros rightLayout rightPolicy rightLandings landingsOf judgeOf judgeAt firstRefused instrOf routine bundlesFor wordOf shapeOf isCommand commandOf fetchOf plainOf installAnswer installMemory installMachine effectOf applyOf runFrom runOf runOn afterTaken afterRun eachRun placeAnswer rewriteAnswer forwardAt forwardFrom forwardAnswer
+unfolding ones leadingZeros rightLayout rightPolicy rightLandings landingsOf judgeOf judgeAt firstRefused instrOf routine bundlesFor wordOf shapeOf isCommand commandOf fetchOf plainOf installAnswer installMemory installMachine effectOf applyOf loopFrom runOf runOn afterTaken afterRun eachRun placeAnswer rewriteAnswer forwardAt forwardFrom forwardAnswer
 stepwise-holds =
     record {
       served = short-served;

@@ -22,9 +22,9 @@ use Rattle.rules.specs.declared.Effect.the-variants.{Go, Put, Cell, Orde
 use Rattle.rules.specs.Names.{orders, noArrow, bundleLength, hidden}
 use Rattle.rules.specs.Policies.{Policy}
 use Rattle.rules.specs.Commands.{fetchOf, holdsOf}
-use Rattle.rules.specs.Bundles.{at4, addressOf, positionOf, shapeOf}
-use Rattle.rules.specs.Machines.{State, Ran, View, regAt, ifCell, landsAt, ifLanding, ifRoom, entryOf, onward, effectOf, applyOf, seen, nextOf, stepOf, runFrom, startOf, runOf, fits}
-use Rattle.rules.specs.Guests.{Pair, Guest, rOf}
+use Rattle.rules.specs.Bundles.{at4, addressOf, positionOf, shapeOf, bundleAt}
+use Rattle.rules.specs.Machines.{State, Ran, View, regAt, ifCell, landsAt, ifLanding, ifRoom, entryOf, onward, effectOf, applyOf, seen, nextOf, stepOf, runFrom, startOf, runOf, fits, installMemory, loopFrom}
+use Rattle.rules.specs.Guests.{Pair, Guest, rOf, guestStart}
 use Rattle.rules.specs.Runs.{begins, begunFrom, runOn, afterTaken, afterRun, after}
 use Rattle.rules.specs.Claims.{Stands, Resumes, Progress}
 use Rattle.rules.proofs.Facts.{Right, Bundled}
@@ -210,7 +210,7 @@ one-more j most l = omega arith
 
 -- now, and after one step
 came-now : (lay : Layout) (ws rd : List ℕ) (most k b : ℕ) (s : State) → StandsIn lay s → Came lay ws rd most k b b s
-unfolding runFrom begunFrom
+unfolding loopFrom
 came-now lay ws rd most k b s x = record { j = 0; few = omega arith; stands = x; begun = refl }
 
 came-then : (lay : Layout) (ws rd : List ℕ) (most k b b₁ b₂ : ℕ) (s : State) → s .status ≡ Running → Goes (nextOf lay ws rd s) → b + begins lay (s .pc) ≡ b₁ → Came lay ws rd most (k + 1) b₁ b₂ (stepOf lay ws rd s) → Came lay ws rd (suc most) k b b₂ s

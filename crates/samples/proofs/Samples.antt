@@ -15,9 +15,9 @@ use Rattle.rules.specs.Landings.{rightLandings, bitsFrom, landingsOf}
 use Rattle.rules.specs.Words.{instrOf, routine, bundlesFor}
 use Rattle.rules.specs.Commands.{isCommand, commandOf, wordOf, fetchOf, plainOf}
 use Rattle.rules.specs.Bundles.{shapeOf, valid, readOff, bundleAt, isBundle, shapedAt, passesAt, checkFrom, checkAnswer}
-use Rattle.rules.specs.Machines.{installAnswer, installMemory, installMachine, effectOf, applyOf, runFrom, runOf}
+use Rattle.rules.specs.Machines.{installAnswer, installMemory, installMachine, effectOf, applyOf, runOf, loopFrom}
 use Rattle.rules.specs.Guests.{pairOf, Guest, guestOf, sentOf, doOf, guestStep, guestAfter, guestStart}
-use Rattle.rules.specs.Runs.{Each, eachRun, afterAll, begins, begunFrom, runOn, afterTaken, afterRun, Matches, Served, allRuns}
+use Rattle.rules.specs.Runs.{Each, eachRun, afterAll, begins, runOn, afterTaken, afterRun, Matches, Served, allRuns}
 use Rattle.rules.specs.Claims.{Alike, Same}
 use Rattle.samples.specs.Sample.{layout, policy, code, commands, memory, left, runs, SampleHolds}
 use Rattle.rules.proofs.Bools.{no}
@@ -51,7 +51,7 @@ alike-in x y =
     rw (installed-with x, installed-with y) (λ i s. free-set mem 700 x refl i s ∙ sym (free-set mem 700 y refl i s))
 
 given-alike : (x y : ℕ) → Each Alike (runs x) (runs y)
-unfolding ones leadingZeros rightLayout rightPolicy rightLandings bitsFrom landingsOf instrOf routine bundlesFor wordOf shapeOf isCommand commandOf fetchOf plainOf installAnswer installMemory installMachine effectOf applyOf runFrom runOf runOn afterTaken afterRun
+unfolding ones leadingZeros rightLayout rightPolicy rightLandings bitsFrom landingsOf instrOf routine bundlesFor wordOf shapeOf isCommand commandOf fetchOf plainOf installAnswer installMemory installMachine effectOf applyOf loopFrom runOf runOn afterTaken afterRun
 given-alike x y = (
   record { readings = refl; budget = refl; log = refl; memory = refl },
   (
@@ -77,7 +77,7 @@ guest-with x =
     ap (λ (y : Guest). y .records) four
 
 pub sample-holds : SampleHolds
-unfolding ones leadingZeros rightLayout rightPolicy rightLandings bitsFrom landingsOf instrOf routine bundlesFor wordOf shapeOf readOff bundleAt isCommand commandOf fetchOf plainOf installAnswer installMemory installMachine effectOf applyOf runFrom runOf begins begunFrom runOn afterTaken afterRun afterAll eachRun
+unfolding ones leadingZeros rightLayout rightPolicy rightLandings bitsFrom landingsOf instrOf routine bundlesFor wordOf shapeOf readOff bundleAt isCommand commandOf fetchOf plainOf installAnswer installMemory installMachine effectOf applyOf loopFrom runOf begins runOn afterTaken afterRun afterAll eachRun
 sample-holds =
     record {
       served = served-with;

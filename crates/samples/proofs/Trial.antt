@@ -9,14 +9,14 @@ use Rattle.rules.specs.Words.{judgeOf, judgeAt, firstRefused, instrOf, routine,
 use Rattle.rules.specs.Bytes.{byteAt, quadAt, fieldsAt, oneFields, oneMap, oneOf, scanOf, wordsOf, readAnswer}
 use Rattle.rules.specs.Commands.{isCommand, commandOf, wordOf, fetchOf, plainOf}
 use Rattle.rules.specs.Bundles.{shapeOf, placeAnswer, rewriteAnswer, valid, readOff, bundleAt, isBundle, shapedAt, passesAt, checkFrom, checkAnswer}
-use Rattle.rules.specs.Machines.{installAnswer, installMemory, installMachine, effectOf, applyOf, runFrom, runOf}
+use Rattle.rules.specs.Machines.{installAnswer, installMemory, installMachine, effectOf, applyOf, runOf, loopFrom}
 use Rattle.rules.specs.Runs.{runOn, eachRun}
 use Rattle.sandbox_rules.specs.Loading.{translateAnswer, loadAnswer, loadCommands, loadMemory, loadMachine}
 use Rattle.samples.specs.Sample.{layout}
 use Rattle.samples.specs.Trial.{policy, input, memory, TrialHolds}
 
 pub trial-holds : TrialHolds
-unfolding ones leadingZeros rightLayout rightPolicy rightLandings landingsOf judgeOf judgeAt firstRefused instrOf routine bundlesFor byteAt quadAt fieldsAt oneFields oneMap oneOf scanOf wordsOf readAnswer isCommand commandOf wordOf fetchOf plainOf shapeOf placeAnswer rewriteAnswer valid readOff bundleAt isBundle shapedAt passesAt checkFrom checkAnswer installAnswer installMemory installMachine effectOf applyOf runFrom runOf runOn translateAnswer loadAnswer loadCommands loadMemory loadMachine eachRun
+unfolding ones leadingZeros rightLayout rightPolicy rightLandings landingsOf judgeOf judgeAt firstRefused instrOf routine bundlesFor byteAt quadAt fieldsAt oneFields oneMap oneOf scanOf wordsOf readAnswer isCommand commandOf wordOf fetchOf plainOf shapeOf placeAnswer rewriteAnswer valid readOff bundleAt isBundle shapedAt passesAt checkFrom checkAnswer installAnswer installMemory installMachine effectOf applyOf loopFrom runOf runOn translateAnswer loadAnswer loadCommands loadMemory loadMachine eachRun
 trial-holds =
     record {
       answers = refl;

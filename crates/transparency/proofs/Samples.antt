@@ -13,11 +13,11 @@ use Rattle.rules.specs.Landings.{rightLandings, bitsFrom, landingsOf, marked}
 use Rattle.rules.specs.Words.{judgeOf, judgeAt, firstRefused, instrOf, routine, bundlesFor}
 use Rattle.rules.specs.Commands.{isCommand, commandOf, wordOf, fetchOf, plainOf}
 use Rattle.rules.specs.Bundles.{shapeOf, valid, readOff, bundleAt, isBundle, shapedAt, passesAt, checkFrom, checkAnswer, placeAnswer, rewriteAnswer}
-use Rattle.rules.specs.Machines.{landsAt, installAnswer, installMemory, installMachine, effectOf, applyOf, runFrom, runOf}
-use Rattle.rules.specs.Runs.{Given, begins, begunFrom, runOn, afterTaken, afterRun, after, Served, eachRun, afterAll}
+use Rattle.rules.specs.Machines.{landsAt, installAnswer, installMemory, installMachine, effectOf, applyOf, runOf, loopFrom}
+use Rattle.rules.specs.Runs.{Given, begins, runOn, afterTaken, afterRun, after, Served, eachRun, afterAll}
 use Rattle.rules.specs.Claims.{Waiting}
 use Rattle.samples.specs.Sample.{layout}
-use Rattle.engine_rules.specs.Engines.{sendOf, actOf, nextFor, movedOf, effectOn, runFrom as engineFrom, refusalOf, refusalBy, runOf as engineRunOf}
+use Rattle.engine_rules.specs.Engines.{sendOf, actOf, nextFor, movedOf, effectOn, refusalOf, refusalBy, runOf as engineRunOf}
 use Rattle.engine_rules.specs.Claims.{runOn as engineOn, afterTaken as engineTaken, afterRun as engineRun, after as engineAfter}
 use Rattle.transparency.specs.Raw.{rawSent, rawDo, rawStep, rawAfter, Behaves}
 use Rattle.transparency.specs.Claims.{Begins, Behaved}
@@ -66,7 +66,7 @@ record MachineHolds : Type 0 where
   pausedUsed : Begins (after layout policy commands memory (pausedRun ∷ []) .consumed) readings
 
 machine-holds : MachineHolds
-unfolding ones leadingZeros rightLayout rightPolicy rightLandings bitsFrom landingsOf marked instrOf routine bundlesFor wordOf shapeOf readOff bundleAt isCommand commandOf fetchOf plainOf landsAt installAnswer installMemory installMachine effectOf applyOf runFrom runOf begins begunFrom runOn afterTaken afterRun afterAll
+unfolding ones leadingZeros rightLayout rightPolicy rightLandings bitsFrom landingsOf marked instrOf routine bundlesFor wordOf shapeOf readOff bundleAt isCommand commandOf fetchOf plainOf landsAt installAnswer installMemory installMachine effectOf applyOf loopFrom runOf begins runOn afterTaken afterRun afterAll
 machine-holds =
     record {
       begun = refl;
@@ -85,7 +85,7 @@ record EngineHolds : Type 0 where
   used : Begins (engineAfter layout policy code memory (run ∷ []) .consumed) readings
 
 engine-holds : EngineHolds
-unfolding ones leadingZeros rightLayout rightPolicy rightLandings bitsFrom landingsOf marked judgeOf judgeAt firstRefused instrOf routine bundlesFor plainOf installAnswer installMemory applyOf sendOf actOf nextFor movedOf effectOn engineFrom refusalBy engineRunOf engineOn engineTaken engineRun afterAll
+unfolding ones leadingZeros rightLayout rightPolicy rightLandings bitsFrom landingsOf marked judgeOf judgeAt firstRefused instrOf routine bundlesFor plainOf installAnswer installMemory applyOf sendOf actOf nextFor movedOf effectOn loopFrom refusalBy engineRunOf engineOn engineTaken engineRun afterAll
 engine-holds = record { taken = refl; counted = refl; over = refl; used = λ i h. refl }
 
 pub sample-holds : SampleHolds
