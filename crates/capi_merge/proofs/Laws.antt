@@ -1,41 +1,32 @@
 -- What is answered and left, said of the numbers of a C host.
-use Prim.Native.Nat.{ℕ, _^_, _<_, min}
+use Prim.Native.Nat.{ℕ, _+_, _^_, _<_}
 use mathlib.Core.Path.{_≡_, refl, sym, _∙_, ap, ap₂, subst}
-use mathlib.Core.Bool.{Bool, true, false, _&&_, cond}
-use mathlib.Core.List.{List, [], _∷_}
+use mathlib.Core.Bool.{Bool, true, false, _&&_}
+use mathlib.Core.List.{List, [], _∷_, _++_, append-nil}
 use native.Mathlib.Omega.{arith}
-use lib.Dec.{eqb}
-use lib.ListN.{length, getD, replicate}
-use lib.Seq.{ext-getD}
+use lib.ListN.{length, getD, drop, replicate}
+use lib.Seq.{sets, sets-eq}
 use Rattle.rules.specs.Names.{orders}
 use Rattle.rules.specs.Policies.{Policy, policyOf}
 use Rattle.capi_numbers.specs.Numbers.{answerTo}
-use Rattle.policy_maps.specs.Maps.{build}
-use Rattle.policy_maps.proofs.Maps.{length-build, build-at}
 use Rattle.policy_exploration.proofs.Reach.{place-most}
 use Rattle.policy_merge.specs.declared.Merged.{Merged}
 use Rattle.policy_merge.specs.declared.Side.{Side}
-use Rattle.policy_merge.specs.Pairs.{pairAfter, startPair, sideRight, smaller, pairsOf, withCeilings, mergeOf, mergeTable}
-use Rattle.capi_merge.specs.Numbers.{sideFrom, mergedTo, HostMerged, hostMerged, mergeFor}
+use Rattle.policy_merge.specs.Pairs.{pairAfter, startPair, sideRight, pairsOf, withCeilings, mergeOf, mergeTable}
+use Rattle.capi_merge.specs.Numbers.{ceilingsFrom, sideOf, sideFrom, mergedTo, HostMerged, hostMerged, mergeFor}
 
--- eight numbers of a list, one by one
-spelt : (xs : List ℕ) → length xs ≡ orders → build (λ i. getD xs i 0) orders ≡ xs
-spelt xs e = let f : ℕ → ℕ = λ i. getD xs i 0 in ext-getD 0 (build f orders) xs (length-build f orders ∙ sym e) (λ i h. build-at f orders i 0 (omega (arith, h, length-build f orders)))
+pub side-of : (xs cs : List ℕ) → cs ≡ ceilingsFrom xs → sideOf (getD xs 0 0) (getD xs 1 0) cs ≡ sideFrom xs
+unfolding sideFrom
+side-of xs cs e = ap (sideOf (getD xs 0 0) (getD xs 1 0)) e
 
-pub merged-of : (m : Merged) → length (m .ceilings) ≡ orders
-    → m .policy .states ∷ m .policy .start ∷ getD (m .ceilings) 0 0 ∷ getD (m .ceilings) 1 0 ∷ getD (m .ceilings) 2 0 ∷ getD (m .ceilings) 3 0 ∷ getD (m .ceilings) 4 0 ∷ getD (m .ceilings) 5 0 ∷ getD (m .ceilings) 6 0 ∷ getD (m .ceilings) 7 0 ∷ [] ≡ mergedTo m
-unfolding build
-merged-of m e = ap (λ (l : List ℕ). m .policy .states ∷ m .policy .start ∷ l) (spelt (m .ceilings) e)
+-- the ceilings stored behind the two others, over zeros
+pub merged-of : (m : Merged) (xs : List ℕ) → length (m .ceilings) ≡ orders → xs ≡ sets (m .policy .states ∷ m .policy .start ∷ replicate orders 0) 2 (m .ceilings) → xs ≡ mergedTo m
+merged-of m xs h e =
+    let two : List ℕ → List ℕ = λ ys. m .policy .states ∷ m .policy .start ∷ ys in
+    let c = m .ceilings in
+    e ∙ sets-eq c (two (replicate orders 0)) 2 (omega (arith, h)) ∙ ap (λ (k : ℕ). two (c ++ drop (2 + k) (two (replicate orders 0)))) h ∙ ap two (append-nil c)
 
--- there are eight ceilings, and the place has 32 bits
-pub eight : (a : Policy) (c : List ℕ) (b : Policy) (d : List ℕ) (room : ℕ) (m : Merged) → m ≡ mergeOf a c b d room → length (m .ceilings) ≡ orders
-unfolding mergeOf withCeilings
-eight a c b d room m e = ap (λ (x : Merged). length (x .ceilings)) e ∙ go (eqb (pairsOf a b room .answer .number) 0)
-  where
-    go : (b : Bool) → length (cond b (smaller c d) (replicate orders 0)) ≡ orders
-    go true = length-build (λ i. min (getD c i 0) (getD d i 0)) orders
-    go false = refl
-
+-- the place has 32 bits
 pub narrow-merged : (a : Policy) (c : List ℕ) (b : Policy) (d : List ℕ) (room : ℕ) (m : Merged) → m ≡ mergeOf a c b d room → m .answer .place < 2 ^ 32
 unfolding mergeOf withCeilings pairsOf
 narrow-merged a c b d room m e = subst (λ (x : Merged). x .answer .place < 2 ^ 32) (sym e) (go (sideRight a && sideRight b) refl)

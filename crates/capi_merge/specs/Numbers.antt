@@ -1,21 +1,23 @@
 -- What is made of a C host's numbers, and the numbers that it gets.
-use Prim.Native.Nat.{ℕ, _+_}
+use Prim.Native.Nat.{ℕ}
 use mathlib.Core.List.{List, [], _∷_}
 use lib.ListN.{length, getD}
 use Rattle.rules.specs.Names.{orders}
 use Rattle.rules.specs.Policies.{Policy, policyOf}
-use Rattle.capi_numbers.specs.Numbers.{answerTo}
-use Rattle.policy_maps.specs.Maps.{build}
+use Rattle.capi_numbers.specs.Numbers.{numbersFrom, answerTo}
 use Rattle.policy_merge.specs.declared.Merged.{Merged}
 use Rattle.policy_merge.specs.declared.Side.{Side}
 use Rattle.policy_merge.specs.Pairs.{mergeOf, mergeTable}
 
 -- one side of a merge from its state count, its start and the ceilings of the orders
 abbrev pub ceilingsFrom : List ℕ → List ℕ
-ceilingsFrom xs = build (λ i. getD xs (2 + i) 0) orders
+ceilingsFrom xs = numbersFrom orders 2 xs
+
+abbrev pub sideOf : ℕ → ℕ → List ℕ → Side
+sideOf states start ceilings = record { policy = record { states = states; start = start }; ceilings = ceilings }
 
 unfoldable pub sideFrom : List ℕ → Side
-sideFrom xs = record { policy = record { states = getD xs 0 0; start = getD xs 1 0 }; ceilings = ceilingsFrom xs }
+sideFrom xs = sideOf (getD xs 0 0) (getD xs 1 0) (ceilingsFrom xs)
 
 -- its policy, with its table
 abbrev pub policyFrom : List ℕ → List ℕ → Policy

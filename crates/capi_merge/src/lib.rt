@@ -1,16 +1,18 @@
 // Two policies merged, for a C host.
 use capi_answers::answer_of;
 use capi_numbers::ANSWER;
+use capi_numbers::ceilings_from;
 use policy_merge::Merged;
 use policy_merge::Side;
 use rules::PolicyNumbers;
+use words_cells::store_cells;
 ghost use mathlib.Core.Path.{_≡_};
-ghost use lib.ListN.{length};
-ghost use Rattle.rules.specs.Names.{orders};
 ghost use Rattle.capi_merge.specs.Numbers.{sideFrom, mergedTo, hostMerged, mergeFor};
 
-// How many numbers a policy has: states, start and ceilings.
-pub const POLICY: usize = 2 + PolicyNumbers::ORDERS as usize;
+// How many numbers a policy has: states, start and, from there on, ceilings.
+const CEILINGS: usize = 2;
+
+pub const POLICY: usize = CEILINGS + PolicyNumbers::ORDERS as usize;
 
 // One side of a merge.
 fn side_of(xs: &[u32; POLICY]) -> Side
@@ -20,27 +22,19 @@ fn side_of(xs: &[u32; POLICY]) -> Side
         states: xs[0],
         start: xs[1],
     };
-    let ceilings = [xs[2], xs[3], xs[4], xs[5], xs[6], xs[7], xs[8], xs[9]];
+    let ceilings = ceilings_from(xs, CEILINGS);
     Side { policy, ceilings }
 }
 
+// What was merged, as such numbers.
 fn merged_of(m: Merged) -> [u32; POLICY]
-    requires { ⌜ length (m .ceilings) ≡ orders ⌝ }
     ensures { λ r. ⌜ r ≡ mergedTo m ⌝ }
 {
-    let c = m.ceilings;
-    [
-        m.policy.states,
-        m.policy.start,
-        c[0],
-        c[1],
-        c[2],
-        c[3],
-        c[4],
-        c[5],
-        c[6],
-        c[7],
-    ]
+    let mut xs = [0u32; POLICY];
+    xs[0] = m.policy.states;
+    xs[1] = m.policy.start;
+    store_cells(&mut xs, CEILINGS, &m.ceilings);
+    xs
 }
 
 // Merges two policies, `left` the table of one and `right` that of the other.

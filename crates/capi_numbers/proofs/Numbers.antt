@@ -1,5 +1,5 @@
 -- What a C host's numbers stand for.
-use Prim.Native.Nat.{ℕ, zero, suc, _+_, _≤_, _<_}
+use Prim.Native.Nat.{ℕ, zero, suc, _+_, _-_, _≤_, _<_}
 use mathlib.Core.Path.{_≡_, refl, sym, _∙_, ap}
 use mathlib.Core.Bool.{Bool, true, cond}
 use mathlib.Core.List.{List, [], _∷_, _++_, append-assoc}
@@ -7,13 +7,16 @@ use native.Mathlib.Numerals.{add-one}
 use native.Mathlib.Omega.{arith}
 use borrow.Author.Tests.{lt-ltb, le-ltb, ltb-true}
 use lib.Dec.{ltb}
-use lib.ListN.{length, getD, set, take, drop, take-append-drop, length-append, length-drop, length-set}
+use lib.ListN.{length, getD, set, take, drop, replicate, take-append-drop, length-append, length-drop, length-set}
 use lib.Seq.{sets, length-sets, drop-cons, length-take-le, take-all, take-at, set-at, getD-at, getD-append-add}
+use Rattle.rules.specs.declared.Layout.{Layout}
 use Rattle.rules.specs.declared.Status.{Status}
 use Rattle.rules.specs.declared.Status.the-variants.{Running, Ended, Stopped, Faulted, Strayed}
+use Rattle.rules.specs.Names.{orders}
+use Rattle.rules.specs.Layouts.{layoutOf}
 use Rattle.rules.proofs.Bools.{cond-ind}
 use Rattle.words_cells.proofs.Storing.{store-front, store-all}
-use Rattle.capi_numbers.specs.Numbers.{numbersFrom, statuses, statusFrom, statusNumber, behind, recordTo, statusIn, recordFrom, statusKnown, numbersAfter}
+use Rattle.capi_numbers.specs.Numbers.{numbersFrom, layoutFrom, statuses, statusFrom, statusNumber, behind, recordTo, statusIn, recordFrom, statusKnown, numbersAfter}
 use Rattle.capi_numbers.specs.Hosts.{HostRan, hostRan, hostLeft}
 use Rattle.capi_numbers.specs.Claims.{ComesBack}
 
@@ -22,6 +25,18 @@ use Rattle.capi_numbers.specs.Claims.{ComesBack}
 pub spelt : (n i : ℕ) (xs : List ℕ) → i + n ≤ length xs → take n (drop i xs) ≡ numbersFrom n i xs
 spelt zero i xs h = refl
 spelt (suc n) i xs h = ap (take (suc n)) (drop-cons xs i 0 (omega arith)) ∙ ap (λ (r : List ℕ). getD xs i 0 ∷ r) (spelt n (suc i) xs (omega arith))
+
+-- the last eight of some numbers, stored over zeros
+pub ceilings-of : (xs out : List ℕ) (at : ℕ) → length xs ≡ at + orders → out ≡ sets (replicate orders 0) 0 (take (length xs - at) (drop at xs)) → out ≡ numbersFrom orders at xs
+ceilings-of xs out at l e =
+    let part : length xs - at ≡ orders = omega arith in
+    let eight : length (take orders (drop at xs)) ≡ orders = length-take-le orders (drop at xs) (simp length-drop (omega arith)) in
+    e ∙ ap (λ (n : ℕ). sets (replicate orders 0) 0 (take n (drop at xs))) part ∙ store-all (replicate orders 0) (take orders (drop at xs)) (sym eight) ∙ spelt orders at xs (omega arith)
+
+pub layout-of : (xs cs : List ℕ) (l : Layout) → cs ≡ numbersFrom orders 8 xs
+    → l ≡ layoutOf (getD xs 0 0) (getD xs 1 0) (getD xs 2 0) (getD xs 3 0) (getD xs 4 0) (getD xs 5 0) (getD xs 6 0) (getD xs 7 0) cs → l ≡ layoutFrom xs
+unfolding layoutFrom
+layout-of xs cs l e q = q ∙ ap (layoutOf (getD xs 0 0) (getD xs 1 0) (getD xs 2 0) (getD xs 3 0) (getD xs 4 0) (getD xs 5 0) (getD xs 6 0) (getD xs 7 0)) e
 
 -- ---- statuses
 

@@ -7,13 +7,15 @@ use words_cells::store_cells;
 ghost use mathlib.Core.Path.{_≡_};
 ghost use Prim.Native.Nat.{_+_};
 ghost use lib.ListN.{length, take};
-ghost use Rattle.rules.specs.Names.{registers};
-ghost use Rattle.capi_numbers.specs.Numbers.{layoutFrom, statusFrom, statusNumber, behind, recordTo, statusIn, numbersAfter, machineFrom, machineTo};
+ghost use Rattle.rules.specs.Names.{orders, registers};
+ghost use Rattle.capi_numbers.specs.Numbers.{numbersFrom, layoutFrom, statusFrom, statusNumber, behind, recordTo, statusIn, numbersAfter, machineFrom, machineTo};
 
 // How many numbers a layout has, the ceilings behind the others; an answer; a run's answer; a made policy.
 const CEILINGS: usize = 8;
 
-pub const LAYOUT: usize = CEILINGS + PolicyNumbers::ORDERS as usize;
+const ORDERS: usize = PolicyNumbers::ORDERS as usize;
+
+pub const LAYOUT: usize = CEILINGS + ORDERS;
 
 pub const ANSWER: usize = 2;
 
@@ -26,13 +28,23 @@ pub const BEHIND: usize = 2;
 
 pub const RECORD: usize = Machine::REGISTERS + BEHIND;
 
+// The ceilings of the orders: the numbers from a place on to the last.
+pub fn ceilings_from(xs: &[u32], at: usize) -> [u32; ORDERS]
+    requires { ⌜ length (now xs) ≡ at + orders ⌝ }
+    ensures { λ r. ⌜ r ≡ numbersFrom orders at (now (xs .entry)) ⌝ }
+{
+    let mut ceilings = [0u32; ORDERS];
+    store_cells(&mut ceilings, 0, &xs[at..]);
+    ceilings
+}
+
 // A layout.
 pub fn layout_of(xs: &[u32; LAYOUT]) -> Layout
     ensures { λ r. ⌜ r ≡ layoutFrom (now (xs .entry)) ⌝ }
 {
     let low = xs[1];
     let base = xs[6];
-    let ceilings = [xs[8], xs[9], xs[10], xs[11], xs[12], xs[13], xs[14], xs[15]];
+    let ceilings = ceilings_from(xs, CEILINGS);
     Layout::new(
         xs[0],
         low,

@@ -1,10 +1,7 @@
-use Rattle.capi_merge.proofs.Laws.{eight, narrow-merged, merged}
+use Rattle.capi_merge.proofs.Laws.{narrow-merged, merged}
 use borrow.Author.Needs.{needs}
 use Rattle.capi_merge.proofs.merge.Statement.{statement}
 use Rattle.capi_merge.proofs.merge.Tie as tie
-
-merged-of-requires : tie.Need-merged-of-requires
-merged-of-requires c κs = eight _ _ _ _ _ _ (c .before .before .merge .ensures .0)
 
 answer-of-requires : tie.Need-answer-of-requires
 answer-of-requires c κs = narrow-merged _ _ _ _ _ _ (c .before .before .before .merge .ensures .0)
@@ -24,7 +21,7 @@ merge-spec =
     (λ c κs. search needs)
     (λ c κs. search needs)
     (λ c κs. search needs)
-    merged-of-requires
+    (λ c κs. search needs)
     answer-of-requires
     (λ c. search needs)
     returns)

@@ -1,5 +1,5 @@
-use borrow.Author.Needs.{needs}
 use Rattle.capi_merge.proofs.Laws.{merged-of}
+use borrow.Author.Needs.{needs}
 use Rattle.capi_merge.proofs.merged_of.Statement.{statement}
 use Rattle.capi_merge.proofs.merged_of.Tie as tie
 
@@ -10,9 +10,5 @@ merged-of-spec =
     (λ c. search needs)
     (λ c. search needs)
     (λ c. search needs)
-    (λ c. search needs)
-    (λ c. search needs)
-    (λ c. search needs)
-    (λ c. search needs)
-    (λ c. search needs)
-    (λ c. merged-of (c .before .args .m) (c .before .pre)))
+    (λ c κs. search needs)
+    (λ c. search (merged-of, needs)))
