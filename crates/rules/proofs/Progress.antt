@@ -22,9 +22,9 @@ use Rattle.rules.specs.declared.Effect.the-variants.{Go, Put, Cell, Orde
 use Rattle.rules.specs.Names.{orders, noArrow, bundleLength, hidden}
 use Rattle.rules.specs.Policies.{Policy}
 use Rattle.rules.specs.Commands.{fetchOf, holdsOf}
-use Rattle.rules.specs.Bundles.{at4, addressOf, positionOf, shapeOf, bundleAt}
-use Rattle.rules.specs.Machines.{State, Ran, View, regAt, ifCell, landsAt, ifLanding, ifRoom, entryOf, onward, effectOf, applyOf, seen, nextOf, stepOf, runFrom, startOf, runOf, fits, installMemory, loopFrom}
-use Rattle.rules.specs.Guests.{Pair, Guest, rOf, guestStart}
+use Rattle.rules.specs.Bundles.{at4, addressOf, positionOf, shapeOf}
+use Rattle.rules.specs.Machines.{State, Ran, View, regAt, ifCell, landsAt, ifLanding, ifRoom, entryOf, onward, effectOf, applyOf, seen, nextOf, stepOf, runFrom, startOf, runOf, fits, loopFrom}
+use Rattle.rules.specs.Guests.{Pair, Guest, rOf}
 use Rattle.rules.specs.Runs.{begins, begunFrom, runOn, afterTaken, afterRun, after}
 use Rattle.rules.specs.Claims.{Stands, Resumes, Progress}
 use Rattle.rules.proofs.Facts.{Right, Bundled}
