@@ -2,10 +2,19 @@
 // damaged routines for each number by which reading and rewriting refuse. A line each: the case,
 // its answer's number and its place.
 use lines::print_case;
+use rules::Bundle;
+use rules::Instr;
 use rules::Layout;
+use rules::PolicyNumbers;
+
+// Orders, each with its ceiling.
+const ORDERS: usize = PolicyNumbers::ORDERS as usize;
+
+// The base of document 01's layout.
+const BASE: u32 = 4096;
 
 fn rewrites(name: &[u8], layout: Layout, words: &[u64]) {
-    let mut commands = [0u64; 4096];
+    let mut commands = [0u64; Bundle::MOST_COMMANDS];
     print_case(name, rewriter::rewrite(layout, words, &mut commands));
 }
 
@@ -16,7 +25,7 @@ fn rewrites_to_7(name: &[u8], layout: Layout, words: &[u64]) {
 }
 
 fn drum(base: u32) -> Layout {
-    let ceilings = [Layout::NO_LIMIT; 8];
+    let ceilings = [Layout::NO_LIMIT; ORDERS];
     Layout::new(1024, 256, 511, 0, 16, 2, base, 64, ceilings)
 }
 
@@ -35,15 +44,15 @@ fn landings(layout: Layout) {
 }
 
 fn lists(layout: Layout) {
-    let most = [0u64; 1023];
+    let most = [0u64; Instr::MOST];
     rewrites(b"rewrite 1023", layout, &most);
-    let more = [0u64; 1024];
+    let more = [0u64; Instr::MOST + 1];
     rewrites(b"rewrite 1024", layout, &more);
     rewrites_to_7(b"rewrite room_for_7_of_8", layout, &[0]);
 }
 
 fn layouts() {
-    let ceilings = [Layout::NO_LIMIT; 8];
+    let ceilings = [Layout::NO_LIMIT; ORDERS];
     let unaligned = Layout::new(64, 6, 9, 0, 16, 1, 0, 32, ceilings);
     rewrites(b"rewrite sandbox_6_to_9", unaligned, &[0xd]);
     rewrites(b"rewrite base_16_of_7", drum(16), &[0, 0, 0, 0, 0, 0, 0]);
@@ -53,7 +62,7 @@ fn layouts() {
 
 fn main() {
     tray_reading::cases();
-    let layout = drum(4096);
+    let layout = drum(BASE);
     bad_words(layout);
     landings(layout);
     lists(layout);

@@ -1,8 +1,12 @@
 // Routines of 1,023 and 1,024 instructions to read, and damaged ones for each number by which reading refuses.
 use lines::print_case;
+use rules::Instr;
+
+// The bytes of a routine's count; a HALT has one.
+const COUNT: usize = 2;
 
 fn reads(name: &[u8], bytes: &[u8]) {
-    let mut words = [0u64; 1023];
+    let mut words = [0u64; Instr::MOST];
     print_case(name, codec::read(bytes, &mut words));
 }
 
@@ -14,14 +18,14 @@ fn reads_one(name: &[u8], bytes: &[u8]) {
 
 // A count, then 1,024 times HALT.
 fn reads_many(name: &[u8], low: u8, high: u8) {
-    let mut bytes = [0u8; 1026];
+    let mut bytes = [0u8; COUNT + Instr::MOST + 1];
     bytes[0] = low;
     bytes[1] = high;
     reads(name, &bytes);
 }
 
 fn reads_most() {
-    let mut bytes = [0u8; 1025];
+    let mut bytes = [0u8; COUNT + Instr::MOST];
     bytes[0] = 255;
     bytes[1] = 3;
     reads(b"read 1023", &bytes);

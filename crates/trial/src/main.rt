@@ -2,12 +2,24 @@
 // where that is 0, what one run records and how it ends.
 use libc::STDIN_FILENO;
 use lines::print;
+use rules::Bundle;
+use rules::Instr;
 use rules::Layout;
 use rules::Machine;
 use rules::PolicyNumbers;
 use rules::Refusal;
 ghost use Prim.Native.Nat.{_*_, _≤_};
 ghost use lib.ListN.{length};
+
+// The drum's cells, as a number and as a length, and its base.
+const SIZE: u32 = 1024;
+
+const CELLS: usize = SIZE as usize;
+
+const BASE: u32 = 4096;
+
+// The bytes of the longest routine: its count, and ten for each instruction.
+const LONGEST: usize = 2 + 10 * Instr::MOST;
 
 fn print_answer(number: u8) {
     print(b"answer ", number as u64);
@@ -39,7 +51,7 @@ fn print_end(ending: u8, steps: u32, state: u32) {
 }
 
 // One run of a loaded routine. The state cell is cell 0.
-fn run(layout: Layout, commands: &[u64], start: Machine, memory: &mut [u32; 1024]) {
+fn run(layout: Layout, commands: &[u64], start: Machine, memory: &mut [u32; CELLS]) {
     let readings = [1800u32, 1950, 2100];
     let mut log = [0u32; 64];
     let out = sandbox::run(layout, commands, start, memory, 1000, &readings, &mut log);
@@ -50,10 +62,10 @@ fn run(layout: Layout, commands: &[u64], start: Machine, memory: &mut [u32; 1024
 }
 
 // Landings 0 to 1,023.
-fn all_landings() -> [u32; 1024] {
-    let mut xs = [0u32; 1024];
+fn all_landings() -> [u32; Bundle::MOST] {
+    let mut xs = [0u32; Bundle::MOST];
     let mut i: usize = 0;
-    while i < 1024 {
+    while i < Bundle::MOST {
         xs[i] = i as u32;
         i += 1;
     }
@@ -61,8 +73,8 @@ fn all_landings() -> [u32; 1024] {
 }
 
 fn try_routine(bytes: &[u8]) {
-    let ceilings = [Layout::NO_LIMIT; 8];
-    let layout = Layout::new(1024, 256, 511, 0, 16, 2, 4096, 64, ceilings);
+    let ceilings = [Layout::NO_LIMIT; PolicyNumbers::ORDERS as usize];
+    let layout = Layout::new(SIZE, 256, 511, 0, 16, 2, BASE, 64, ceilings);
     // State 0 stays but for event 2, the door; in state 1 event 0, gas, has no arrow.
     let table = [
         0u8,
@@ -103,8 +115,8 @@ fn try_routine(bytes: &[u8]) {
         start: 0,
     };
     let landings = all_landings();
-    let mut commands = [0u64; 4096];
-    let mut memory = [0u32; 1024];
+    let mut commands = [0u64; Bundle::MOST_COMMANDS];
+    let mut memory = [0u32; CELLS];
     let i = sandbox::load(
         layout,
         policy,
@@ -128,7 +140,7 @@ fn try_routine(bytes: &[u8]) {
 // One byte more than the longest routine has, so that a longer input is refused as it would be
 // whole.
 fn main() {
-    let mut input = [0u8; 10233];
+    let mut input = [0u8; LONGEST + 1];
     let n = io::read_full(STDIN_FILENO, &mut input);
     try_routine(&input[..n]);
 }
