@@ -27,8 +27,8 @@ pub record SameBox (lay : Layout) (mem raw : List ℕ) : Type 0 where
 abbrev pub Begins : List ℕ → List ℕ → Type 0
 Begins used reads = (i : ℕ) → i < length used → getD used i 0 ≡ getD reads i 0
 
--- [14]'s premise, of the first k instructions of a routine: the raw run, on a memory with the same sandbox and given readings of which the caged run used the
--- first, behaves
+-- [14]'s premise, of the first k instructions of a routine: the raw run behaves, on a memory with the same sandbox and given readings
+-- of which the caged run used the first
 pub record Behaved (lay : Layout) (pol : Policy) (code mem raw used reads : List ℕ) (k : ℕ) : Type 0 where
   pub box : SameBox lay mem raw
   pub readings : Begins used reads
@@ -51,6 +51,7 @@ pub record Caged (lay : Layout) (pol : Policy) (code mem raw reads : List ℕ) (
   pub served : Served lay pol (commandsOf lay code) mem gs
   pub behaved : Behaved lay pol code mem raw (after lay pol (commandsOf lay code) mem gs .consumed) reads k
 
+-- what the runs left of the machine, r0 to r14 of its registers
 abbrev pub MachineAlike : Layout → Raw → Carried → Type 0
 MachineAlike lay r c = Alike lay r (take guestRegisters (c .machine .regs)) (c .memory) (c .records) (length (c .consumed)) (c .machine .status)
 
