@@ -19,9 +19,10 @@ engineTo m = recordTo (m .regs) (m .at) (m .status)
 abbrev pub answerTo : EngineOutcome → List ℕ
 answerTo o = o .answer .number ∷ o .answer .place ∷ o .steps ∷ o .pairs ∷ o .used ∷ []
 
--- hemdroas_engine: the answer, the record after it, memory, the log
+-- what a run answers and leaves, in numbers
 abbrev pub ranTo : Ran → HostRan
 ranTo r = hostRan (answerTo (r .outcome)) (engineTo (r .outcome .engine)) (r .mem) (r .log)
 
+-- hemdroas_engine: the answer, the record after it, memory, the log
 unfoldable pub engineFor : List ℕ → List ℕ → List ℕ → List ℕ → ℕ → List ℕ → List ℕ → HostRan
 engineFor lay ws xs mem budget rd log = hostLeft guestRegisters xs (ranTo (runOf (layoutFrom lay) ws (engineFrom xs) mem budget rd log))

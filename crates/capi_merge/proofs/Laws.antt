@@ -12,7 +12,7 @@ use Rattle.capi_numbers.specs.Numbers.{answerTo}
 use Rattle.policy_exploration.proofs.Reach.{place-most}
 use Rattle.policy_merge.specs.declared.Merged.{Merged}
 use Rattle.policy_merge.specs.declared.Side.{Side}
-use Rattle.policy_merge.specs.Pairs.{pairAfter, startPair, sideRight, pairsOf, withCeilings, mergeOf, mergeTable}
+use Rattle.policy_merge.specs.Pairs.{pairAfter, startPair, sideRight, mergeMade, withCeilings, mergeOf, mergeTable}
 use Rattle.capi_merge.specs.Numbers.{ceilingsFrom, sideOf, sideFrom, mergedTo, HostMerged, hostMerged, mergeFor}
 
 pub side-of : (xs cs : List ℕ) → cs ≡ ceilingsFrom xs → sideOf (getD xs 0 0) (getD xs 1 0) cs ≡ sideFrom xs
@@ -28,10 +28,10 @@ merged-of m xs h e =
 
 -- the place has 32 bits
 pub narrow-merged : (a : Policy) (c : List ℕ) (b : Policy) (d : List ℕ) (room : ℕ) (m : Merged) → m ≡ mergeOf a c b d room → m .answer .place < 2 ^ 32
-unfolding mergeOf withCeilings pairsOf
+unfolding mergeOf withCeilings mergeMade
 narrow-merged a c b d room m e = subst (λ (x : Merged). x .answer .place < 2 ^ 32) (sym e) (go (sideRight a && sideRight b) refl)
   where
-    go : (r : Bool) → (sideRight a && sideRight b) ≡ r → pairsOf a b room .answer .place < 2 ^ 32
+    go : (r : Bool) → (sideRight a && sideRight b) ≡ r → mergeMade a b room .answer .place < 2 ^ 32
     go false f = rw f (omega arith)
     go true f = rw f (omega (arith, place-most (pairAfter a b) (startPair a b) room))
 

@@ -9,7 +9,7 @@ use words_cells::store_cells;
 ghost use mathlib.Core.Path.{_≡_};
 ghost use Rattle.capi_merge.specs.Numbers.{sideFrom, mergedTo, hostMerged, mergeFor};
 
-// How many numbers a policy has: states, start and, from there on, ceilings.
+// How many numbers one of the two has: states, start and, from there on, ceilings.
 const CEILINGS: usize = 2;
 
 pub const POLICY: usize = CEILINGS + PolicyNumbers::ORDERS as usize;

@@ -30,7 +30,7 @@ MachineBack = ComesBack registers (λ m. m .regs) machineFrom machineTo
 
 -- ---- a list of calls
 
--- what calls leave, each given the record's numbers as loading, installing or the last call left them
+-- what calls leave, the first given these numbers of a record, each other as the last call left them
 unfoldable pub callsOf : (List ℕ → Given → HostRan) → List ℕ → List Given → List HostRan
 callsOf call xs [] = []
 callsOf call xs (g ∷ gs) = call xs g ∷ callsOf call (call xs g .after) gs

@@ -53,13 +53,15 @@ pub record HostRan : Type 0 where
 abbrev pub hostRan : List ℕ → List ℕ → List ℕ → List ℕ → HostRan
 hostRan a x mem log = record { answer = a; after = x; memory = mem; log = log }
 
--- after what a run answers and leaves, in numbers, a record of n registers whose status number is no status is as it was
+-- what a call leaves of a run's numbers: a record of n registers whose status number is no status is as it was
 abbrev pub hostLeft : ℕ → List ℕ → HostRan → HostRan
 hostLeft n xs r = hostRan (r .answer) (numbersAfter n xs (r .after)) (r .memory) (r .log)
 
+-- what a run answers and leaves, in numbers
 abbrev pub ranTo : Ran → HostRan
 ranTo r = hostRan (runAnswerTo (r .outcome .answer)) (machineTo (r .outcome .machine)) (r .mem) (r .log)
 
+-- hemdroas_run
 unfoldable pub runFor : List ℕ → List ℕ → List ℕ → List ℕ → ℕ → List ℕ → List ℕ → HostRan
 runFor lay ws xs mem budget rd log = hostLeft registers xs (ranTo (runOf (layoutFrom lay) ws (machineFrom xs) mem budget rd log))
 

@@ -33,14 +33,14 @@ abbrev pub given : List ℕ → ℕ → Given
 given mem budget = record { memory = mem; budget = budget; readings = []; log = replicate 8 0 }
 
 -- what is carried into the first call; six steps; a memory too short; a thousand steps, before which the host wrote to the free cell 8
-abbrev pub first : Carried
-first = carriedOf (machineFrom (lot .machine)) (lot .memory) [] [] 0
+abbrev pub carriedFirst : Carried
+carriedFirst = carriedOf (machineFrom (lot .machine)) (lot .memory) [] [] 0
 
 abbrev pub firstCall : Given
 firstCall = given (lot .memory) 6
 
 abbrev pub left : List ℕ
-left = afterRun (layoutFrom layout) (counted lot) first firstCall .memory
+left = afterRun (layoutFrom layout) (counted lot) carriedFirst firstCall .memory
 
 abbrev pub calls : List Given
 calls = firstCall ∷ given [] 6 ∷ given (set left 8 5) 1000 ∷ []
@@ -52,7 +52,7 @@ next = installFor layout other left
 pub record SampleHolds : Type 0 where
   pub loaded : lot .answer ≡ 0 ∷ 32 ∷ []
   pub ready : Ready layout policy (replicate 128 0) (counted lot) (lot .machine) (lot .memory)
-  pub lends : Lends (layoutFrom layout) (counted lot) first calls
+  pub lends : Lends (layoutFrom layout) (counted lot) carriedFirst calls
   pub answers : map (λ r. r .answer) (callsOf (runCall layout (counted lot)) (lot .machine) calls) ≡ (25 ∷ 6 ∷ 0 ∷ 0 ∷ []) ∷ (7 ∷ 0 ∷ 0 ∷ 0 ∷ []) ∷ (21 ∷ 8 ∷ 2 ∷ 0 ∷ []) ∷ []
   pub again : Ready layout other left (counted lot) (next .machine) (next .memory)
   pub ended : map (λ r. r .answer) (callsOf (runCall layout (counted lot)) (next .machine) (given (next .memory) 1000 ∷ [])) ≡ (20 ∷ 17 ∷ 3 ∷ 0 ∷ []) ∷ []

@@ -1,4 +1,4 @@
-// The numbers of a C host: layouts and machine records as arrays of u32, and back.
+// The numbers of a C host: layouts and records as arrays of u32, and back.
 use rules::Layout;
 use rules::Machine;
 use rules::PolicyNumbers;

@@ -16,7 +16,7 @@ ghost use Rattle.rules.specs.declared.Status.the-variants.{Running};
 ghost use Rattle.rules.specs.Names.{mostInstructions};
 ghost use Rattle.rules.specs.Words.{bundlesFor};
 ghost use Rattle.rules.specs.Machines.{stateOf, ranOf};
-ghost use Rattle.engine_rules.specs.Engines.{engineOf, Sound, Judged, outcomeOf, endAnswer, runFrom, startOf, runOf};
+ghost use Rattle.engine_rules.specs.Engines.{engineOf, Clean, Judged, outcomeOf, endAnswer, runFrom, startOf, runOf};
 
 // ---- what a run answers
 
@@ -97,7 +97,7 @@ fn run_on(
     readings: &[u32],
     log: &mut [u32],
 ) -> EngineOutcome
-    requires { ⌜ Sound (now words) ⌝ }
+    requires { ⌜ Clean (now words) ⌝ }
     ensures { λ r. ⌜ ranOf r (now (memory .exit)) (now (log .exit)) ≡ runFrom layout (now (words .entry)) (now (readings .entry)) budget 0 (startOf engine (now (memory .entry)) (now (log .entry))) ⌝ }
 {
     let status = engine.status;

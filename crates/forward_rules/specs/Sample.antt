@@ -1,4 +1,5 @@
--- Samples: answers of the two checks, and a routine on the premises of Bounded and AlwaysFinish that pauses once and reaches the bound.
+-- Samples: answers of the two checks; a routine on the premises of Bounded and AlwaysFinish that pauses once and reaches the bound; one on those of
+-- FinishesResumed.
 use Prim.Native.Nat.{ℕ, _*_, _≤_}
 use mathlib.Core.Path.{_≡_}
 use mathlib.Core.Bool.{Bool, true, false, cond}
@@ -95,7 +96,7 @@ short = order 0 ∷ []
 abbrev pub shortCommands : List ℕ
 shortCommands = commandsOf layout short
 
--- runs of one step each, lent the memory that the last one left; where `true` stands with a free pair and a reading, else with none
+-- runs with budgets of one, lent the memory that the last one left; where `true` stands with a free pair and a reading, else with none
 abbrev pub oneStep : List ℕ → Bool → Given
 oneStep mem b = record { memory = mem; budget = 1; readings = cond b (1800 ∷ []) []; log = cond b (0 ∷ 0 ∷ []) [] }
 

@@ -22,29 +22,29 @@ use Rattle.rules.specs.Commands.{addOf, plainOf, holdsOf, isCommand, commandOf,
 use Rattle.rules.specs.Machines.{View, viewOf, onward, landsAt, effectOf, eventEffect}
 use Rattle.rules.proofs.Bools.{cond-ind}
 use Rattle.words.proofs.Laws.{named-in}
-use Rattle.machine_effects.specs.Sounds.{Sound}
+use Rattle.machine_effects.specs.Sounds.{Sized}
 
 -- the command of a word is sound
-pub sound-command : (w : ℕ) → w < 2 ^ 64 → Sound (commandOf w)
-unfolding commandOf Sound
+pub sound-command : (w : ℕ) → w < 2 ^ 64 → Sized (commandOf w)
+unfolding commandOf Sized
 sound-command w l =
     let v : vOf w ≤ topWord = omega arith in
-    cond-ind Sound (isCommand w)
+    cond-ind Sized (isCommand w)
     (λ ok. let n = named-in w ok in
     let d : dOf w < registers = omega (arith, n .d) in
     let a : aOf w < registers = omega (arith, n .a) in
     let b : bOf w < registers = omega (arith, n .b) in
-    cond-ind Sound (eqb (kindOf w) (command .nop)) (λ _. tt)
-    (λ _. cond-ind Sound (eqb (kindOf w) (command .halt)) (λ _. tt)
-    (λ _. cond-ind Sound (ltb (kindOf w) (command .load)) (λ _. (a, b, v))
-    (λ _. cond-ind Sound (eqb (kindOf w) (command .load)) (λ _. a)
-    (λ _. cond-ind Sound (eqb (kindOf w) (command .store)) (λ _. (a, b))
-    (λ _. cond-ind Sound (eqb (kindOf w) (command .goif)) (λ _. (a, b, v))
-    (λ _. cond-ind Sound (eqb (kindOf w) (command .goxr)) (λ _. (d, a, b))
-    (λ _. cond-ind Sound (eqb (kindOf w) (command .look)) (λ _. v)
-    (λ _. cond-ind Sound (eqb (kindOf w) (command .stopif)) (λ _. d)
-    (λ _. cond-ind Sound (eqb (kindOf w) (command .keep)) (λ _. d)
-    (λ _. cond-ind Sound (eqb (kindOf w) (command .event)) (λ _. v) (λ _. tt))))))))))))
+    cond-ind Sized (eqb (kindOf w) (command .nop)) (λ _. tt)
+    (λ _. cond-ind Sized (eqb (kindOf w) (command .halt)) (λ _. tt)
+    (λ _. cond-ind Sized (ltb (kindOf w) (command .load)) (λ _. (a, b, v))
+    (λ _. cond-ind Sized (eqb (kindOf w) (command .load)) (λ _. a)
+    (λ _. cond-ind Sized (eqb (kindOf w) (command .store)) (λ _. (a, b))
+    (λ _. cond-ind Sized (eqb (kindOf w) (command .goif)) (λ _. (a, b, v))
+    (λ _. cond-ind Sized (eqb (kindOf w) (command .goxr)) (λ _. (d, a, b))
+    (λ _. cond-ind Sized (eqb (kindOf w) (command .look)) (λ _. v)
+    (λ _. cond-ind Sized (eqb (kindOf w) (command .stopif)) (λ _. d)
+    (λ _. cond-ind Sized (eqb (kindOf w) (command .keep)) (λ _. d)
+    (λ _. cond-ind Sized (eqb (kindOf w) (command .event)) (λ _. v) (λ _. tt))))))))))))
     (λ _. tt)
 
 -- a word's effect is its command's
@@ -52,42 +52,42 @@ pub decoded : (w : ℕ) (c : Command) (s : View) (r : Effect) → c ≡ commandO
 decoded w c s r e q = q ∙ ap (λ (x : Command). effectOf x s) e
 
 -- what the numbers of a sound command are
-module _ (c : Command) (s : Sound c) where
+module _ (c : Command) (s : Sized c) where
   pub sound-plain : (k d a b v : ℕ) → c ≡ Plain k d a b v → (a < registers) × (b < registers) × (v ≤ topWord)
-  unfolding Sound
-  sound-plain k d a b v e = subst Sound e s
+  unfolding Sized
+  sound-plain k d a b v e = subst Sized e s
 
   pub sound-load : (d a : ℕ) → c ≡ Load d a → a < registers
-  unfolding Sound
-  sound-load d a e = subst Sound e s
+  unfolding Sized
+  sound-load d a e = subst Sized e s
 
   pub sound-store : (a b : ℕ) → c ≡ Store a b → (a < registers) × (b < registers)
-  unfolding Sound
-  sound-store a b e = subst Sound e s
+  unfolding Sized
+  sound-store a b e = subst Sized e s
 
   pub sound-jump : (a b k v : ℕ) → c ≡ GoIf a b k v → (a < registers) × (b < registers) × (v ≤ topWord)
-  unfolding Sound
-  sound-jump a b k v e = subst Sound e s
+  unfolding Sized
+  sound-jump a b k v e = subst Sized e s
 
   pub sound-turn : (d a b k : ℕ) → c ≡ GoReg d a b k → (d < registers) × (a < registers) × (b < registers)
-  unfolding Sound
-  sound-turn d a b k e = subst Sound e s
+  unfolding Sized
+  sound-turn d a b k e = subst Sized e s
 
   pub sound-look : (d v : ℕ) → c ≡ Look d v → v ≤ topWord
-  unfolding Sound
-  sound-look d v e = subst Sound e s
+  unfolding Sized
+  sound-look d v e = subst Sized e s
 
   pub sound-stop : (d : ℕ) → c ≡ StopIf d → d < registers
-  unfolding Sound
-  sound-stop d e = subst Sound e s
+  unfolding Sized
+  sound-stop d e = subst Sized e s
 
   pub sound-keep : (d : ℕ) → c ≡ Keep d → d < registers
-  unfolding Sound
-  sound-keep d e = subst Sound e s
+  unfolding Sized
+  sound-keep d e = subst Sized e s
 
   pub sound-event : (v : ℕ) → c ≡ Event v → v ≤ topWord
-  unfolding Sound
-  sound-event v e = subst Sound e s
+  unfolding Sized
+  sound-event v e = subst Sized e s
 
 pub word-fits : (v : ℕ) → v ≤ topWord → Held w32 v
 word-fits v h = record { fits = omega arith }

@@ -5,16 +5,16 @@ use Rattle.rules.specs.declared.Command.the-variants.{Nop, Halt, Plain, Load, S
 use Rattle.rules.specs.Names.{registers, topWord}
 
 -- the registers that are read, and the number
-unfoldable pub Sound : Command → Type 0
-Sound Nop = Unit {0}
-Sound Halt = Unit {0}
-Sound (Plain k d a b v) = (a < registers) × (b < registers) × (v ≤ topWord)
-Sound (Load d a) = a < registers
-Sound (Store a b) = (a < registers) × (b < registers)
-Sound (GoIf a b c v) = (a < registers) × (b < registers) × (v ≤ topWord)
-Sound (GoReg d a b c) = (d < registers) × (a < registers) × (b < registers)
-Sound (Look d v) = v ≤ topWord
-Sound (StopIf d) = d < registers
-Sound (Keep d) = d < registers
-Sound (Event v) = v ≤ topWord
-Sound Stray = Unit {0}
+unfoldable pub Sized : Command → Type 0
+Sized Nop = Unit {0}
+Sized Halt = Unit {0}
+Sized (Plain k d a b v) = (a < registers) × (b < registers) × (v ≤ topWord)
+Sized (Load d a) = a < registers
+Sized (Store a b) = (a < registers) × (b < registers)
+Sized (GoIf a b c v) = (a < registers) × (b < registers) × (v ≤ topWord)
+Sized (GoReg d a b c) = (d < registers) × (a < registers) × (b < registers)
+Sized (Look d v) = v ≤ topWord
+Sized (StopIf d) = d < registers
+Sized (Keep d) = d < registers
+Sized (Event v) = v ≤ topWord
+Sized Stray = Unit {0}

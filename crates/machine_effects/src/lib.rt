@@ -18,7 +18,7 @@ ghost use Rattle.rules.specs.declared.Status.the-variants.{Stopped, Faulted, St
 ghost use Rattle.rules.specs.declared.Effect.the-variants.{Go, Put, Cell, End};
 ghost use Rattle.rules.specs.Names.{registers, events, noArrow};
 ghost use Rattle.rules.specs.Commands.{commandOf, plainOf, holdsOf, fetchOf};
-ghost use Rattle.machine_effects.specs.Sounds.{Sound};
+ghost use Rattle.machine_effects.specs.Sounds.{Sized};
 ghost use Rattle.rules.specs.Machines.{onward, viewOf, landsAt, effectOf, eventEffect, ifRoom};
 
 // The next pc is formed only in the arms that need it, which keeps a register free across the match.
@@ -188,7 +188,7 @@ fn act(
     free: usize,
     left: usize,
 ) -> Effect
-    requires { ⌜ Sound c ⌝ }
+    requires { ⌜ Sized c ⌝ }
     ensures { λ r. ⌜ r ≡ effectOf c (viewOf (now (regs .entry)) pc (now (memory .entry)) cell table base landings free left) ⌝ }
 {
     match c {

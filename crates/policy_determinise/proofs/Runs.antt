@@ -16,7 +16,7 @@ use Rattle.rules.specs.Policies.{statesRight, allowed}
 use Rattle.rules.proofs.Bools.{no, both, join, either, or-left, or-right}
 use Rattle.policy_maps.specs.Maps.{bit}
 use Rattle.policy_maps.proofs.Maps.{bit-or, bit-zero, bit-high}
-use Rattle.policy_exploration.specs.Reach.{after}
+use Rattle.policy_exploration.specs.Reach.{nodeAfter}
 use Rattle.policy_exploration.specs.Claims.{Arrows}
 use Rattle.policy_exploration.proofs.Reach.{nodes-exact, taken-reaches, reach-right, allowed-reaches}
 use Rattle.policy_determinise.specs.Drawings.{Drawing, Fit, successors, unionOf, setAfter, mapsRight, drawingRight, madePolicy, determiniseOf, determiniseTable}
@@ -138,7 +138,7 @@ module _ (d : Drawing) (fit : Fit d) where
       go true = successors-below k n
       go false = pow-pos (d .states)
 
-  after-below : (es : List ℕ) (x : ℕ) → x < 2 ^ d .states → after (setAfter d) x es < 2 ^ d .states
+  after-below : (es : List ℕ) (x : ℕ) → x < 2 ^ d .states → nodeAfter (setAfter d) x es < 2 ^ d .states
   after-below [] x h = h
   after-below (n ∷ es) x h = after-below es (setAfter d x n) (union-below x n (d .states))
 
@@ -151,14 +151,14 @@ module _ (d : Drawing) (fit : Fit d) where
     pub inside : bit x state ≡ true
     pub way : Way d state es t
 
-  way-from : (es : List ℕ) (x t : ℕ) → bit (after (setAfter d) x es) t ≡ true → From x es t
+  way-from : (es : List ℕ) (x t : ℕ) → bit (nodeAfter (setAfter d) x es) t ≡ true → From x es t
   way-from [] x t e = record { state = t; inside = e; way = ends }
   way-from (n ∷ es) x t e =
       let f = way-from es (setAfter d x n) t e in
       let b = union-from (d .arrows) x n (d .states) (f .state) (f .inside) in
       record { state = b .state; inside = b .inside; way = goes (f .state) (b .arrow) (f .way) }
 
-  way-to : (es : List ℕ) (x s t : ℕ) → s < d .states → bit x s ≡ true → Way d s es t → bit (after (setAfter d) x es) t ≡ true
+  way-to : (es : List ℕ) (x s t : ℕ) → s < d .states → bit x s ≡ true → Way d s es t → bit (nodeAfter (setAfter d) x es) t ≡ true
   way-to [] x s t h e ends = e
   way-to (n ∷ es) x s t h e (goes u a w) = way-to es (setAfter d x n) u t (bit-below (successors (d .arrows) s n) (d .states) u (successors-below s n) a) (union-to (d .arrows) x n (d .states) s u h e a) w
 
@@ -177,7 +177,7 @@ allowed-runs d es r t = record { follows = follows; allows = allows }
     fit = fit-of d r
 
     set : ℕ
-    set = after (setAfter d) (d .starts) es
+    set = nodeAfter (setAfter d) (d .starts) es
 
     is : allowed (madePolicy d) es ≡ not (eqb set 0)
     is = allowed-reaches (setAfter d) (d .starts) es (arrows d fit) t

@@ -8,7 +8,7 @@ use Rattle.rules.specs.declared.Layout.{Layout}
 use Rattle.rules.specs.Names.{noArrow, answer}
 use Rattle.rules.specs.Policies.{allowed, rightPolicy}
 use Rattle.policy_maps.specs.Maps.{bit}
-use Rattle.policy_exploration.specs.Reach.{statesOf, few, madeWith, after}
+use Rattle.policy_exploration.specs.Reach.{statesOf, few, madeWith, nodeAfter}
 use Rattle.policy_exploration.specs.Claims.{Exactly}
 use Rattle.policy_determinise.specs.Drawings.{Drawing, drawingOf, successors, setAfter, drawingRight, madePolicy, determiniseOf, determiniseTable}
 
@@ -33,27 +33,27 @@ pub data Way (d : Drawing) : ℕ → List ℕ → ℕ → Type 0 where
   goes : {s n t : ℕ} {es : List ℕ} (u : ℕ) → bit (successors (d .arrows) s n) u ≡ true → Way d u es t → Way d s (n ∷ es) t
 
 -- a run that follows a list of events and ends in state t: a way from one of the starts
-pub record Run (d : Drawing) (es : List ℕ) (t : ℕ) : Type 0 where
+pub record DrawnRun (d : Drawing) (es : List ℕ) (t : ℕ) : Type 0 where
   pub from : ℕ
   pub starts : bit (d .starts) from ≡ true
   pub way : Way d from es t
 
 pub record Followed (d : Drawing) (es : List ℕ) : Type 0 where
   pub end : ℕ
-  pub run : Run d es end
+  pub run : DrawnRun d es end
 
 -- 'An event word is allowed afterwards exactly if some run through the drawing follows it'
-pub record RunLaws (d : Drawing) (es : List ℕ) : Type 0 where
+pub record FollowLaws (d : Drawing) (es : List ℕ) : Type 0 where
   pub follows : allowed (madePolicy d) es ≡ true → Followed d es
   pub allows : Followed d es → allowed (madePolicy d) es ≡ true
 
 abbrev pub AllowedRuns : Type 0
-AllowedRuns = (d : Drawing) (es : List ℕ) → drawingRight d ≡ true → few (setAfter d) (d .starts) ≡ true → RunLaws d es
+AllowedRuns = (d : Drawing) (es : List ℕ) → drawingRight d ≡ true → few (setAfter d) (d .starts) ≡ true → FollowLaws d es
 
 -- the set after a list of events holds the states in which its runs end
 pub record SetLaws (d : Drawing) (es : List ℕ) (t : ℕ) : Type 0 where
-  pub ends : bit (after (setAfter d) (d .starts) es) t ≡ true → Run d es t
-  pub holds : Run d es t → bit (after (setAfter d) (d .starts) es) t ≡ true
+  pub ends : bit (nodeAfter (setAfter d) (d .starts) es) t ≡ true → DrawnRun d es t
+  pub holds : DrawnRun d es t → bit (nodeAfter (setAfter d) (d .starts) es) t ≡ true
 
 abbrev pub SetsAreEnds : Type 0
 SetsAreEnds = (d : Drawing) (es : List ℕ) (t : ℕ) → drawingRight d ≡ true → SetLaws d es t

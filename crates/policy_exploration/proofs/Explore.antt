@@ -14,22 +14,22 @@ use Rattle.policy_maps.specs.Maps.{build}
 use Rattle.policy_maps.proofs.Maps.{length-build}
 use Rattle.policy_maps.proofs.Tables.{fill-none, fill-more}
 use Rattle.policy_exploration.specs.declared.Found.{Found}
-use Rattle.policy_exploration.specs.Reach.{place, known, meet, target, met, nodes, stateOf, byteOf, statesOf, tableOf, reachAnswer, reachOf, reachTable}
-use Rattle.policy_exploration.specs.Founds.{Sized, foundAt, listOf, moreOf, stepOf, Holds, Explored, writtenAnswer, writtenOf, writtenTable}
+use Rattle.policy_exploration.specs.Reach.{place, known, meet, target, met, nodes, nodeState, byteOf, statesOf, tableOf, reachAnswer, reachOf, reachTable}
+use Rattle.policy_exploration.specs.Founds.{Sized, foundAt, listOf, moreOf, foundWith, Holds, Explored, foundAnswer, writtenOf, writtenTable}
 use Rattle.policy_exploration.specs.Claims.{Arrows}
 use Rattle.policy_exploration.proofs.Places.{place-le, place-append, place-new, Meets, none, again, anew, meets, met-known}
 use Rattle.policy_exploration.proofs.Reach.{met-zero, met-suc, grows, rests}
 
 -- a node's number does not change any more once it is met
-number-met : (ns : List ℕ) (x : ℕ) → stateOf ns x ≡ stateOf (meet ns x) x
+number-met : (ns : List ℕ) (x : ℕ) → nodeState ns x ≡ nodeState (meet ns x) x
 number-met ns x = go (meet ns x) (meets ns x)
   where
-    go : (l : List ℕ) → Meets ns x l → stateOf ns x ≡ stateOf l x
+    go : (l : List ℕ) → Meets ns x l → nodeState ns x ≡ nodeState l x
     go l (none e) = refl
     go l (again k) = refl
     go l (anew z k) = let p : place ns x ≡ length ns = omega (arith, place-le ns x) in ap (cond (eqb x 0) noArrow) (p ∙ sym (place-new ns x k))
 
-number-kept : (ns ms : List ℕ) (x : ℕ) → ((x ≡ 0 → ⊥) → place ns x < length ns) → stateOf ns x ≡ stateOf (ns ++ ms) x
+number-kept : (ns ms : List ℕ) (x : ℕ) → ((x ≡ 0 → ⊥) → place ns x < length ns) → nodeState ns x ≡ nodeState (ns ++ ms) x
 number-kept ns ms x h = go (eqb x 0) refl
   where
     go : (b : Bool) → eqb x 0 ≡ b → cond b noArrow (place ns x) ≡ cond b noArrow (place (ns ++ ms) x)
@@ -37,8 +37,8 @@ number-kept ns ms x h = go (eqb x 0) refl
     go false e = sym (place-append ns ms x (h (eqb-false x 0 e)))
 
 -- the list of what is found after a step
-step-list : (f : Found) (k x : ℕ) → f .count < length (f .nodes) → listOf (stepOf f k x) ≡ meet (listOf f) x
-unfolding stepOf meet
+step-list : (f : Found) (k x : ℕ) → f .count < length (f .nodes) → listOf (foundWith f k x) ≡ meet (listOf f) x
+unfolding foundWith meet
 step-list f k x h = go (eqb x 0 || known (listOf f) x)
   where
     go : (b : Bool) → take (cond b (f .count) (f .count + 1)) (cond b (f .nodes) (set (f .nodes) (f .count) x)) ≡ cond b (listOf f) (listOf f ++ (x ∷ []))
@@ -51,16 +51,16 @@ record Grown (f g : Found) : Type 0 where
   pub nodes : length (g .nodes) ≡ length (f .nodes)
   pub arrows : length (g .arrows) ≡ length (f .arrows)
 
-step-grown : (f : Found) (k x : ℕ) → Grown f (stepOf f k x)
-unfolding stepOf
+step-grown : (f : Found) (k x : ℕ) → Grown f (foundWith f k x)
+unfolding foundWith
 step-grown f k x = go (eqb x 0 || known (listOf f) x)
   where
-    go : (b : Bool) → Grown f (record { nodes = cond b (f .nodes) (set (f .nodes) (f .count) x); count = cond b (f .count) (f .count + 1); arrows = set (f .arrows) k (stateOf (listOf f) x) })
-    go true = record { at-least = omega arith; at-most = omega arith; nodes = refl; arrows = length-set (f .arrows) k (stateOf (listOf f) x) }
-    go false = record { at-least = omega arith; at-most = omega arith; nodes = length-set (f .nodes) (f .count) x; arrows = length-set (f .arrows) k (stateOf (listOf f) x) }
+    go : (b : Bool) → Grown f (record { nodes = cond b (f .nodes) (set (f .nodes) (f .count) x); count = cond b (f .count) (f .count + 1); arrows = set (f .arrows) k (nodeState (listOf f) x) })
+    go true = record { at-least = omega arith; at-most = omega arith; nodes = refl; arrows = length-set (f .arrows) k (nodeState (listOf f) x) }
+    go false = record { at-least = omega arith; at-most = omega arith; nodes = length-set (f .nodes) (f .count) x; arrows = length-set (f .arrows) k (nodeState (listOf f) x) }
 
-step-arrows : (f : Found) (k x : ℕ) → stepOf f k x .arrows ≡ set (f .arrows) k (stateOf (listOf f) x)
-unfolding stepOf
+step-arrows : (f : Found) (k x : ℕ) → foundWith f k x .arrows ≡ set (f .arrows) k (nodeState (listOf f) x)
+unfolding foundWith
 step-arrows f k x = refl
 
 more-few : (f : Found) (k : ℕ) → moreOf f k ≡ true → (f .count ≤ mostStates) × (k < events * f .count)
@@ -91,7 +91,7 @@ module _ (next : ℕ → ℕ → ℕ) (q : ℕ) (ok : Arrows next q) where
           rw n (ap₂ meet (h .list) is-target ∙ sym (met-suc next q k))
 
       -- the number written stays
-      entry : stateOf (listOf f) x ≡ byteOf next (nodes next q) k
+      entry : nodeState (listOf f) x ≡ byteOf next (nodes next q) k
       entry =
           let all = events * mostStates in
           let w : k + (all - k) ≡ all = omega (arith, low, few) in
@@ -103,25 +103,25 @@ module _ (next : ℕ → ℕ → ℕ) (q : ℕ) (ok : Arrows next q) where
           let c : getD (nodes next q) (k / events) 0 ≡ getD (met next q k) (k / events) 0 = ap (λ (l : List ℕ). getD l (k / events) 0) a ∙ List·getD-append (met next q k) (m .rest) 0 (k / events) (omega (arith, low, h .count)) in
           let v : target next (nodes next q) k ≡ x = ap (λ (z : ℕ). next z (k % events)) c ∙ sym is-target in
           number-met (listOf f) x
-          ∙ ap (λ (l : List ℕ). stateOf l x) then
+          ∙ ap (λ (l : List ℕ). nodeState l x) then
           ∙ number-kept (met next q (k + 1)) (m₁ .rest) x (λ z. rw then at (met-known (listOf f) x z))
-          ∙ ap₂ stateOf (sym b) (sym v)
+          ∙ ap₂ nodeState (sym b) (sym v)
 
-      step-holds : Holds next q (stepOf f k x) (k + 1)
+      step-holds : Holds next q (foundWith f k x) (k + 1)
       step-holds =
           let u = step-grown f k x in
           let s = h .sized in
-          let l : listOf (stepOf f k x) ≡ met next q (k + 1) = step-list f k x (omega (arith, few, s .nodes)) ∙ then in
+          let l : listOf (foundWith f k x) ≡ met next q (k + 1) = step-list f k x (omega (arith, few, s .nodes)) ∙ then in
           record {
             sized = record { most = omega (arith, u .at-most, few); nodes = u .nodes ∙ s .nodes; arrows = u .arrows ∙ s .arrows };
-            count = sym (length-take-le (stepOf f k x .count) (stepOf f k x .nodes) (omega (arith, u .at-most, few, u .nodes, s .nodes))) ∙ ap length l;
+            count = sym (length-take-le (foundWith f k x .count) (foundWith f k x .nodes) (omega (arith, u .at-most, few, u .nodes, s .nodes))) ∙ ap length l;
             list = l;
-            arrows = step-arrows f k x ∙ fill-more (byteOf next (nodes next q)) (replicate (events * mostStates) 0) (f .arrows) k (stateOf (listOf f) x) (h .arrows) (omega (arith, low, few, length-replicate {A = ℕ} (events * mostStates) 0)) entry;
+            arrows = step-arrows f k x ∙ fill-more (byteOf next (nodes next q)) (replicate (events * mostStates) 0) (f .arrows) k (nodeState (listOf f) x) (h .arrows) (omega (arith, low, few, length-replicate {A = ℕ} (events * mostStates) 0)) entry;
             taken = omega (arith, low, u .at-least);
             few = omega (arith, low, few);
           }
 
-      pub holds-more : (r : Found) → r ≡ stepOf f k x → Holds next q r (k + 1)
+      pub holds-more : (r : Found) → r ≡ foundWith f k x → Holds next q r (k + 1)
       holds-more r w = rw w step-holds
 
     pub holds-done : (b : Bool) → b ≡ moreOf f k → b ≡ false → Explored next q f
@@ -177,7 +177,7 @@ module _ (next : ℕ → ℕ → ℕ) (q : ℕ) (ok : Arrows next q) (f : Found)
       }
 
   pub written-made : (space : ℕ) → writtenOf f space ≡ reachOf next q space
-  unfolding writtenOf writtenAnswer reachOf reachAnswer
+  unfolding writtenOf foundAnswer reachOf reachAnswer
   written-made space = go (leb (f .count) mostStates) refl
     where
       go : (b : Bool) → leb (f .count) mostStates ≡ b → writtenOf f space ≡ reachOf next q space
@@ -185,7 +185,7 @@ module _ (next : ℕ → ℕ → ℕ) (q : ℕ) (ok : Arrows next q) (f : Found)
       go false t = let w = many t in rw (t, w .many-nodes)
 
   pub written-table : (t : List ℕ) → writtenTable f t ≡ reachTable next q t
-  unfolding writtenTable writtenAnswer reachTable reachAnswer
+  unfolding writtenTable foundAnswer reachTable reachAnswer
   written-table table = go (leb (f .count) mostStates) refl
     where
       go : (b : Bool) → leb (f .count) mostStates ≡ b → writtenTable f table ≡ reachTable next q table

@@ -9,7 +9,7 @@ use borrow.Author.Tests.{eq-eqb, ne-eqb, lt-ltb, le-ltb}
 use Rattle.rules.specs.Names.{noArrow}
 use Rattle.policy_exploration.specs.Reach.{place}
 use Rattle.policy_exploration.specs.declared.Found.{Found}
-use Rattle.policy_exploration.specs.Founds.{Sized, listOf, stepOf}
+use Rattle.policy_exploration.specs.Founds.{Sized, listOf, foundWith}
 
 -- the place of a number, of which the first i are not it
 abbrev pub Sought : List ℕ → ℕ → ℕ → Type 0
@@ -45,18 +45,18 @@ module _ (ns : List ℕ) (n x i : ℕ) (size : n ≤ length ns) (so : Sought (ta
 abbrev pub numbered : Found → ℕ → ℕ → Found
 numbered f k p = record { nodes = f .nodes; count = f .count; arrows = set (f .arrows) k p }
 
-pub step-none : (f : Found) (k x : ℕ) → x ≡ 0 → numbered f k noArrow ≡ stepOf f k x
-unfolding stepOf
+pub step-none : (f : Found) (k x : ℕ) → x ≡ 0 → numbered f k noArrow ≡ foundWith f k x
+unfolding foundWith
 step-none f k x e = rw e
 
 module _ (f : Found) (k x p : ℕ) (sized : Sized f) (z : x ≡ 0 → ⊥) (e : p ≡ place (listOf f) x) where
   size : length (listOf f) ≡ f .count
   size = length-take-le (f .count) (f .nodes) (omega (arith, sized .most, sized .nodes))
 
-  pub step-known : p < f .count → numbered f k p ≡ stepOf f k x
-  unfolding stepOf
+  pub step-known : p < f .count → numbered f k p ≡ foundWith f k x
+  unfolding foundWith
   step-known h = rw (ne-eqb x 0 z, lt-ltb (place (listOf f) x) (length (listOf f)) (omega (arith, size, e)), e)
 
-  pub step-new : f .count ≤ p → record { nodes = set (f .nodes) (f .count) x; count = f .count + 1; arrows = set (f .arrows) k p } ≡ stepOf f k x
-  unfolding stepOf
+  pub step-new : f .count ≤ p → record { nodes = set (f .nodes) (f .count) x; count = f .count + 1; arrows = set (f .arrows) k p } ≡ foundWith f k x
+  unfolding foundWith
   step-new h = rw (ne-eqb x 0 z, le-ltb (place (listOf f) x) (length (listOf f)) (omega (arith, size, e)), e)

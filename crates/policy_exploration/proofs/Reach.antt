@@ -12,20 +12,20 @@ use Rattle.rules.specs.Names.{mostStates, events, noArrow}
 use Rattle.rules.specs.Policies.{arrow, allowedFrom, allowed, entryRight, rightPolicy}
 use Rattle.policy_maps.proofs.Maps.{length-build, build-at}
 use Rattle.policy_maps.proofs.Tables.{entries-build}
-use Rattle.policy_exploration.specs.Reach.{place, meet, target, met, nodes, stateOf, byteOf, statesOf, tableOf, policyFrom, few, reachAnswer, reachOf, reachTable, after}
+use Rattle.policy_exploration.specs.Reach.{place, meet, target, met, nodes, nodeState, byteOf, statesOf, tableOf, policyFrom, few, reachAnswer, reachOf, reachTable, nodeAfter}
 use Rattle.policy_exploration.specs.Claims.{Arrows, Reached, Exactly, NodesExact, Makes, TakenReaches, ReachRight, AllowedReaches}
 use Rattle.policy_exploration.proofs.Places.{pigeons, place-at, place-of, place-append, place-new, Meets, none, again, anew, meets, meet-none, met-known, More, meet-more}
 use Rattle.rules.proofs.Bools.{or-left, or-right}
 
 -- one event more
-pub after-snoc : (next : ℕ → ℕ → ℕ) (x : ℕ) (es : List ℕ) (e : ℕ) → after next x (es ++ (e ∷ [])) ≡ next (after next x es) e
+pub after-snoc : (next : ℕ → ℕ → ℕ) (x : ℕ) (es : List ℕ) (e : ℕ) → nodeAfter next x (es ++ (e ∷ [])) ≡ next (nodeAfter next x es) e
 after-snoc next x [] e = refl
 after-snoc next x (d ∷ es) e = after-snoc next (next x d) es e
 
 -- from 0 nothing is reached
-pub after-none : (next : ℕ → ℕ → ℕ) → ((e : ℕ) → next 0 e ≡ 0) → (es : List ℕ) → after next 0 es ≡ 0
+pub after-none : (next : ℕ → ℕ → ℕ) → ((e : ℕ) → next 0 e ≡ 0) → (es : List ℕ) → nodeAfter next 0 es ≡ 0
 after-none next z [] = refl
-after-none next z (e ∷ es) = ap (λ (x : ℕ). after next x es) (z e) ∙ after-none next z es
+after-none next z (e ∷ es) = ap (λ (x : ℕ). nodeAfter next x es) (z e) ∙ after-none next z es
 
 -- each node of a list is reached, and has its place for its number
 pub record Good (next : ℕ → ℕ → ℕ) (q : ℕ) (ns : List ℕ) : Type 0 where
@@ -174,13 +174,13 @@ module _ (next : ℕ → ℕ → ℕ) (q : ℕ) (ok : Arrows next q) where
             on z p (place-at (nodes next q) y p)
 
     -- what is reached from a node has a number
-    on-from : (es : List ℕ) (i : ℕ) → i < statesOf next q → (after next (getD (nodes next q) i 0) es ≡ 0 → ⊥) → place (nodes next q) (after next (getD (nodes next q) i 0) es) < statesOf next q
+    on-from : (es : List ℕ) (i : ℕ) → i < statesOf next q → (nodeAfter next (getD (nodes next q) i 0) es ≡ 0 → ⊥) → place (nodes next q) (nodeAfter next (getD (nodes next q) i 0) es) < statesOf next q
     on-from [] i h z = omega (arith, place-of (nodes next q) i h)
     on-from (e ∷ es) i h z = go (next (getD (nodes next q) i 0) e) (leads i e h) (on-from es) z
       where
-        go : (y : ℕ) → Leads i e y → ((j : ℕ) → j < statesOf next q → (after next (getD (nodes next q) j 0) es ≡ 0 → ⊥) → place (nodes next q) (after next (getD (nodes next q) j 0) es) < statesOf next q) → (after next y es ≡ 0 → ⊥) → place (nodes next q) (after next y es) < statesOf next q
-        go y (nowhere f) r w = absurd (w (ap (λ (x : ℕ). after next x es) f ∙ after-none next (ok .none) es))
-        go y (on f p g) r w = rw g at (r (place (nodes next q) y) p (λ v. w (ap (λ (x : ℕ). after next x es) (sym g) ∙ v)))
+        go : (y : ℕ) → Leads i e y → ((j : ℕ) → j < statesOf next q → (nodeAfter next (getD (nodes next q) j 0) es ≡ 0 → ⊥) → place (nodes next q) (nodeAfter next (getD (nodes next q) j 0) es) < statesOf next q) → (nodeAfter next y es ≡ 0 → ⊥) → place (nodes next q) (nodeAfter next y es) < statesOf next q
+        go y (nowhere f) r w = absurd (w (ap (λ (x : ℕ). nodeAfter next x es) f ∙ after-none next (ok .none) es))
+        go y (on f p g) r w = rw g at (r (place (nodes next q) y) p (λ v. w (ap (λ (x : ℕ). nodeAfter next x es) (sym g) ∙ v)))
 
   from-start : More (q ∷ []) (nodes next q)
   from-start = rw (met-zero next q) at (grows 0 (events * mostStates))
@@ -196,7 +196,7 @@ module _ (next : ℕ → ℕ → ℕ) (q : ℕ) (ok : Arrows next q) where
 
   numbered : few next q ≡ true → (x : ℕ) → Reached next q x → place (nodes next q) x < statesOf next q
   numbered t x r =
-      let z : after next (getD (nodes next q) 0 0) (r .by) ≡ x = ap (λ (y : ℕ). after next y (r .by)) first ∙ r .leads in
+      let z : nodeAfter next (getD (nodes next q) 0 0) (r .by) ≡ x = ap (λ (y : ℕ). nodeAfter next y (r .by)) first ∙ r .leads in
       rw z at (on-from (leb-true (statesOf next q) mostStates t) (r .by) 0 some-state (λ v. r .node (sym z ∙ v)))
 
   pub exactly : Exactly next q
@@ -226,42 +226,42 @@ nodes-exact = exactly
 
 module _ (next : ℕ → ℕ → ℕ) (q : ℕ) where
   -- the policy's arrow is the number of where the event leads
-  pub arrow-is : (i e : ℕ) → i < statesOf next q → e < events → arrow (policyFrom next q) i e ≡ stateOf (nodes next q) (next (getD (nodes next q) i 0) e)
+  pub arrow-is : (i e : ℕ) → i < statesOf next q → e < events → arrow (policyFrom next q) i e ≡ nodeState (nodes next q) (next (getD (nodes next q) i 0) e)
   unfolding tableOf
   arrow-is i e h k =
       let n = events * i + e in
       let u : n / events ≡ i = omega arith in
       let v : n % events ≡ e = omega arith in
-      rw (lt-ltb e events k) (build-at (byteOf next (nodes next q)) (events * statesOf next q) n noArrow (omega arith) ∙ ap₂ (λ (y d : ℕ). stateOf (nodes next q) (next (getD (nodes next q) y 0) d)) u v)
+      rw (lt-ltb e events k) (build-at (byteOf next (nodes next q)) (events * statesOf next q) n noArrow (omega arith) ∙ ap₂ (λ (y d : ℕ). nodeState (nodes next q) (next (getD (nodes next q) y 0) d)) u v)
 
   module _ (ok : Arrows next q) where
     -- an event above 15 leads nowhere, in the policy too
-    pub arrow-number : (i e : ℕ) → i < statesOf next q → arrow (policyFrom next q) i e ≡ stateOf (nodes next q) (next (getD (nodes next q) i 0) e)
+    pub arrow-number : (i e : ℕ) → i < statesOf next q → arrow (policyFrom next q) i e ≡ nodeState (nodes next q) (next (getD (nodes next q) i 0) e)
     arrow-number i e h = go (ltb e events) refl
       where
-        go : (b : Bool) → ltb e events ≡ b → arrow (policyFrom next q) i e ≡ stateOf (nodes next q) (next (getD (nodes next q) i 0) e)
+        go : (b : Bool) → ltb e events ≡ b → arrow (policyFrom next q) i e ≡ nodeState (nodes next q) (next (getD (nodes next q) i 0) e)
         go true f = arrow-is i e h (ltb-true e events f)
         go false f = rw (f, ok .above (getD (nodes next q) i 0) e (ltb-false e events f))
 
     module _ (s : statesOf next q ≤ mostStates) where
-      pub allowed-from : (es : List ℕ) (i : ℕ) → i < statesOf next q → allowedFrom (policyFrom next q) i es ≡ not (eqb (after next (getD (nodes next q) i 0) es) 0)
+      pub allowed-from : (es : List ℕ) (i : ℕ) → i < statesOf next q → allowedFrom (policyFrom next q) i es ≡ not (eqb (nodeAfter next (getD (nodes next q) i 0) es) 0)
       allowed-from [] i h = rw (ne-eqb (getD (nodes next q) i 0) 0 (good next q ok (events * mostStates) .reached i h .node))
       allowed-from (e ∷ es) i h = ap goes (arrow-number i e h) ∙ go (next (getD (nodes next q) i 0) e) (leads next q ok s i e h) (allowed-from es)
         where
           goes : ℕ → Bool
           goes a = not (eqb a noArrow) && allowedFrom (policyFrom next q) a es
 
-          go : (y : ℕ) → Leads next q ok s i e y → ((j : ℕ) → j < statesOf next q → allowedFrom (policyFrom next q) j es ≡ not (eqb (after next (getD (nodes next q) j 0) es) 0)) → goes (stateOf (nodes next q) y) ≡ not (eqb (after next y es) 0)
+          go : (y : ℕ) → Leads next q ok s i e y → ((j : ℕ) → j < statesOf next q → allowedFrom (policyFrom next q) j es ≡ not (eqb (nodeAfter next (getD (nodes next q) j 0) es) 0)) → goes (nodeState (nodes next q) y) ≡ not (eqb (nodeAfter next y es) 0)
           go y (nowhere f) r = rw (f, after-none next (ok .none) es)
           go y (on f p g) r =
               let n : eqb (place (nodes next q) y) noArrow ≡ false = ne-eqb (place (nodes next q) y) noArrow (λ z. omega arith) in
-              rw (ne-eqb y 0 f, n) (r (place (nodes next q) y) p ∙ ap (λ (x : ℕ). not (eqb (after next x es) 0)) g)
+              rw (ne-eqb y 0 f, n) (r (place (nodes next q) y) p ∙ ap (λ (x : ℕ). not (eqb (nodeAfter next x es) 0)) g)
 
       entry-right : (k : ℕ) → k < events * statesOf next q → entryRight (statesOf next q) (byteOf next (nodes next q) k) ≡ true
       entry-right k h = go (target next (nodes next q) k) (leads next q ok s (k / events) (k % events) (omega arith))
         where
-          go : (y : ℕ) → Leads next q ok s (k / events) (k % events) y → entryRight (statesOf next q) (stateOf (nodes next q) y) ≡ true
-          go y (nowhere f) = or-right (ltb (stateOf (nodes next q) y) (statesOf next q)) (eqb (stateOf (nodes next q) y) noArrow) (rw f)
+          go : (y : ℕ) → Leads next q ok s (k / events) (k % events) y → entryRight (statesOf next q) (nodeState (nodes next q) y) ≡ true
+          go y (nowhere f) = or-right (ltb (nodeState (nodes next q) y) (statesOf next q)) (eqb (nodeState (nodes next q) y) noArrow) (rw f)
           go y (on f p g) = rw (ne-eqb y 0 f) (or-left (ltb (place (nodes next q) y) (statesOf next q)) (eqb (place (nodes next q) y) noArrow) (lt-ltb (place (nodes next q) y) (statesOf next q) p))
 
 length-table : (next : ℕ → ℕ → ℕ) (q : ℕ) → length (tableOf next q) ≡ events * statesOf next q
@@ -270,7 +270,7 @@ length-table next q = length-build (byteOf next (nodes next q)) (events * states
 
 pub allowed-reaches : AllowedReaches
 unfolding allowed
-allowed-reaches next q es ok t = allowed-from next q ok (leb-true _ _ t) es 0 (some-state next q ok) ∙ ap (λ (x : ℕ). not (eqb (after next x es) 0)) (first next q ok)
+allowed-reaches next q es ok t = allowed-from next q ok (leb-true _ _ t) es 0 (some-state next q ok) ∙ ap (λ (x : ℕ). not (eqb (nodeAfter next x es) 0)) (first next q ok)
 
 pub reach-right : ReachRight
 unfolding rightPolicy tableOf

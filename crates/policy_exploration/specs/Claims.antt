@@ -8,7 +8,7 @@ use lib.Dec.{eqb}
 use Rattle.rules.specs.declared.Layout.{Layout}
 use Rattle.rules.specs.Names.{mostStates, events}
 use Rattle.rules.specs.Policies.{allowed, rightPolicy}
-use Rattle.policy_exploration.specs.Reach.{met, nodes, statesOf, policyFrom, few, reachOf, reachTable, after}
+use Rattle.policy_exploration.specs.Reach.{met, nodes, statesOf, policyFrom, few, reachOf, reachTable, nodeAfter}
 
 pub record Arrows (next : ℕ → ℕ → ℕ) (q : ℕ) : Type 0 where
   pub none : (e : ℕ) → next 0 e ≡ 0
@@ -18,7 +18,7 @@ pub record Arrows (next : ℕ → ℕ → ℕ) (q : ℕ) : Type 0 where
 -- some list of events leads to a node
 pub record Reached (next : ℕ → ℕ → ℕ) (q x : ℕ) : Type 0 where
   pub by : List ℕ
-  pub leads : after next q by ≡ x
+  pub leads : nodeAfter next q by ≡ x
   pub node : x ≡ 0 → ⊥
 
 pub record Numbered (ns : List ℕ) (x : ℕ) : Type 0 where
@@ -62,4 +62,4 @@ ReachRight = (next : ℕ → ℕ → ℕ) (q : ℕ) (lay : Layout) → Arrows ne
 
 -- a list of events is allowed exactly if it leads to a node
 abbrev pub AllowedReaches : Type 0
-AllowedReaches = (next : ℕ → ℕ → ℕ) (q : ℕ) (es : List ℕ) → Arrows next q → few next q ≡ true → allowed (policyFrom next q) es ≡ not (eqb (after next q es) 0)
+AllowedReaches = (next : ℕ → ℕ → ℕ) (q : ℕ) (es : List ℕ) → Arrows next q → few next q ≡ true → allowed (policyFrom next q) es ≡ not (eqb (nodeAfter next q es) 0)

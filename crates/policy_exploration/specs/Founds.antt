@@ -11,7 +11,7 @@ use Rattle.rules.specs.Names.{mostStates, events, refusal, ifTaken, outputOf, r
 use Rattle.policy_maps.specs.Maps.{build}
 use Rattle.policy_exploration.specs.declared.Found.{Found}
 use Rattle.policy_exploration.specs.declared.Made.{Made}
-use Rattle.policy_exploration.specs.Reach.{known, stateOf, byteOf, met, nodes, madeWith}
+use Rattle.policy_exploration.specs.Reach.{known, nodeState, byteOf, met, nodes, madeWith}
 
 -- room for one node too many
 abbrev pub capacity : ℕ
@@ -36,13 +36,13 @@ abbrev pub moreOf : Found → ℕ → Bool
 moreOf f k = ltb k (events * f .count) && leb (f .count) mostStates
 
 -- arrow k leads to x: it gets its number, and a node that is new its place
-unfoldable pub stepOf : Found → ℕ → ℕ → Found
-stepOf f k x =
+unfoldable pub foundWith : Found → ℕ → ℕ → Found
+foundWith f k x =
     let old = eqb x 0 || known (listOf f) x in
     record {
       nodes = cond old (f .nodes) (set (f .nodes) (f .count) x);
       count = cond old (f .count) (f .count + 1);
-      arrows = set (f .arrows) k (stateOf (listOf f) x);
+      arrows = set (f .arrows) k (nodeState (listOf f) x);
     }
 
 -- with the first k arrows taken
@@ -61,11 +61,11 @@ pub record Explored (next : ℕ → ℕ → ℕ) (q : ℕ) (f : Found) : Type 0 
   pub all : moreOf f arrows ≡ false
 
 -- what is answered of the nodes found, and what is left in a table: 15, then 9
-unfoldable pub writtenAnswer : Found → ℕ → Answer
-writtenAnswer f room = first ((not (leb (f .count) mostStates), refusal TooManyStates 0) ∷ []) (roomFor room (events * f .count))
+unfoldable pub foundAnswer : Found → ℕ → Answer
+foundAnswer f room = first ((not (leb (f .count) mostStates), refusal TooManyStates 0) ∷ []) (roomFor room (events * f .count))
 
 unfoldable pub writtenOf : Found → ℕ → Made
-writtenOf f room = let a = writtenAnswer f room in ifTaken a (madeWith a (f .count)) (madeWith a 0)
+writtenOf f room = let a = foundAnswer f room in ifTaken a (madeWith a (f .count)) (madeWith a 0)
 
 unfoldable pub writtenTable : Found → List ℕ → List ℕ
-writtenTable f table = outputOf (writtenAnswer f (length table)) (take (events * f .count) (f .arrows)) table
+writtenTable f table = outputOf (foundAnswer f (length table)) (take (events * f .count) (f .arrows)) table

@@ -38,12 +38,12 @@ abbrev pub nodes : (ℕ → ℕ → ℕ) → ℕ → List ℕ
 nodes next q = met next q (events * mostStates)
 
 -- the state of a node in the policy, its number; no node is no arrow
-abbrev pub stateOf : List ℕ → ℕ → ℕ
-stateOf ns x = cond (eqb x 0) noArrow (place ns x)
+abbrev pub nodeState : List ℕ → ℕ → ℕ
+nodeState ns x = cond (eqb x 0) noArrow (place ns x)
 
 -- byte k of the table
 abbrev pub byteOf : (ℕ → ℕ → ℕ) → List ℕ → ℕ → ℕ
-byteOf next ns k = stateOf ns (target next ns k)
+byteOf next ns k = nodeState ns (target next ns k)
 
 abbrev pub statesOf : (ℕ → ℕ → ℕ) → ℕ → ℕ
 statesOf next q = length (nodes next q)
@@ -76,6 +76,6 @@ unfoldable pub reachTable : (ℕ → ℕ → ℕ) → ℕ → List ℕ → List 
 reachTable next q table = outputOf (reachAnswer next q (length table)) (tableOf next q) table
 
 -- the node after a list of events
-abbrev pub after : (ℕ → ℕ → ℕ) → ℕ → List ℕ → ℕ
-after next x [] = x
-after next x (e ∷ es) = after next (next x e) es
+abbrev pub nodeAfter : (ℕ → ℕ → ℕ) → ℕ → List ℕ → ℕ
+nodeAfter next x [] = x
+nodeAfter next x (e ∷ es) = nodeAfter next (next x e) es

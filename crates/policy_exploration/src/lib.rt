@@ -8,7 +8,7 @@ ghost use Prim.Native.Nat.{_+_, _*_, _/_, _≤_, _<_};
 ghost use lib.ListN.{length, getD, take};
 ghost use Rattle.rules.specs.Names.{events, mostStates};
 ghost use Rattle.policy_exploration.specs.Reach.{place as placeOf};
-ghost use Rattle.policy_exploration.specs.Founds.{Sized, foundAt, stepOf, moreOf};
+ghost use Rattle.policy_exploration.specs.Founds.{Sized, foundAt, foundWith, moreOf};
 
 // The most states of a policy.
 const MOST: usize = Layout::MOST_STATES as usize;
@@ -82,7 +82,7 @@ fn place(nodes: &[u16; NODES], n: usize, x: u16) -> usize
 // What is found when arrow k leads to x.
 pub fn step(f: Found, k: usize, x: u16) -> Found
     requires { ⌜ Sized f × (f .count ≤ mostStates) × (k < events * mostStates) ⌝ }
-    ensures { λ r. ⌜ r ≡ stepOf f k x ⌝ }
+    ensures { λ r. ⌜ r ≡ foundWith f k x ⌝ }
 {
     let mut g = f;
     if x == 0 {

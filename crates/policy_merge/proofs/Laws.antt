@@ -17,7 +17,7 @@ use Rattle.policy_exploration.specs.Reach.{madeWith}
 use Rattle.policy_exploration.specs.Founds.{Explored, writtenOf, writtenTable}
 use Rattle.policy_exploration.proofs.Explore.{written-made, written-table}
 use Rattle.policy_merge.specs.declared.Merged.{Merged}
-use Rattle.policy_merge.specs.Pairs.{pair, left, right, both, pairAfter, startPair, sideRight, smaller, pairsOf, withCeilings, mergeOf, mergeTable}
+use Rattle.policy_merge.specs.Pairs.{pair, left, right, both, pairAfter, startPair, sideRight, smaller, mergeMade, withCeilings, mergeOf, mergeTable}
 use Rattle.policy_merge.proofs.Pairs.{side-of, start-pairs}
 
 -- an entry that is there is so with any default
@@ -79,10 +79,10 @@ ceilings-refused m c e = rw (ne-eqb (m .answer .number) 0 e)
 module _ (a b : Policy) (x y : Bool) (e : x ≡ sideRight a) (f : y ≡ sideRight b) where
   -- what is answered and left
   abbrev pub Makes : List ℕ → Made → List ℕ → Type 0
-  Makes t made t′ = (made ≡ pairsOf a b (length t)) × (t′ ≡ mergeTable a b t)
+  Makes t made t′ = (made ≡ mergeMade a b (length t)) × (t′ ≡ mergeTable a b t)
 
   pub bad-policy : (t : List ℕ) (made : Made) → (x && y) ≡ false → made ≡ madeWith (refusal BadPolicy 0) 0 → Makes t made t
-  unfolding pairsOf mergeTable
+  unfolding mergeMade mergeTable
   bad-policy t made g q = rw (← e, ← f, g) (q, refl)
 
   pub sides : (x && y) ≡ true → (a .start < mostStates) × (b .start < mostStates)
@@ -93,11 +93,11 @@ module _ (a b : Policy) (x y : Bool) (e : x ≡ sideRight a) (f : y ≡ sideRigh
       (omega (arith, s .start, s .few-states), omega (arith, t .start, t .few-states))
 
   pub makes : (t t′ : List ℕ) (made : Made) (q : ℕ) (w : Found) → (x && y) ≡ true → q ≡ startPair a b → Explored (pairAfter (policyOf 0 0 (a .table) []) (policyOf 0 0 (b .table) [])) q w → made ≡ writtenOf w (length t) → t′ ≡ writtenTable w t → Makes t made t′
-  unfolding pairsOf mergeTable
+  unfolding mergeMade mergeTable
   makes t t′ made q w g i ex m n =
       let z : Explored (pairAfter a b) (startPair a b) w = rw (tables-alone a b, i) at ex in
       rw (← e, ← f, g) (m ∙ written-made (pairAfter a b) (startPair a b) (start-pairs a b) w z (length t), n ∙ written-table (pairAfter a b) (startPair a b) (start-pairs a b) w z t)
 
-pub merged-is : (a b : Policy) (c d : List ℕ) (n : ℕ) (m : Made) (s : List ℕ) (r : Merged) → m ≡ pairsOf a b n → s ≡ smaller c d → r ≡ withCeilings m s → r ≡ mergeOf a c b d n
+pub merged-is : (a b : Policy) (c d : List ℕ) (n : ℕ) (m : Made) (s : List ℕ) (r : Merged) → m ≡ mergeMade a b n → s ≡ smaller c d → r ≡ withCeilings m s → r ≡ mergeOf a c b d n
 unfolding mergeOf
 merged-is a b c d n m s r e f g = g ∙ ap₂ withCeilings e f

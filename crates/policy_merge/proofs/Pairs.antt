@@ -12,10 +12,10 @@ use Rattle.rules.specs.Names.{mostStates, events, orders, noArrow}
 use Rattle.rules.specs.Policies.{Policy, arrow, allowedFrom, allowed, stateFrom, statesRight, entryRight, entriesRight, rightPolicy}
 use Rattle.rules.proofs.Bools as bools
 use Rattle.policy_maps.proofs.Maps.{build-at}
-use Rattle.policy_exploration.specs.Reach.{after, reachOf}
+use Rattle.policy_exploration.specs.Reach.{nodeAfter, reachOf}
 use Rattle.policy_exploration.specs.Claims.{Arrows}
 use Rattle.policy_exploration.proofs.Reach.{nodes-exact, taken-reaches, reach-right, allowed-reaches, after-none}
-use Rattle.policy_merge.specs.Pairs.{pair, left, right, both, pairAfter, startPair, sideRight, withCeilings, pairsOf, mergeOf, mergeTable}
+use Rattle.policy_merge.specs.Pairs.{pair, left, right, both, pairAfter, startPair, sideRight, withCeilings, mergeMade, mergeOf, mergeTable}
 use Rattle.policy_merge.specs.Claims.{Merges, TakenMerges, MergedRight, CeilingsOfBoth, SideInstalls, AllowedByBoth, PairsAreStates, PairsExact}
 
 -- what an input that 10 does not refuse has
@@ -100,11 +100,11 @@ module _ (a b : Policy) (sa : Side a) (sb : Side b) where
   abbrev reached : List ℕ → ℕ → ℕ → ℕ
   reached es s t = cond (allowedFrom a s es && allowedFrom b t es) (pair (stateFrom a s es) (stateFrom b t es)) 0
 
-  pub pair-states : (es : List ℕ) (s t : ℕ) → t < mostStates → after (pairAfter a b) (pair s t) es ≡ reached es s t
+  pub pair-states : (es : List ℕ) (s t : ℕ) → t < mostStates → nodeAfter (pairAfter a b) (pair s t) es ≡ reached es s t
   pair-states [] s t h = refl
-  pair-states (n ∷ es) s t h = ap (λ (x : ℕ). after (pairAfter a b) x es) (pair-after a b s t n h) ∙ go (both (arrow a s n) (arrow b t n)) (boths (arrow a s n) (arrow b t n)) (pair-states es)
+  pair-states (n ∷ es) s t h = ap (λ (x : ℕ). nodeAfter (pairAfter a b) x es) (pair-after a b s t n h) ∙ go (both (arrow a s n) (arrow b t n)) (boths (arrow a s n) (arrow b t n)) (pair-states es)
     where
-      go : (x : ℕ) → Both (arrow a s n) (arrow b t n) x → ((s t : ℕ) → t < mostStates → after (pairAfter a b) (pair s t) es ≡ reached es s t) → after (pairAfter a b) x es ≡ reached (n ∷ es) s t
+      go : (x : ℕ) → Both (arrow a s n) (arrow b t n) x → ((s t : ℕ) → t < mostStates → nodeAfter (pairAfter a b) (pair s t) es ≡ reached es s t) → nodeAfter (pairAfter a b) x es ≡ reached (n ∷ es) s t
       go x (neither (inl e)) r = rw (after-none (pairAfter a b) (start-pairs a b .none) es, eq-eqb (arrow a s n) noArrow e)
       go x (neither (inr f)) r =
           rw (after-none (pairAfter a b) (start-pairs a b .none) es, eq-eqb (arrow b t n) noArrow f)
@@ -113,7 +113,7 @@ module _ (a b : Policy) (sa : Side a) (sb : Side b) where
           rw (ne-eqb (arrow a s n) noArrow e, ne-eqb (arrow b t n) noArrow f) (r (arrow a s n) (arrow b t n) (omega (arith, arrow-below b sb t n f, sb .few-states)))
 
   -- so there is one exactly if both allow the list
-  pub pair-allowed : (es : List ℕ) (s t : ℕ) → t < mostStates → not (eqb (after (pairAfter a b) (pair s t) es) 0) ≡ (allowedFrom a s es && allowedFrom b t es)
+  pub pair-allowed : (es : List ℕ) (s t : ℕ) → t < mostStates → not (eqb (nodeAfter (pairAfter a b) (pair s t) es) 0) ≡ (allowedFrom a s es && allowedFrom b t es)
   pair-allowed es s t h = ap (λ (x : ℕ). not (eqb x 0)) (pair-states es s t h) ∙ go (allowedFrom a s es && allowedFrom b t es) (stateFrom a s es) (stateFrom b t es)
     where
       go : (c : Bool) (u v : ℕ) → not (eqb (cond c (pair u v) 0) 0) ≡ c
@@ -154,7 +154,7 @@ ceilings-of-both c d i v h =
     ap (min v) (build-at (λ j. min (getD c j 0) (getD d j 0)) orders i 0 h) ∙ omega arith
 
 pub taken-merges : TakenMerges
-unfolding pairsOf mergeOf mergeTable withCeilings
+unfolding mergeMade mergeOf mergeTable withCeilings
 taken-merges a c b d table t = go (sideRight a && sideRight b) refl
   where
     go : (x : Bool) → (sideRight a && sideRight b) ≡ x → Merges a c b d table

@@ -8,7 +8,7 @@ use lib.ListN.{length, getD, length-map}
 use borrow.Author.Tests.{eqb-true, eqb-false, eq-eqb, ne-eqb}
 use Rattle.rules.specs.Names.{mostStates, events, noArrow}
 use Rattle.policy_maps.specs.Maps.{build}
-use Rattle.policy_exploration.specs.Reach.{place, known, meet, target, met, nodes, stateOf, byteOf, statesOf, tableOf}
+use Rattle.policy_exploration.specs.Reach.{place, known, meet, target, met, nodes, nodeState, byteOf, statesOf, tableOf}
 use Rattle.policy_exploration.proofs.Places.{Meets, none, again, anew, meets}
 
 -- name renames the nodes of f from q, which are all in P, to those of g
@@ -96,7 +96,7 @@ module _ (f g : ℕ → ℕ → ℕ) (q : ℕ) (name : ℕ → ℕ) (P : ℕ →
       let x = target f ns k in
       let h : P x = re .next-in (getD ns (k / events) 0) (k % events) (a (k / events)) in
       ap (λ (l : List ℕ). byteOf g l k) (met-name (events * mostStates))
-      ∙ ap (stateOf (map name ns)) (target-name ns k a)
+      ∙ ap (nodeState (map name ns)) (target-name ns k a)
       ∙ ap₂ (λ (b : Bool) (p : ℕ). cond b noArrow p) (eqb-none x h) (place-name ns x a h)
 
   pub table-name : tableOf g (name q) ≡ tableOf f q

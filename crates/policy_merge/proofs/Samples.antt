@@ -2,9 +2,9 @@
 use mathlib.Core.Path.{refl}
 use Rattle.policy_maps.specs.Maps.{build}
 use Rattle.policy_exploration.specs.Reach.{meet, met, tableOf, reachAnswer, reachOf}
-use Rattle.policy_merge.specs.Pairs.{both, pairAfter, sideRight, pairsOf, withCeilings, mergeOf}
+use Rattle.policy_merge.specs.Pairs.{both, pairAfter, sideRight, mergeMade, withCeilings, mergeOf}
 use Rattle.policy_merge.specs.Claims.{Worked}
 
 pub worked : Worked
-unfolding build meet met tableOf reachAnswer reachOf both pairAfter sideRight pairsOf withCeilings mergeOf
+unfolding build meet met tableOf reachAnswer reachOf both pairAfter sideRight mergeMade withCeilings mergeOf
 worked = record { pairs = refl; rows = refl; small = refl; many = refl; same = refl; bad = refl; bad-start = refl }

@@ -13,7 +13,7 @@ use Rattle.rules.specs.Policies.{Policy, arrow}
 use Rattle.policy_maps.specs.Maps.{build}
 use Rattle.policy_exploration.specs.Reach.{statesOf, tableOf, reachAnswer, reachOf, reachTable}
 use Rattle.policy_merge.proofs.Rename.{Renames, states-name, table-name}
-use Rattle.policy_merge.specs.Pairs.{pair, left, right, both, pairAfter, startPair, sideRight, smaller, pairsOf, mergeOf, mergeTable}
+use Rattle.policy_merge.specs.Pairs.{pair, left, right, both, pairAfter, startPair, sideRight, smaller, mergeMade, mergeOf, mergeTable}
 use Rattle.policy_merge.specs.Claims.{Swapped, SwapSame}
 use Rattle.policy_merge.proofs.Pairs.{Side, side-of, arrow-below, Both, neither, arrows, boths, both-pair, pair-after}
 
@@ -122,7 +122,7 @@ smaller-swap c d = ap (λ (f : ℕ → ℕ). build f orders) (fun-ext (λ i. lea
     least x y = omega arith
 
 pub swap-same : SwapSame
-unfolding pairsOf mergeOf mergeTable reachAnswer reachOf reachTable
+unfolding mergeMade mergeOf mergeTable reachAnswer reachOf reachTable
 swap-same a c b d table = go (sideRight a) refl (sideRight b) refl
   where
     go : (x : Bool) → sideRight a ≡ x → (y : Bool) → sideRight b ≡ y → Swapped a c b d table

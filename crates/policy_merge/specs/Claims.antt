@@ -8,7 +8,7 @@ use Rattle.rules.specs.declared.Answer.{Answer}
 use Rattle.rules.specs.declared.Layout.{Layout}
 use Rattle.rules.specs.Names.{orders, topWord, noArrow, answer}
 use Rattle.rules.specs.Policies.{Policy, policyOf, stateOver, allowed, statesRight, rightPolicy}
-use Rattle.policy_exploration.specs.Reach.{statesOf, few, after}
+use Rattle.policy_exploration.specs.Reach.{statesOf, few, nodeAfter}
 use Rattle.policy_exploration.specs.Claims.{Exactly}
 use Rattle.policy_merge.specs.declared.Merged.{Merged}
 use Rattle.policy_merge.specs.Pairs.{pair, pairAfter, startPair, sideRight, mergedPolicy, smaller, mergeOf, mergeTable}
@@ -41,7 +41,7 @@ AllowedByBoth = (a b : Policy) (es : List ℕ) → Right a b → few (pairAfter 
 abbrev pub PairsAreStates : Type 0
 PairsAreStates =
     (a b : Policy) (es : List ℕ) → Right a b →
-    after (pairAfter a b) (startPair a b) es ≡ cond (allowed a es && allowed b es) (pair (stateOver a es) (stateOver b es)) 0
+    nodeAfter (pairAfter a b) (startPair a b) es ≡ cond (allowed a es && allowed b es) (pair (stateOver a es) (stateOver b es)) 0
 
 -- the states are the pairs that are reached, each once; 15 is given exactly if there are more than 16
 abbrev pub PairsExact : Type 0

@@ -55,15 +55,15 @@ abbrev pub smaller : List ℕ → List ℕ → List ℕ
 smaller c d = build (λ i. min (getD c i 0) (getD d i 0)) orders
 
 -- '10 for a bad input .. 15 .. follows it. 9 comes last': what is answered, with the policy's numbers
-unfoldable pub pairsOf : Policy → Policy → ℕ → Made
-pairsOf a b room = first ((not (sideRight a && sideRight b), madeWith (refusal BadPolicy 0) 0) ∷ []) (reachOf (pairAfter a b) (startPair a b) room)
+unfoldable pub mergeMade : Policy → Policy → ℕ → Made
+mergeMade a b room = first ((not (sideRight a && sideRight b), madeWith (refusal BadPolicy 0) 0) ∷ []) (reachOf (pairAfter a b) (startPair a b) room)
 
 -- with the ceilings: 'After a reject all else handed back is 0'
 unfoldable pub withCeilings : Made → List ℕ → Merged
 withCeilings m c = record { answer = m .answer; policy = m .policy; ceilings = ifTaken (m .answer) c (replicate orders 0) }
 
 unfoldable pub mergeOf : Policy → List ℕ → Policy → List ℕ → ℕ → Merged
-mergeOf a c b d room = withCeilings (pairsOf a b room) (smaller c d)
+mergeOf a c b d room = withCeilings (mergeMade a b room) (smaller c d)
 
 -- and what is left in the table
 unfoldable pub mergeTable : Policy → Policy → List ℕ → List ℕ

@@ -11,7 +11,7 @@ ghost use Prim.Native.Nat.{_+_, _*_, _^_, _<_, min};
 ghost use lib.ListN.{length, getD};
 ghost use Rattle.rules.specs.Names.{events, noArrow};
 ghost use Rattle.policy_exploration.specs.Founds.{Explored};
-ghost use Rattle.policy_merge.specs.Pairs.{sideOf, arrowsOf, pair as pairOf, both as bothOf, pairAfter, sideRight, smaller as smallerOf, pairsOf, withCeilings, mergeOf, mergeTable};
+ghost use Rattle.policy_merge.specs.Pairs.{sideOf, arrowsOf, pair as pairOf, both as bothOf, pairAfter, sideRight, smaller as smallerOf, mergeMade, withCeilings, mergeOf, mergeTable};
 
 // The most states of a policy.
 const MOST: usize = Layout::MOST_STATES as usize;
@@ -154,7 +154,7 @@ fn with_ceilings(made: Made, ceilings: [u32; ORDERS]) -> Merged
 
 // The policy of two policies' pairs, or their refusal.
 fn made_of(a: PolicyNumbers, left: &[u8], b: PolicyNumbers, right: &[u8], table: &mut [u8]) -> Made
-    ensures made { λ r. ⌜ r ≡ pairsOf (sideOf a (now (left .entry))) (sideOf b (now (right .entry))) (length (now (table .entry))) ⌝ }
+    ensures made { λ r. ⌜ r ≡ mergeMade (sideOf a (now (left .entry))) (sideOf b (now (right .entry))) (length (now (table .entry))) ⌝ }
     ensures table { λ _. ⌜ now (table .exit) ≡ mergeTable (sideOf a (now (left .entry))) (sideOf b (now (right .entry))) (now (table .entry)) ⌝ }
 {
     let ok = side_right(a, left) & side_right(b, right);

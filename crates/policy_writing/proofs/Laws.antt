@@ -12,7 +12,7 @@ use Rattle.rules.specs.Names.{mostStates, events, answer, refusal}
 use Rattle.policy_exploration.specs.Reach.{madeWith}
 use Rattle.policy_exploration.specs.declared.Found.{Found}
 use Rattle.policy_exploration.specs.declared.Made.{Made}
-use Rattle.policy_exploration.specs.Founds.{Sized, writtenAnswer, writtenOf, writtenTable}
+use Rattle.policy_exploration.specs.Founds.{Sized, foundAnswer, writtenOf, writtenTable}
 
 -- one more byte copied
 pub copy-more : (s t₀ t : List ℕ) (i r : ℕ) → t ≡ take i s ++ drop i t₀ → i < length s → i < length t₀ → r ≡ getD s i 0 → set t i r ≡ take (i + 1) s ++ drop (i + 1) t₀
@@ -32,15 +32,15 @@ module _ (f : Found) (sized : Sized f) where
   Writes t made t′ = (made ≡ writtenOf f (length t)) × (t′ ≡ writtenTable f t)
 
   pub too-many : (t : List ℕ) (made : Made) → mostStates < f .count → made ≡ madeWith (refusal TooManyStates 0) 0 → Writes t made t
-  unfolding writtenOf writtenTable writtenAnswer
+  unfolding writtenOf writtenTable foundAnswer
   too-many t made h q = rw (lt-leb (f .count) mostStates h) (q, refl)
 
   pub no-room : (t : List ℕ) (made : Made) (b : ℕ) → f .count ≤ mostStates → b ≡ events * f .count → length t < b → made ≡ madeWith (refusal SmallOutput 0) 0 → Writes t made t
-  unfolding writtenOf writtenTable writtenAnswer
+  unfolding writtenOf writtenTable foundAnswer
   no-room t made b h e l q = rw (le-leb (f .count) mostStates h, lt-ltb (length t) (events * f .count) (omega arith)) (q, refl)
 
   pub writes : (t t′ : List ℕ) (b : ℕ) → f .count ≤ mostStates → b ≡ events * f .count → b ≤ length t → t′ ≡ take b (f .arrows) ++ drop b t → (a : Answer) → a ≡ answer 0 b → Writes t (madeWith a (f .count)) t′
-  unfolding writtenOf writtenTable writtenAnswer
+  unfolding writtenOf writtenTable foundAnswer
   writes t t′ b h e l q a ea =
       let n : length (take (events * f .count) (f .arrows)) ≡ events * f .count = length-take-le (events * f .count) (f .arrows) (omega (arith, sized .arrows)) in
       rw (le-leb (f .count) mostStates h, le-ltb (length t) (events * f .count) (omega arith), n, ea, e) (refl, q ∙ ap (λ (j : ℕ). take j (f .arrows) ++ drop j t) e)

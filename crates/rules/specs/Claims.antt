@@ -122,7 +122,7 @@ pub record ShapeLaws (lay : Layout) (N w x y z : ℕ) : Type 0 where
 abbrev pub Shapes : Type 0
 Shapes = (lay : Layout) (N w x y z : ℕ) → ShapeLaws lay N w x y z
 
--- a list that 7, 12 and 13 do not refuse: 'a list of 4N commands, N a power of two from 1 to 1,024', under a right layout; B is a multiple of 4N
+-- what 7, 12 and 13 ask of a list of N bundles, under a right layout: 'a list of 4N commands, N a power of two from 1 to 1,024'; B is a multiple of 4N
 pub record Placed (lay : Layout) (ws : List ℕ) (N : ℕ) : Type 0 where
   pub layout : rightLayout lay ≡ true
   pub count : countRight (length ws) ≡ true
@@ -271,8 +271,8 @@ abbrev pub Ceilings : Type 0
 Ceilings = (lay : Layout) (ws : List ℕ) (c : Carried) (gs : List Given) → Every (Limited lay) (recordedIn (eachRun (runAs lay ws) (afterRun lay ws) c gs))
 
 -- a run does not answer 22, fault
-abbrev pub Sound : {O : Type 0} → Run O → Type 0
-Sound r = r .number ≡ endingNumber Fault → ⊥
+abbrev pub Faultless : {O : Type 0} → Run O → Type 0
+Faultless r = r .number ≡ endingNumber Fault → ⊥
 
 -- a run leaves its memory's length and every cell outside the sandbox but the state cell as it found them; the pairs that it counts
 -- are in its log, the readings among those it was given; beyond the counted pairs a log is as it was found
@@ -305,7 +305,7 @@ pub record Same {O : Type 0} (lay : Layout) (r r′ : Run O) : Type 0 where
 -- (d) a second list, from an installation alike in sandbox and protected cells, its runs given alike, does the same run by run:
 --     free memory and what logs held before have no influence
 pub record Isolated (lay : Layout) (pol : Policy) (ws mem : List ℕ) (gs : List Given) : Type 0 where
-  pub sound : Every Sound (allRuns lay pol ws mem gs)
+  pub sound : Every Faultless (allRuns lay pol ws mem gs)
   pub kept : Every (Kept lay) (allRuns lay pol ws mem gs)
   pub lasting : (i : ℕ) → protected lay i ≡ true → (i ≡ lay .cell → ⊥) → getD (after lay pol ws mem gs .memory) i 0 ≡ getD (installMemory lay pol mem) i 0
   pub allowed : allowed pol (eventsOf (recordedIn (allRuns lay pol ws mem gs))) ≡ true

@@ -64,6 +64,7 @@ pub struct PolicyNumbers {
     pub start: u32,
 }
 
+// And the numbers of every policy.
 impl PolicyNumbers {
     // The mark of no arrow in a table.
     pub const NO_ARROW: u32 = 255;

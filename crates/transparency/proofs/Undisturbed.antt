@@ -34,7 +34,7 @@ use Rattle.engine_rules.specs.Engines.{refusalBy}
 use Rattle.engine_rules.proofs.Rule.{engine-rule, same-guest}
 use Rattle.engine_rules.proofs.Together.{run-counts-one}
 use Rattle.transparency.specs.Raw.{rawStart, rawRun}
-use Rattle.transparency.specs.Claims.{Behaved, Alike, Caged, MachineAlike, Undisturbed, EngineUndisturbed, UndisturbedPaused, UndisturbedNext, EngineUndisturbedNext}
+use Rattle.transparency.specs.Claims.{Behaved, AsRaw, Caged, MachineAsRaw, Undisturbed, EngineUndisturbed, UndisturbedPaused, UndisturbedNext, EngineUndisturbedNext}
 use Rattle.transparency.proofs.Like.{Like, after-like}
 
 -- a cell of the sandbox, among the memory's and among the sandbox's own
@@ -94,7 +94,7 @@ module _ (lay : Layout) (pol : Policy) (code mem raw us reads : List ℕ) (k : �
       (after-like lay pol N (masks lay (fitted .0) .fixed) reads (routine code) g0 (rawStart raw) k (b .behaves) start-like)
 
   -- what agrees with the guest is like the raw run
-  alike : (regs m : List ℕ) (records : List Pair) (t : Status) → t ≡ guest .status → regs ≡ guest .regs → boxOf lay m ≡ guest .box → records ≡ guest .records → length us ≡ guest .used → Alike lay (rawRun lay code raw reads k) regs m records (length us) t
+  alike : (regs m : List ℕ) (records : List Pair) (t : Status) → t ≡ guest .status → regs ≡ guest .regs → boxOf lay m ≡ guest .box → records ≡ guest .records → length us ≡ guest .used → AsRaw lay (rawRun lay code raw reads k) regs m records (length us) t
   alike regs m records t e r x p u =
       let l = raw-like u in
       record {
@@ -108,7 +108,7 @@ module _ (lay : Layout) (pol : Policy) (code mem raw us reads : List ℕ) (k : �
 -- a machine that is the guest after k instructions is the raw run
 machine-alike : (lay : Layout) (pol : Policy) (code mem raw reads : List ℕ) (room : ℕ) (gs : List Given) (p k : ℕ) → Caged lay pol code mem raw reads room gs k →
     let c = after lay pol (commandsOf lay code) mem gs in
-    AgreesAt lay p (guestFor lay pol code mem c k) c → MachineAlike lay (rawRun lay code raw reads k) c
+    AgreesAt lay p (guestFor lay pol code mem c k) c → MachineAsRaw lay (rawRun lay code raw reads k) c
 machine-alike lay pol code mem raw reads room gs p k x a =
     alike lay pol code mem raw _ reads k (x .served .installed) (x .behaved) _ (after lay pol (commandsOf lay code) mem gs .memory) _ _ (a .ending) (a .regs) (a .box) (a .records) (a .used)
 

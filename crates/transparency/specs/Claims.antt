@@ -28,7 +28,7 @@ abbrev pub Begins : List ℕ → List ℕ → Type 0
 Begins used reads = (i : ℕ) → i < length used → getD used i 0 ≡ getD reads i 0
 
 -- [14]'s premise, of the first k instructions of a routine: the raw run behaves, on a memory with the same sandbox and given readings
--- of which the caged run used the first
+-- of which the caged run used the first ones
 pub record Behaved (lay : Layout) (pol : Policy) (code mem raw used reads : List ℕ) (k : ℕ) : Type 0 where
   pub box : SameBox lay mem raw
   pub readings : Begins used reads
@@ -36,7 +36,7 @@ pub record Behaved (lay : Layout) (pol : Policy) (code mem raw used reads : List
 
 -- 'the same records, the same r0 to r14 and sandbox, and the same ending or none'; and as many readings used.
 -- The ending is the record's status: no raw run stops or strays, so no caged one does
-pub record Alike (lay : Layout) (r : Raw) (regs mem : List ℕ) (records : List Pair) (used : ℕ) (t : Status) : Type 0 where
+pub record AsRaw (lay : Layout) (r : Raw) (regs mem : List ℕ) (records : List Pair) (used : ℕ) (t : Status) : Type 0 where
   pub ending : t ≡ r .status
   pub registers : regs ≡ r .regs
   pub box : (i : ℕ) → inBox lay i ≡ true → getD mem i 0 ≡ getD (r .mem) i 0
@@ -52,8 +52,8 @@ pub record Caged (lay : Layout) (pol : Policy) (code mem raw reads : List ℕ) (
   pub behaved : Behaved lay pol code mem raw (after lay pol (commandsOf lay code) mem gs .consumed) reads k
 
 -- what the runs left of the machine, r0 to r14 of its registers
-abbrev pub MachineAlike : Layout → Raw → Carried → Type 0
-MachineAlike lay r c = Alike lay r (take guestRegisters (c .machine .regs)) (c .memory) (c .records) (length (c .consumed)) (c .machine .status)
+abbrev pub MachineAsRaw : Layout → Raw → Carried → Type 0
+MachineAsRaw lay r c = AsRaw lay r (take guestRegisters (c .machine .regs)) (c .memory) (c .records) (length (c .consumed)) (c .machine .status)
 
 -- wherever a list of runs ends on the first command of a bundle or is over, beside the raw run after as many instructions
 -- as the runs began bundles, if these behaved. A list of runs may end anywhere and budgets are any: so for every count of instructions
@@ -61,14 +61,14 @@ abbrev pub Undisturbed : Type 0
 Undisturbed =
     (lay : Layout) (pol : Policy) (code mem raw reads : List ℕ) (room : ℕ) (gs : List Given) →
     let c = after lay pol (commandsOf lay code) mem gs in
-    Caged lay pol code mem raw reads room gs (c .begun) → Stands lay (c .machine) → MachineAlike lay (rawRun lay code raw reads (c .begun)) c
+    Caged lay pol code mem raw reads room gs (c .begun) → Stands lay (c .machine) → MachineAsRaw lay (rawRun lay code raw reads (c .begun)) c
 
 -- at a pause for log or probe, on the third command of an event bundle, beside the raw run after the bundles wholly behind
 abbrev pub UndisturbedPaused : Type 0
 UndisturbedPaused =
     (lay : Layout) (pol : Policy) (code mem raw reads : List ℕ) (room : ℕ) (gs : List Given) →
     let c = after lay pol (commandsOf lay code) mem gs in
-    Caged lay pol code mem raw reads room gs (c .begun - 1) → Waiting lay (commandsOf lay code) (c .machine) → MachineAlike lay (rawRun lay code raw reads (c .begun - 1)) c
+    Caged lay pol code mem raw reads room gs (c .begun - 1) → Waiting lay (commandsOf lay code) (c .machine) → MachineAsRaw lay (rawRun lay code raw reads (c .begun - 1)) c
 
 -- 'A pause is no instruction, and a run that can go on follows it': where the raw run is not over, the caged one, lent its memory,
 -- two log cells and a reading, comes to the next place of comparison in at most four steps, one bundle on; from a pause by `Resumes`,
@@ -88,7 +88,7 @@ EngineUndisturbed =
     (lay : Layout) (pol : Policy) (code mem raw reads : List ℕ) (gs : List Given) → EngineServed lay pol code mem gs →
     let c = engineAfter lay pol code mem gs in
     Behaved lay pol code mem raw (c .consumed) reads (c .counted) →
-    Alike lay (rawRun lay code raw reads (c .counted)) (c .engine .regs) (c .memory) (c .records) (length (c .consumed)) (c .engine .status)
+    AsRaw lay (rawRun lay code raw reads (c .counted)) (c .engine .regs) (c .memory) (c .records) (length (c .consumed)) (c .engine .status)
 
 -- and where the raw run is not over, it counts one more instruction
 abbrev pub EngineUndisturbedNext : Type 0
