@@ -145,7 +145,7 @@ module _ (lay : Layout) (ws reads : List ℕ) where
     from Strayed = unpaused over (ended (s .status))
 
   runs : (n k : ℕ) (s : State) → Laws (runFrom lay ws reads n k s) (runFromBefore lay ws reads n k s)
-  unfolding loopFrom runFromBefore
+  unfolding loopFrom
   runs zero k s = unpaused _ (ended (s .status))
   runs (suc n) k s = from n k s (runs n) (s .status)
 

@@ -1,5 +1,5 @@
 -- What the change requests changed of answers given before them: what is claimed, and what was before.
-use Prim.Native.Nat.{ℕ, zero, suc, _+_, _-_, _*_, _/_, _<_, _≤_}
+use Prim.Native.Nat.{ℕ, _+_, _-_, _*_, _/_, _<_, _≤_}
 use mathlib.Core.Path.{_≡_}
 use mathlib.Core.Bool.{Bool, true, false, _&&_, cond}
 use mathlib.Core.List.{List, [], _∷_}
@@ -18,7 +18,7 @@ use Rattle.rules.specs.declared.Refusal.the-variants.{BadLayout, BadBundle, Bad
 use Rattle.rules.specs.Names.{orders, bundleLength, hidden, numberOf, answer}
 use Rattle.rules.specs.Commands.{fetchOf, wordOf}
 use Rattle.rules.specs.Bundles.{shapeWith, valid, bundleAt, checkAnswer}
-use Rattle.rules.specs.Machines.{View, ifRoom, effectOf, State, applyOf, seen, endingOf, Ran, ranOf, outcomeOf, endedIn, leftIn, unlessOver, unlessWait, startOf, fits, runOf}
+use Rattle.rules.specs.Machines.{View, ifRoom, effectOf, State, applyOf, seen, Ran, ranOf, outcomeOf, endedIn, leftIn, loopFrom, startOf, fits, runOf}
 use Rattle.rules.specs.Claims.{Placed}
 
 -- ---- [4]: which pause comes first
@@ -58,13 +58,12 @@ effectBefore Stray s = effectOf Stray s
 abbrev pub nextBefore : Layout → List ℕ → List ℕ → State → Effect
 nextBefore lay ws reads s = effectBefore (fetchOf ws (lay .base) (s .pc)) (seen lay reads s)
 
+abbrev pub stepBefore : Layout → List ℕ → List ℕ → State → State
+stepBefore lay ws reads s = applyOf (lay .ceilings) reads (nextBefore lay ws reads s) s
+
 -- a run as it was before, in all else that of today (`runFrom`, `runOf`)
-unfoldable pub runFromBefore : Layout → List ℕ → List ℕ → ℕ → ℕ → State → Ran
-runFromBefore lay ws reads zero k s = endedIn (endingOf (s .status)) k s
-runFromBefore lay ws reads (suc n) k s =
-    let next = nextBefore lay ws reads s in
-    unlessOver (s .status) (endedIn (endingOf (s .status)) k s)
-    (unlessWait next (λ e. endedIn e k s) (runFromBefore lay ws reads n (k + 1) (applyOf (lay .ceilings) reads next s)))
+abbrev pub runFromBefore : Layout → List ℕ → List ℕ → ℕ → ℕ → State → Ran
+runFromBefore lay ws reads n k s = loopFrom (nextBefore lay ws reads) (stepBefore lay ws reads) (λ s k. k + 1) endedIn n k s
 
 unfoldable pub runBefore : Layout → List ℕ → Machine → List ℕ → ℕ → List ℕ → List ℕ → Ran
 runBefore lay ws m mem budget reads log =
