@@ -97,10 +97,6 @@ module _ (ws : List ℕ) (i : ℕ) (h : length ws ≤ i) where
 
 -- ---- the whole
 
-pub write-few : (ws : List ℕ) (room : ℕ) → length ws ≤ mostInstructions → (a : Answer) → a ≡ firstRefused judgeWord ws 0 (roomFor room (length (routineOf ws))) → a ≡ writeAnswer ws room
-unfolding writeAnswer
-write-few ws room h a e = e ∙ rw (le-ltb mostInstructions (length ws) h)
-
 pub put-routine : (ws o o₁ : List ℕ) → o₁ ≡ stores (set (set o 0 (length ws % 256)) 1 (length ws / 256)) 2 (bytesOf ws) → o₁ ≡ stores o 0 (routineOf ws)
 unfolding routineOf
 put-routine ws o o₁ e = e

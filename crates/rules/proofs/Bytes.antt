@@ -11,13 +11,13 @@ use Rattle.rules.specs.declared.Fields.{Fields}
 use Rattle.rules.specs.declared.Answer.{Answer}
 use Rattle.rules.specs.declared.One.{One}
 use Rattle.rules.specs.declared.One.the-variants.{Word, Bad}
-use Rattle.rules.specs.declared.Refusal.the-variants.{Taken, Short, Foreign, Oversize, SmallOutput}
-use Rattle.rules.specs.Names.{mostInstructions, numberOf, answer, refusal, orElse, roomFor}
+use Rattle.rules.specs.declared.Refusal.the-variants.{Short, Foreign, Oversize, SmallOutput}
+use Rattle.rules.specs.Names.{mostInstructions, numberOf, refusal, roomFor}
 use Rattle.rules.specs.Words.{judgeOf, judgeWord, firstRefused, packFields}
 use Rattle.rules.specs.Bytes.{bitOf, mapOf, sizeOf, fieldsAt, oneFields, oneMap, oneOf, thenAnswer, scanOf, thenWords, wordsOf, countOf, wordsIn, readAnswer}
 use Rattle.rules.specs.Bytes.{byteOut, quadOut, regsOut, fieldsOut, bytesOf, routineOf, writeAnswer}
 use Rattle.rules.proofs.Bools.{cond-ind}
-use Rattle.rules.proofs.Refusals.{TakesEach, takes-each, none-refused, taken-then, refused-map}
+use Rattle.rules.proofs.Refusals.{TakesEach, takes-each, none-refused, taken-then}
 
 -- ---- one instruction read
 
@@ -237,33 +237,12 @@ module _ (ws : List ℕ) (room : ℕ) where
   write-many h = simp (lt-ltb _ _ h)
 
   module _ (h : length ws ≤ mostInstructions) where
-    write-few : writeAnswer ws room ≡ firstRefused judgeWord ws 0 (roomFor room (length (routineOf ws)))
+    pub write-few : writeAnswer ws room ≡ firstRefused judgeWord ws 0 (roomFor room (length (routineOf ws)))
     unfolding writeAnswer
     write-few = rw (le-ltb mostInstructions (length ws) h)
 
     pub write-taken : TakesEach judgeWord ws → writeAnswer ws room ≡ roomFor room (length (routineOf ws))
     write-taken all = write-few ∙ none-refused judgeWord ws 0 _ all
-
-    -- the first refusal, or the number of bytes, known before the room is looked at
-    module _ (a : Answer) (e : a ≡ firstRefused judgeWord ws 0 (answer (numberOf Taken) (length (routineOf ws)))) where
-      pub write-stop : (a .number ≡ 0 → ⊥) → a ≡ writeAnswer ws room
-      write-stop n =
-          let f : Answer → Answer = λ b. orElse b (roomFor room (length (routineOf ws))) in
-          let kept : f a ≡ a = rw (ne-eqb _ _ n) in
-          sym (write-few ∙ sym (refused-map judgeWord f (λ x p m. rw (ne-eqb _ _ m)) ws 0 _) ∙ ap f (sym e) ∙ kept)
-
-      module _ (z : a .number ≡ 0) where
-        all : TakesEach judgeWord ws
-        all = takes-each judgeWord ws 0 _ (rw e at z)
-
-        size : a ≡ answer (numberOf Taken) (length (routineOf ws))
-        size = e ∙ none-refused judgeWord ws 0 _ all
-
-        pub write-room : room < a .place → refusal SmallOutput 0 ≡ writeAnswer ws room
-        write-room l = sym (write-taken all ∙ rw (lt-ltb _ _ (rw size at l)))
-
-        pub write-good : a .place ≤ room → a ≡ writeAnswer ws room
-        write-good l = size ∙ sym (write-taken all ∙ rw (le-ltb _ _ (rw size at l)))
 
 -- what words have that writing takes
 pub record WriteOk (ws : List ℕ) (room n : ℕ) : Type 0 where

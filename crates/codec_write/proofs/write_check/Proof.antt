@@ -1,7 +1,6 @@
-use mathlib.Core.Path.{_∙_}
+use mathlib.Core.Path.{sym, _∙_}
 use borrow.Author.Needs.{needs}
-use Rattle.rules.proofs.Bytes.{write-many}
-use Rattle.codec_write.proofs.Writing.{write-few}
+use Rattle.rules.proofs.Bytes.{write-many, write-few}
 use Rattle.codec_write.proofs.write_check.Statement.{statement}
 use Rattle.codec_write.proofs.write_check.Tie as tie
 
@@ -12,4 +11,4 @@ write-check-spec =
     (λ c κs. search needs)
     (λ c. c .refused .ensures ∙ search (write-many, needs))
     (λ c κs. search needs)
-    (λ c. search (write-few, needs)))
+    (λ c. c .weigh .ensures ∙ sym (write-few _ _ (search needs))))
