@@ -19,7 +19,7 @@ use Rattle.rules.proofs.Isolation.{isolation}
 use Rattle.sandbox_rules.proofs.Loading.{loads}
 use Rattle.capi_numbers.specs.Numbers.{layoutFrom, machineFrom, machineTo}
 use Rattle.capi_numbers.specs.Hosts.{checkFor, installFor, loadFor, HostRan, ranTo, runFor}
-use Rattle.capi_numbers.specs.Claims.{MachineBack, callsOf, runCall, Ready, installed, loaded, HostIsolation}
+use Rattle.capi_numbers.specs.Claims.{MachineBack, callsOf, runCall, Prepared, installed, loaded, HostIsolation}
 use Rattle.capi_numbers.proofs.Numbers.{comes-back, called}
 
 pub machine-back : MachineBack
@@ -67,7 +67,7 @@ record Stands (l : Layout) (pol : Policy) (mem ws xs left : List ℕ) : Type 0 w
   machine : xs ≡ machineTo (installMachine l pol mem)
   memory : left ≡ installMemory l pol mem
 
-stands : {lay : List ℕ} {pol : Policy} {mem ws xs left : List ℕ} → Ready lay pol mem ws xs left → Stands (layoutFrom lay) pol mem ws xs left
+stands : {lay : List ℕ} {pol : Policy} {mem ws xs left : List ℕ} → Prepared lay pol mem ws xs left → Stands (layoutFrom lay) pol mem ws xs left
 unfolding checkFor installFor loadFor
 stands (installed ws p i) = record { passed = p; taken = i; machine = refl; memory = refl }
 stands {lay} {pol} {mem} (loaded bytes out z) =

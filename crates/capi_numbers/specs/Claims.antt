@@ -49,11 +49,11 @@ counted r = take (getD (r .answer) 1 0) (r .commands)
 
 -- commands, record and memory that stand ready for a first run: a list that hemdroas_check passes with 0, and what hemdroas_install leaves that
 -- answers 0, whatever memory held before, as another policy's cells; or what hemdroas_load leaves that answers 0
-pub data Ready (lay : List ℕ) (pol : Policy) (mem : List ℕ) : List ℕ → List ℕ → List ℕ → Type 0 where
+pub data Prepared (lay : List ℕ) (pol : Policy) (mem : List ℕ) : List ℕ → List ℕ → List ℕ → Type 0 where
   installed : (ws : List ℕ) → number (checkFor lay ws) ≡ 0 → number (installFor lay pol mem .answer) ≡ 0
-      → Ready lay pol mem ws (installFor lay pol mem .machine) (installFor lay pol mem .memory)
+      → Prepared lay pol mem ws (installFor lay pol mem .machine) (installFor lay pol mem .memory)
   loaded : (bytes out : List ℕ) → number (loadFor lay pol bytes out mem .answer) ≡ 0
-      → Ready lay pol mem (counted (loadFor lay pol bytes out mem)) (loadFor lay pol bytes out mem .machine) (loadFor lay pol bytes out mem .memory)
+      → Prepared lay pol mem (counted (loadFor lay pol bytes out mem)) (loadFor lay pol bytes out mem .machine) (loadFor lay pol bytes out mem .memory)
 
 -- from there calls of hemdroas_run, each with the layout's numbers, these commands, the record's numbers as the last call left them and a memory
 -- that is, but for free cells, what the last call left: the calls are the runs of which demand 3 speaks, and it holds of them
@@ -64,4 +64,4 @@ pub record CallsIsolated (lay : List ℕ) (pol : Policy) (ws xs mem : List ℕ) 
 abbrev pub HostIsolation : Type 0
 HostIsolation =
     (lay : List ℕ) (pol : Policy) (mem ws xs left : List ℕ) (gs : List Given) →
-    Ready lay pol mem ws xs left → Lends (layoutFrom lay) ws (carriedOf (machineFrom xs) left [] [] 0) gs → CallsIsolated lay pol ws xs mem gs
+    Prepared lay pol mem ws xs left → Lends (layoutFrom lay) ws (carriedOf (machineFrom xs) left [] [] 0) gs → CallsIsolated lay pol ws xs mem gs

@@ -9,7 +9,7 @@ use Rattle.rules.specs.Policies.{Policy, policyOf}
 use Rattle.rules.specs.Runs.{Given, Carried, carriedOf, afterRun, Lends}
 use Rattle.capi_numbers.specs.Numbers.{layoutFrom, machineFrom}
 use Rattle.capi_numbers.specs.Hosts.{HostInstalled, installFor, HostLoaded, loadFor}
-use Rattle.capi_numbers.specs.Claims.{callsOf, runCall, counted, Ready}
+use Rattle.capi_numbers.specs.Claims.{callsOf, runCall, counted, Prepared}
 
 -- U 128, SL 96, SH 127, M 0, P 16, S 2, B 32, Q 64, no limits
 abbrev pub layout : List ℕ
@@ -51,8 +51,8 @@ next = installFor layout other left
 
 pub record SampleHolds : Type 0 where
   pub loaded : lot .answer ≡ 0 ∷ 32 ∷ []
-  pub ready : Ready layout policy (replicate 128 0) (counted lot) (lot .machine) (lot .memory)
+  pub ready : Prepared layout policy (replicate 128 0) (counted lot) (lot .machine) (lot .memory)
   pub lends : Lends (layoutFrom layout) (counted lot) carriedFirst calls
   pub answers : map (λ r. r .answer) (callsOf (runCall layout (counted lot)) (lot .machine) calls) ≡ (25 ∷ 6 ∷ 0 ∷ 0 ∷ []) ∷ (7 ∷ 0 ∷ 0 ∷ 0 ∷ []) ∷ (21 ∷ 8 ∷ 2 ∷ 0 ∷ []) ∷ []
-  pub again : Ready layout other left (counted lot) (next .machine) (next .memory)
+  pub again : Prepared layout other left (counted lot) (next .machine) (next .memory)
   pub ended : map (λ r. r .answer) (callsOf (runCall layout (counted lot)) (next .machine) (given (next .memory) 1000 ∷ [])) ≡ (20 ∷ 17 ∷ 3 ∷ 0 ∷ []) ∷ []

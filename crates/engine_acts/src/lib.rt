@@ -18,7 +18,7 @@ ghost use Rattle.rules.specs.Layouts.{maskOf};
 ghost use Rattle.rules.specs.Words.{dOf, aOf, bOf, cOf, vOf, instrOf, bundlesFor};
 ghost use Rattle.rules.specs.Commands.{holdsOf};
 ghost use Rattle.rules.specs.Machines.{onward, viewOf};
-ghost use Rattle.engine_acts.specs.Named.{Named};
+ghost use Rattle.engine_acts.specs.Named.{GuestFields};
 ghost use Rattle.engine_rules.specs.Engines.{Judged, jumpOf, sendOf, actOf, nextFor};
 
 // ---- the fields of a word that was judged, and the registers that they name
@@ -36,14 +36,14 @@ fn number(w: u64) -> u32
 }
 
 fn left_of(w: u64, regs: &[u32; Engine::REGISTERS]) -> u32
-    requires { ⌜ Named w ⌝ }
+    requires { ⌜ GuestFields w ⌝ }
     ensures { λ r. ⌜ r ≡ getD (now (regs .entry)) (aOf w) 0 ⌝ }
 {
     regs[((w >> 12) % 16) as usize]
 }
 
 fn right_of(w: u64, regs: &[u32; Engine::REGISTERS]) -> u32
-    requires { ⌜ Named w ⌝ }
+    requires { ⌜ GuestFields w ⌝ }
     ensures { λ r. ⌜ r ≡ getD (now (regs .entry)) (bOf w) 0 ⌝ }
 {
     regs[((w >> 16) % 16) as usize]
@@ -51,7 +51,7 @@ fn right_of(w: u64, regs: &[u32; Engine::REGISTERS]) -> u32
 
 // The cell of a LOAD or a STORE.
 fn address(w: u64, low: u32, high: u32, regs: &[u32; Engine::REGISTERS]) -> usize
-    requires { ⌜ Named w ⌝ }
+    requires { ⌜ GuestFields w ⌝ }
     ensures { λ r. ⌜ r ≡ maskOf low high (getD (now (regs .entry)) (aOf w) 0) ⌝ }
 {
     layout::mask(left_of(w, regs), low, high) as usize
@@ -153,7 +153,7 @@ fn act(
     free: usize,
     left: usize,
 ) -> Effect
-    requires { ⌜ Named w × (top + 1 ≡ bundlesFor n) ⌝ }
+    requires { ⌜ GuestFields w × (top + 1 ≡ bundlesFor n) ⌝ }
     ensures { λ r. ⌜ r ≡ actOf layout (bundlesFor n) (instrOf w) (viewOf (now (regs .entry)) at (now (memory .entry)) (layout .cell) (layout .table) (layout .base) (layout .landings) free left) ⌝ }
 {
     match w % 256 {

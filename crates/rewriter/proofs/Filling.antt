@@ -14,7 +14,7 @@ use Rattle.rules.specs.declared.Bundle.{Bundle}
 use Rattle.rules.specs.Names.{bundleLength}
 use Rattle.rules.specs.Words.{instrOf, routine}
 use Rattle.rules.specs.Bundles.{bundleOf, bundlesFrom}
-use Rattle.words.specs.Packing.{Fits}
+use Rattle.words.specs.Packing.{Packable}
 use Rattle.rewriter.specs.Rewriting.{Ready}
 
 -- ---- one instruction and its words
@@ -28,7 +28,7 @@ module _ (ws : List ℕ) (h : ℕ) where
   unfolding routine instrOf
   routine-past g = rw (List·getD-eq-default ws 0 g)
 
-  pub fits : (l : Layout) (n room : ℕ) → Ready l n ws room → (i : Instr) → i ≡ routine ws h → Fits l n i
+  pub fits : (l : Layout) (n room : ℕ) → Ready l n ws room → (i : Instr) → i ≡ routine ws h → Packable l n i
   fits l n room r i e = record { some = r .some; most = r .most; top = r .top; valid = rw e (r .each h) }
 
 pub put-four : (out : List ℕ) (at w x y z : ℕ) → set (set (set (set out at w) (at + 1) x) (at + 2) y) (at + 3) z ≡ sets out at (w ∷ x ∷ y ∷ z ∷ [])

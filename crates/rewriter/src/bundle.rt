@@ -7,14 +7,14 @@ use rules::Machine;
 use words::guest::word;
 ghost use mathlib.Core.Path.{_≡_};
 ghost use Rattle.rules.specs.Bundles.{bundleOf};
-ghost use Rattle.words.specs.Packing.{Fits};
+ghost use Rattle.words.specs.Packing.{Packable};
 
 // The hidden register.
 const HIDDEN: u64 = Machine::HIDDEN as u64;
 
 // The four words of an instruction's bundle, among n.
 pub(crate) fn bundle(l: Layout, n: usize, i: Instr) -> Bundle
-    requires { ⌜ Fits l n i ⌝ }
+    requires { ⌜ Packable l n i ⌝ }
     ensures { λ r. ⌜ r ≡ bundleOf l n i ⌝ }
 {
     let base = l.base as u64;

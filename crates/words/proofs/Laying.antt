@@ -17,7 +17,7 @@ use Rattle.rules.proofs.Tables.{all, raised}
 use Rattle.rules.proofs.Facts.{Valid}
 use Rattle.rules.proofs.Conditions.{valid-is}
 use Rattle.words_fields.specs.Cut.{cutWord}
-use Rattle.words.specs.Packing.{Fits}
+use Rattle.words.specs.Packing.{Packable}
 
 -- the numbers of the plain commands have 32 bits
 plain-top : (k v : ℕ) → k ≤ guest .sar → v ≤ limitsOf (k + plainStep) .v → v ≤ topWord
@@ -33,7 +33,7 @@ four : (w x y z w′ x′ y′ z′ : ℕ) → w ≡ w′ → x ≡ x′ → y �
 four w x y z w′ x′ y′ z′ ew ex ey ez i = record { words = ew i ∷ ex i ∷ ey i ∷ ez i ∷ [] }
 
 -- one law for each instruction: its words, cut, are its bundle
-module _ (l : Layout) (n : ℕ) (i : Instr) (f : Fits l n i) where
+module _ (l : Layout) (n : ℕ) (i : Instr) (f : Packable l n i) where
   facts : (j : Instr) → i ≡ j → Valid n j
   facts j e = valid-is n j (subst (λ (x : Instr). valid n x ≡ true) e (f .valid))
 

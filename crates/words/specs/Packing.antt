@@ -9,7 +9,7 @@ use Rattle.rules.specs.Names.{mostBundles}
 use Rattle.rules.specs.Bundles.{addressOf, valid as isValid}
 
 -- an instruction that is valid among n bundles, of which a list can be made that ends at 2 ^ 32 or before it
-pub record Fits (l : Layout) (n : ℕ) (i : Instr) : Type 0 where
+pub record Packable (l : Layout) (n : ℕ) (i : Instr) : Type 0 where
   pub some : 0 < n
   pub most : n ≤ mostBundles
   pub top : addressOf l n ≤ 2 ^ 32
