@@ -118,7 +118,8 @@ fieldsBelow r (GOIF a b c v) = ltb a r && ltb b r
 fieldsBelow r (GOX d a b c) = ltb d r && ltb a r && ltb b r
 fieldsBelow r (EVENT e) = true
 
--- what the checker passes where r is the hidden register and the guest's are those below it: `is` are the instructions of the bundles
+-- what the checker passes where r is the hidden register and the guest's are those below it, events in today's order: `is` are the
+-- instructions of the bundles
 pub record PassesWith (r : ℕ) (lay : Layout) (ws : List ℕ) (N : ℕ) (is : ℕ → Instr) : Type 0 where
   pub placed : Placed lay ws N
   pub fields : (h : ℕ) → h < N → (valid N (is h) && fieldsBelow r (is h)) ≡ true

@@ -25,8 +25,9 @@ use Rattle.rules.proofs.Conditions.{layout-of}
 use Rattle.rules.proofs.Sim.{Sim, over, live}
 use Rattle.rules.proofs.Track.{tracks}
 use Rattle.rules.proofs.Isolation.{list-tracked}
+use Rattle.rules.specs.Claims.{Enough}
 use Rattle.forward_rules.specs.Forward.{checkForwardAnswer}
-use Rattle.forward_rules.specs.Claims.{mostSteps, stepsIn, Resumed, pauses, ResumedAfter, GoesOn, Over, paidFor, paidBy, paidIn, Finishes, FinishesIn}
+use Rattle.forward_rules.specs.Claims.{mostSteps, stepsIn, pauses, ResumedAfter, GoesOn, Over, paidFor, paidBy, paidIn, Finishes, FinishesIn}
 use Rattle.forward_rules.proofs.Runs.{runsOf, afterRuns, steps-some, ran-before, all-spent}
 use Rattle.forward_rules.proofs.Bound.{ahead-all}
 
@@ -93,7 +94,7 @@ module _ (lay : Layout) (ws : List ℕ) where
       let y = took-all (afterRun lay ws c g) gs e in
       omega arith
 
-fit-of : (lay : Layout) (g : Given) → rightLayout lay ≡ true → Resumed lay g → fits lay (g .memory) ≡ true
+fit-of : (lay : Layout) (g : Given) → rightLayout lay ≡ true → Enough lay g → fits lay (g .memory) ≡ true
 fit-of lay g right ok = rw (right, eq-eqb _ _ (ok .memory))
 
 -- ---- on the premise a machine runs, has ended or stopped: no passed list faults, and none of the class wants a landing
@@ -134,7 +135,7 @@ finishes lay pol ws mem gs f v p =
     over-by lay pol ws mem gs f v (λ run. omega (arith, took-all lay ws (atFirst lay pol mem) gs run))
 
 -- ---- by the count of runs: each that is resumed takes a step
-step-each : (lay : Layout) (ws : List ℕ) → rightLayout lay ≡ true → (c : Carried) (gs : List Given) → Every (Resumed lay) gs → Every (λ (g : Given). 1 ≤ g .budget) gs → afterRuns lay ws c gs .machine .status ≡ Running → length gs ≤ stepsIn (runsOf lay ws c gs)
+step-each : (lay : Layout) (ws : List ℕ) → rightLayout lay ≡ true → (c : Carried) (gs : List Given) → Every (Enough lay) gs → Every (λ (g : Given). 1 ≤ g .budget) gs → afterRuns lay ws c gs .machine .status ≡ Running → length gs ≤ stepsIn (runsOf lay ws c gs)
 unfolding afterAll eachRun
 step-each lay ws right c [] ok b e = omega arith
 step-each lay ws right c (g ∷ gs) ok b e =

@@ -14,7 +14,7 @@ use Rattle.rules.specs.Machines.{installAnswer, installMemory, installMachine, 
 use Rattle.rules.specs.Runs.{Carried, atFirst, runOn, afterTaken, afterRun, Lends, Served, eachRun}
 use Rattle.rules.proofs.Bools.{no}
 use Rattle.forward_rules.specs.Forward.{forwardAt, forwardFrom, forwardAnswer, checkForwardAnswer}
-use Rattle.forward_rules.specs.Sample.{layout, policy, commands, memory, runs, Answers, Reaches, shortCommands, oneStep, oneStepEach, fourthAlone, stepwise, Stepwise}
+use Rattle.forward_rules.specs.Sample.{layout, policy, commands, memory, runs, Answers, SampleReaches, shortCommands, oneStep, oneStepEach, fourthAlone, stepwise, Stepwise}
 
 pub answers : Answers
 unfolding ones leadingZeros rightLayout judgeOf judgeAt firstRefused instrOf routine bundlesFor wordOf shapeOf valid readOff bundleAt isBundle shapedAt passesAt checkFrom checkAnswer forwardAt forwardFrom forwardAnswer checkForwardAnswer
@@ -29,7 +29,7 @@ served : Served layout policy commands memory runs
 unfolding ones rightLayout rightPolicy rightLandings installAnswer eachRun
 served = record { passed = passed; installed = refl; lends = (λ l i s. refl, (λ l i s. refl, tt)) }
 
-pub reaches : Reaches
+pub reaches : SampleReaches
 unfolding ones leadingZeros rightLayout rightPolicy rightLandings landingsOf judgeOf judgeAt firstRefused instrOf routine bundlesFor wordOf shapeOf isCommand commandOf fetchOf plainOf installAnswer installMemory installMachine effectOf applyOf loopFrom runOf runOn afterTaken afterRun eachRun placeAnswer rewriteAnswer forwardAt forwardFrom forwardAnswer
 reaches =
     record {

@@ -15,6 +15,7 @@ use Rattle.rules.specs.Names.{bundleLength, answer}
 use Rattle.rules.specs.Policies.{Policy}
 use Rattle.rules.specs.Words.{bundlesFor}
 use Rattle.rules.specs.Bundles.{commandsOf, rewriteAnswer}
+use Rattle.rules.specs.Claims.{Enough}
 use Rattle.rules.specs.Runs.{Given, Every, Run, runOn, allRuns, after, Served}
 use Rattle.forward_rules.specs.Forward.{forwardAnswer, checkForwardAnswer}
 
@@ -60,12 +61,6 @@ Bounded =
 
 -- ---- that it goes on
 
--- 'each pause is resumed with a free pair and a reading', and with a memory that is not refused
-pub record Resumed (lay : Layout) (g : Given) : Type 0 where
-  pub memory : length (g .memory) ≡ lay .size
-  pub log : 2 ≤ length (g .log)
-  pub readings : 1 ≤ length (g .readings)
-
 -- 23 and 24
 abbrev pub pauses : Ending → Bool
 pauses Done = false
@@ -77,18 +72,18 @@ pauses Spent = false
 pauses NoLanding = false
 pauses Refused = false
 
--- of the runs of a list: each that follows a pause resumes it so; `paused` says whether the run before the list paused
+-- 'each pause is resumed with a free pair and a reading', and with a memory that is not refused: each run of a list that follows a pause; `paused` says whether the run before the list paused
 abbrev pub ResumedAfter : Layout → Bool → List (Run Outcome) → Type 0
 ResumedAfter lay paused [] = Unit {0}
 ResumedAfter lay paused (r ∷ rs) =
-    (paused ≡ true → Resumed lay (r .given)) × ResumedAfter lay (pauses (r .ran .outcome .answer .ending)) rs
+    (paused ≡ true → Enough lay (r .given)) × ResumedAfter lay (pauses (r .ran .outcome .answer .ending)) rs
 
--- a machine that still runs takes a step, if it is so resumed and has a budget
+-- a machine that still runs takes a step, if it is lent enough and has a budget
 abbrev pub GoesOn : Type 0
 GoesOn =
     (lay : Layout) (pol : Policy) (ws mem : List ℕ) (gs : List Given) → Served lay pol ws mem gs →
     let c = after lay pol ws mem gs in
-    c .machine .status ≡ Running → (g : Given) → Resumed lay g → 1 ≤ g .budget → 1 ≤ runOn lay ws c g .outcome .answer .steps
+    c .machine .status ≡ Running → (g : Given) → Enough lay g → 1 ≤ g .budget → 1 ≤ runOn lay ws c g .outcome .answer .steps
 
 -- ---- that it finishes
 
@@ -125,7 +120,7 @@ Finishes =
 abbrev pub FinishesIn : Type 0
 FinishesIn =
     (lay : Layout) (pol : Policy) (ws mem : List ℕ) (gs : List Given) → checkForwardAnswer lay ws .number ≡ 0 → Served lay pol ws mem gs →
-    Every (Resumed lay) gs → Every (λ (g : Given). 1 ≤ g .budget) gs → mostSteps (length ws / bundleLength) ≤ length gs →
+    Every (Enough lay) gs → Every (λ (g : Given). 1 ≤ g .budget) gs → mostSteps (length ws / bundleLength) ≤ length gs →
     Over (after lay pol ws mem gs .machine)
 
 -- budget for every step that can be left, and log and readings for an event in each bundle but the last
@@ -156,7 +151,7 @@ AlwaysFinish =
     rewriteAnswer lay code room .number ≡ 0 → forwardAnswer code .number ≡ 0 → Served lay pol (commandsOf lay code) mem gs →
     mostSteps (bundlesFor (length code)) ≤ paidIn (allRuns lay pol (commandsOf lay code) mem gs) → Finished lay pol code mem gs
 
--- 'provided that demand 3's premise holds, each pause is resumed with a free pair and a reading and the budgets suffice', by the count of
+-- the same where 'each pause is resumed with a free pair and a reading', and 'the budgets suffice' by the count of
 -- runs: none refused for its memory, each with a budget of at least 1; only a run that pauses at once counts no step, and the next one,
 -- resumed, counts one, so that two runs for each step are enough
 abbrev pub FinishesResumed : Type 0
@@ -174,4 +169,4 @@ FinishesServed =
     (lay : Layout) (pol : Policy) (code mem : List ℕ) (room : ℕ) (gs : List Given) →
     let ws = commandsOf lay code in
     rewriteAnswer lay code room .number ≡ 0 → forwardAnswer code .number ≡ 0 → Served lay pol ws mem gs →
-    Every (Resumed lay) gs → Every (λ (g : Given). 1 ≤ g .budget) gs → mostSteps (bundlesFor (length code)) ≤ length gs → Finished lay pol code mem gs
+    Every (Enough lay) gs → Every (λ (g : Given). 1 ≤ g .budget) gs → mostSteps (bundlesFor (length code)) ≤ length gs → Finished lay pol code mem gs

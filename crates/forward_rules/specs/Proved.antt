@@ -1,6 +1,6 @@
 -- Every claim of this crate, a field each: its one term is `proved`, in proofs/Proved.antt.
 use Rattle.forward_rules.specs.Claims.{ChecksAgree, ForwardWritten, ForwardRead, Bounded, GoesOn, Finishes, FinishesIn, FinishesAtOnce, AlwaysFinish, FinishesResumed, FinishesServed}
-use Rattle.forward_rules.specs.Sample.{Answers, Reaches, Stepwise}
+use Rattle.forward_rules.specs.Sample.{Answers, SampleReaches, Stepwise}
 
 pub record Proved : Type 0 where
   pub checksAgree : ChecksAgree
@@ -15,5 +15,5 @@ pub record Proved : Type 0 where
   pub finishesResumed : FinishesResumed
   pub finishesServed : FinishesServed
   pub answers : Answers
-  pub reaches : Reaches
+  pub reaches : SampleReaches
   pub stepwise : Stepwise

@@ -15,8 +15,9 @@ use Rattle.rules.specs.Words.{packOf, bundlesFor}
 use Rattle.rules.specs.Bundles.{commandsOf, rewriteAnswer}
 use Rattle.rules.specs.Machines.{installMemory, runAnswer}
 use Rattle.rules.specs.Runs.{Given, Carried, atFirst, afterRun, Served, allRuns, Every}
+use Rattle.rules.specs.Claims.{Enough}
 use Rattle.forward_rules.specs.Forward.{forwardAnswer, checkForwardAnswer}
-use Rattle.forward_rules.specs.Claims.{mostSteps, stepsIn, Resumed, ResumedAfter, paidIn}
+use Rattle.forward_rules.specs.Claims.{mostSteps, stepsIn, ResumedAfter, paidIn}
 
 -- SET r0, 70; always to instruction v; GOX on r0; order v
 abbrev pub plain : ℕ
@@ -80,11 +81,11 @@ secondRun = given (afterRun layout commands (atFirst layout policy memory) first
 abbrev pub runs : List Given
 runs = firstRun ∷ secondRun ∷ []
 
-pub record Reaches : Type 0 where
+pub record SampleReaches : Type 0 where
   pub rewritten : rewriteAnswer layout code 16 ≡ answer 0 16
   pub forward : forwardAnswer code ≡ answer 0 0
   pub served : Served layout policy commands memory runs
-  pub resumed : Every (Resumed layout) runs
+  pub resumed : Every (Enough layout) runs
   pub paid : mostSteps 4 ≤ paidIn (allRuns layout policy commands memory runs)
   pub answers : map (λ r. r .ran .outcome .answer) (allRuns layout policy commands memory runs) ≡ runAnswer LogFull 6 1 0 ∷ runAnswer Done 7 1 0 ∷ []
   pub reached : stepsIn (allRuns layout policy commands memory runs) ≡ mostSteps 4

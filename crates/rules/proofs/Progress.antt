@@ -302,19 +302,19 @@ module _ (lay : Layout) (pol : Policy) (ws : List ℕ) (n : ℕ) (is : ℕ → I
 
 pub resumes : Resumes
 unfolding afterRun afterTaken runOn runOf
-resumes lay pol ws mem gs v run g lent len ll lr =
+resumes lay pol ws mem gs v run g lent n =
     let t = list-tracked lay pol ws mem gs v in
     let c = after lay pol ws mem gs in
     let s = startOf (c .machine) (g .memory) (g .log) in
-    let w = enter lay pol ws _ _ (t .right) (t .bundled) _ c g len lent (t .last) in
+    let w = enter lay pol ws _ _ (t .right) (t .bundled) _ c g (n .memory) lent (t .last) in
     let k = tracks lay pol ws _ _ (t .right) (t .bundled) (c .records) (c .consumed) (g .readings) _ (c .begun) s w in
-    let y = from-here lay pol ws _ _ (t .right) (t .bundled) (c .records) (c .consumed) (g .readings) _ (c .begun) s _ (k .0) w run (omega arith, omega arith) (k .1 .sim) in
-    let fit : fits lay (g .memory) ≡ true = rw (layout-of lay ws (v .passed), eq-eqb (length (g .memory)) (lay .size) len) in
+    let y = from-here lay pol ws _ _ (t .right) (t .bundled) (c .records) (c .consumed) (g .readings) _ (c .begun) s _ (k .0) w run (omega (arith, n .log), omega (arith, n .readings)) (k .1 .sim) in
+    let fit : fits lay (g .memory) ≡ true = rw (layout-of lay ws (v .passed), eq-eqb (length (g .memory)) (lay .size) (n .memory)) in
     record { budget = y .j; few = y .few; stands = rw fit (y .stands); begun = rw fit (y .begun) }
 
 pub progress : Progress
-progress lay pol ws mem gs v x run g lent len ll lr =
+progress lay pol ws mem gs v x run g lent n =
     let c = after lay pol ws mem gs in
-    let y = resumes lay pol ws mem gs v run g lent len ll lr in
+    let y = resumes lay pol ws mem gs v run g lent n in
     let one : begins lay (c .machine .pc) ≡ 1 = ⊎-elim (λ z. first-yes lay (c .machine .pc) z) (λ z. absurd (z run)) x in
     record { budget = y .budget; few = y .few; stands = y .stands; begun = y .begun ∙ ap (λ (k : ℕ). c .begun + k) one }

@@ -240,13 +240,19 @@ pub record Proceeds (lay : Layout) (ws : List ℕ) (c : Carried) (g : Given) (b 
   pub stands : Stands lay (afterRun lay ws c (givenFor g budget) .machine)
   pub begun : afterRun lay ws c (givenFor g budget) .begun ≡ b
 
--- a machine that runs, wherever in a bundle it is, as after a pause, lent its memory, two log cells and a reading: it comes to the next
+-- a run that is lent its memory, a free pair of the log and a reading
+pub record Enough (lay : Layout) (g : Given) : Type 0 where
+  pub memory : length (g .memory) ≡ lay .size
+  pub log : 2 ≤ length (g .log)
+  pub readings : 1 ≤ length (g .readings)
+
+-- a machine that runs, wherever in a bundle it is, as after a pause, and is lent enough comes to the next
 -- place of comparison; no bundle is begun on the way but the one on whose first command it is
 abbrev pub Resumes : Type 0
 Resumes =
     (lay : Layout) (pol : Policy) (ws mem : List ℕ) (gs : List Given) → Served lay pol ws mem gs →
     let c = after lay pol ws mem gs in
-    c .machine .status ≡ Running → (g : Given) → Lent lay (c .memory) g → length (g .memory) ≡ lay .size → 2 ≤ length (g .log) → 1 ≤ length (g .readings) →
+    c .machine .status ≡ Running → (g : Given) → Lent lay (c .memory) g → Enough lay g →
     Proceeds lay ws c g (c .begun + begins lay (c .machine .pc))
 
 -- so one that stands comes one bundle on
@@ -255,7 +261,7 @@ Progress =
     (lay : Layout) (pol : Policy) (ws mem : List ℕ) (gs : List Given) → Served lay pol ws mem gs →
     let c = after lay pol ws mem gs in
     Stands lay (c .machine) → c .machine .status ≡ Running →
-    (g : Given) → Lent lay (c .memory) g → length (g .memory) ≡ lay .size → 2 ≤ length (g .log) → 1 ≤ length (g .readings) → Proceeds lay ws c g (c .begun + 1)
+    (g : Given) → Lent lay (c .memory) g → Enough lay g → Proceeds lay ws c g (c .begun + 1)
 
 -- ---- isolation
 

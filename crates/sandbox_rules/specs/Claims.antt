@@ -17,8 +17,8 @@ abbrev pub loadedAt : Layout → Policy → List ℕ → ℕ → List ℕ → Ca
 loadedAt lay pol bytes room mem = carriedOf (loadMachine lay pol bytes room mem) (loadMemory lay pol bytes room mem) [] [] 0
 
 -- what a load that answers 0 leaves is on demand 3's premise: its commands, the first that the answer counts, are those that the rewriter gives
--- and the checker passes; record and memory are an installation's. So every list of runs from there is isolated, if each is lent what the load
--- or the last run left
+-- and the checker passes; record and memory are an installation's. So every list of runs from there is isolated, if each is lent, but for free cells,
+-- what the load or the last run left
 pub record Loaded (lay : Layout) (pol : Policy) (bytes out mem ws : List ℕ) : Type 0 where
   pub rewritten : rewriteAnswer lay (wordsIn bytes) (length out) .number ≡ 0
   pub commands : ws ≡ commandsOf lay (wordsIn bytes)

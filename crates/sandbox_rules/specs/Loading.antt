@@ -19,7 +19,7 @@ translateAnswer lay s room =
     (orElse (rewriteAnswer lay (wordsIn s) room)
     (orElse (checkAnswer lay (commandsOf lay (wordsIn s))) (answer 0 (commandCount (length (wordsIn s))))))
 
--- 'the first reject of reading, rewriting, checking, installing, or 0', with the place that translating gave
+-- 'the first reject of reading, rewriting, checking, installing, or 0', which has translating's place
 unfoldable pub loadAnswer : Layout → Policy → List ℕ → ℕ → List ℕ → Answer
 loadAnswer lay pol s room mem = let a = translateAnswer lay s room in orElse a (orElse (installAnswer lay pol mem) a)
 

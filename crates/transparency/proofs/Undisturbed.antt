@@ -123,7 +123,7 @@ undisturbed-paused lay pol code mem raw reads room gs x w =
 pub undisturbed-next : UndisturbedNext
 undisturbed-next lay pol code mem raw reads room gs x s t g lg n =
     let u = undisturbed lay pol code mem raw reads room gs x s in
-    progress lay pol (commandsOf lay code) mem gs (x .served) s (u .ending ∙ t) g lg (n .0) (n .1) (n .2)
+    progress lay pol (commandsOf lay code) mem gs (x .served) s (u .ending ∙ t) g lg n
 
 pub engine-undisturbed : EngineUndisturbed
 engine-undisturbed lay pol code mem raw reads gs v b =
@@ -134,5 +134,5 @@ pub engine-undisturbed-next : EngineUndisturbedNext
 engine-undisturbed-next lay pol code mem raw reads gs v b t g lg n =
     let u = engine-undisturbed lay pol code mem raw reads gs v b in
     let fit = eqb-true _ _ (both (rightLayout lay) _ (fits-of lay pol mem (v .installed) .0) .1) in
-    let z = ap (λ (k : ℕ). refusalBy lay code k .number) (n .0 ∙ sym fit) ∙ v .taken in
-    run-counts-one lay code (engineAfter lay pol code mem gs) g z (u .ending ∙ t) (n .1) (n .2)
+    let z = ap (λ (k : ℕ). refusalBy lay code k .number) (n .memory ∙ sym fit) ∙ v .taken in
+    run-counts-one lay code (engineAfter lay pol code mem gs) g z (u .ending ∙ t) (n .log) (n .readings)

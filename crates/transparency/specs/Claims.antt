@@ -14,8 +14,8 @@ use Rattle.rules.specs.Words.{routine, bundlesFor}
 use Rattle.rules.specs.Bundles.{rewriteAnswer, commandsOf}
 use Rattle.rules.specs.Guests.{Pair}
 use Rattle.rules.specs.Runs.{Given, Carried, Lent, Served, after}
-use Rattle.rules.specs.Claims.{Stands, Waiting, Proceeds, givenFor}
-use Rattle.engine_rules.specs.Claims.{Enough, Served as EngineServed, after as engineAfter, afterRun as engineRun}
+use Rattle.rules.specs.Claims.{Stands, Waiting, Proceeds, givenFor, Enough}
+use Rattle.engine_rules.specs.Claims.{Served as EngineServed, after as engineAfter, afterRun as engineRun}
 use Rattle.transparency.specs.Raw.{Raw, rawStart, rawRun, BehavesFor}
 
 -- a raw memory that has the sandbox, with the same cells in it
@@ -23,7 +23,7 @@ pub record SameBox (lay : Layout) (mem raw : List ℕ) : Type 0 where
   pub room : lay .high < length raw
   pub cells : (i : ℕ) → inBox lay i ≡ true → getD mem i 0 ≡ getD raw i 0
 
--- the readings that the runs used are the first ones of those that the raw run is given
+-- the readings that the runs used are the first ones of those that the raw run is given, which reads 0 where it has none
 abbrev pub Begins : List ℕ → List ℕ → Type 0
 Begins used reads = (i : ℕ) → i < length used → getD used i 0 ≡ getD reads i 0
 
