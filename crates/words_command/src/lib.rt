@@ -1,6 +1,7 @@
 // Command words: whether a word is a command, and which.
 use rules::Command;
 use words_fields::field;
+use words_fields::fields;
 ghost use mathlib.Core.Path.{_≡_};
 ghost use Prim.Native.Nat.{_<_};
 ghost use Rattle.rules.specs.Names.{commandKinds};
@@ -65,24 +66,20 @@ pub fn command(w: u64) -> Command
     if !is_command(w) {
         return Command::Stray;
     }
-    let kind = field::kind(w);
-    let d = field::d(w);
-    let a = field::a(w);
-    let b = field::b(w);
-    let c = field::c(w);
-    let v = field::v(w);
+    let f = fields(w);
+    let kind = f.kind;
     match kind {
         Command::NOP => Command::Nop,
         Command::HALT => Command::Halt,
-        Command::SET..=Command::SHL => Command::Plain(kind, d, a, b, v),
-        Command::LOAD => Command::Load(d, a),
-        Command::STORE => Command::Store(a, b),
-        Command::GOIF => Command::GoIf(a, b, c, v),
-        Command::GOXR => Command::GoReg(d, a, b, c),
-        Command::LOOK => Command::Look(d, v),
-        Command::STOPIF => Command::StopIf(d),
-        Command::KEEP => Command::Keep(d),
-        Command::EVENT => Command::Event(v),
+        Command::SET..=Command::SHL => Command::Plain(kind, f.d, f.a, f.b, f.v),
+        Command::LOAD => Command::Load(f.d, f.a),
+        Command::STORE => Command::Store(f.a, f.b),
+        Command::GOIF => Command::GoIf(f.a, f.b, f.c, f.v),
+        Command::GOXR => Command::GoReg(f.d, f.a, f.b, f.c),
+        Command::LOOK => Command::Look(f.d, f.v),
+        Command::STOPIF => Command::StopIf(f.d),
+        Command::KEEP => Command::Keep(f.d),
+        Command::EVENT => Command::Event(f.v),
         _ => Command::Stray,
     }
 }
