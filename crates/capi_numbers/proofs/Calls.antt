@@ -1,6 +1,6 @@
 -- A list of calls is a list of runs.
 use Prim.Native.Nat.{ℕ}
-use mathlib.Core.Path.{_≡_, refl, sym, _∙_, ap, subst}
+use mathlib.Core.Path.{_≡_, refl, _∙_, ap, subst}
 use mathlib.Core.Bool.{Bool, true, false}
 use mathlib.Core.List.{List, [], _∷_, map}
 use lib.ListN.{length}
@@ -11,7 +11,7 @@ use Rattle.rules.specs.Names.{registers}
 use Rattle.rules.specs.Policies.{Policy}
 use Rattle.rules.specs.Bundles.{checkAnswer}
 use Rattle.rules.specs.Machines.{machineOf, State, startOf, fits, runOf, installAnswer, installMachine, installMemory}
-use Rattle.rules.specs.Runs.{Given, Carried, carriedOf, atFirst, runOn, afterTaken, afterRun, Run, runAs, Lends, eachRun}
+use Rattle.rules.specs.Runs.{Given, Carried, carriedOf, atFirst, runOn, afterTaken, afterRun, runAs, Lends, eachRun}
 use Rattle.rules.proofs.Loops.{Loop, keeps, machineLoop}
 use Rattle.rules.proofs.Counts.{apply-regs}
 use Rattle.rules.proofs.Conditions.{machine-of}

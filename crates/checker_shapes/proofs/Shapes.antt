@@ -1,19 +1,19 @@
 -- Laws of the shapes, each of four words and the instruction whose bundle they can be.
 use mathlib.Core.Path.{_≡_, refl, sym, _∙_, ap, subst}
-use mathlib.Core.Bool.{Bool, true, false, _&&_, and-false, cond}
-use Prim.Native.Nat.{ℕ, _+_, _-_, _*_, _/_, _%_, _^_, _≤_, _<_}
+use mathlib.Core.Bool.{Bool, true, false, _&&_, and-false}
+use Prim.Native.Nat.{ℕ, _+_, _-_, _%_, _^_, _≤_, _<_}
 use native.Mathlib.Omega.{arith}
 use lib.Dec.{ltb, leb, eqb}
-use borrow.Author.Tests.{lt-ltb, le-ltb, le-leb, eqb-true, eq-eqb, ne-eqb, ltb-true, ltb-false}
+use borrow.Author.Tests.{lt-ltb, le-leb, eqb-true, eq-eqb, ne-eqb}
 use Rattle.rules.specs.declared.Layout.{Layout}
 use Rattle.rules.specs.declared.Fields.{Fields}
 use Rattle.rules.specs.declared.Instr.{Instr}
-use Rattle.rules.specs.declared.Instr.the-variants.{PLAIN, LOAD, STORE, GOIF, GOX}
+use Rattle.rules.specs.declared.Instr.the-variants.{PLAIN, GOIF, GOX}
 use Rattle.rules.specs.Names.{bundleLength, bundleShift, guestRegisters, hidden, topCondition, events, guest, command, plainStep}
 use Rattle.rules.specs.Words.{kindOf, dOf, aOf, bOf, cOf, vOf, zeroOf, fieldsOf, packOf, packFields}
 use Rattle.rules.specs.Commands.{limitsOf, isCommand, wordOf}
-use Rattle.rules.specs.Bundles.{addressOf, lastAddress, shapeOf, valid, isBundle}
-use Rattle.rules.proofs.Bools.{both, join}
+use Rattle.rules.specs.Bundles.{addressOf, shapeOf, valid, isBundle}
+use Rattle.rules.proofs.Bools.{both}
 use Rattle.rules.proofs.Tables.{all, raised}
 use Rattle.rules.proofs.Facts.{Valid}
 use Rattle.rules.proofs.Conditions.{valid-is}

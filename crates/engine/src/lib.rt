@@ -11,7 +11,6 @@ use rules::Status;
 use words::count;
 ghost use mathlib.Core.Path.{_≡_};
 ghost use Prim.Native.Nat.{_+_, _≤_};
-ghost use lib.ListN.{length};
 ghost use Rattle.rules.specs.declared.Status.the-variants.{Running};
 ghost use Rattle.rules.specs.Names.{mostInstructions};
 ghost use Rattle.rules.specs.Words.{bundlesFor};

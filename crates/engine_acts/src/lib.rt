@@ -15,7 +15,7 @@ ghost use Rattle.rules.specs.declared.Effect.the-variants.{Go};
 ghost use Rattle.rules.specs.Names.{events};
 ghost use Rattle.rules.specs.Landings.{marked};
 ghost use Rattle.rules.specs.Layouts.{maskOf};
-ghost use Rattle.rules.specs.Words.{dOf, aOf, bOf, cOf, vOf, instrOf, bundlesFor};
+ghost use Rattle.rules.specs.Words.{dOf, aOf, bOf, vOf, instrOf, bundlesFor};
 ghost use Rattle.rules.specs.Commands.{holdsOf};
 ghost use Rattle.rules.specs.Machines.{onward, viewOf};
 ghost use Rattle.engine_acts.specs.Named.{GuestFields};

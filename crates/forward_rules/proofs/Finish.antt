@@ -17,8 +17,8 @@ use Rattle.rules.specs.Layouts.{rightLayout}
 use Rattle.rules.specs.Policies.{Policy}
 use Rattle.rules.specs.Commands.{fetchOf}
 use Rattle.rules.specs.Bundles.{bundleAt}
-use Rattle.rules.specs.Machines.{State, seen, runFrom, startOf, runOf, fits, installMemory}
-use Rattle.rules.specs.Guests.{Guest, guestStart}
+use Rattle.rules.specs.Machines.{State, seen, runFrom, startOf, runOf, fits}
+use Rattle.rules.specs.Guests.{Guest}
 use Rattle.rules.specs.Runs.{Given, Carried, atFirst, runOn, afterTaken, afterRun, runAs, allRuns, after, Served, Every, eachRun, afterAll}
 use Rattle.rules.proofs.Endings.{goes}
 use Rattle.rules.proofs.Conditions.{layout-of}

@@ -28,7 +28,7 @@ use Rattle.rules.specs.Commands.{fetchOf}
 use Rattle.rules.specs.Machines.{viewOf, landsAt, effectOf, State, stateOf, withPair, applyOf, seen, nextOf, stepOf, RanWith, fits, startOf, runFrom, runOf, installMemory}
 use Rattle.rules.specs.Bundles.{shapeOf}
 use Rattle.rules.specs.Guests.{Pair, Guest, rOf, guestStart}
-use Rattle.rules.specs.Runs.{Given, pairsOf, Carried, atFirst, runOn, afterTaken, begins, afterRun, Matches, Lent, Lends, Served, Each, eachRun, Run, carriedOf, runAs, allRuns}
+use Rattle.rules.specs.Runs.{Given, pairsOf, Carried, atFirst, runOn, afterTaken, begins, afterRun, Matches, Lent, Served, Each, eachRun, Run, runAs, allRuns}
 use Rattle.rules.specs.Claims.{Alike, Same}
 use Rattle.rules.proofs.Bools.{cases, both}
 use Rattle.rules.proofs.Landings.{marked-same}

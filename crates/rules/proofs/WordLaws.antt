@@ -1,5 +1,5 @@
 -- Laws of guest words: what a judgement of 0 gives, and fields packed and taken apart.
-use mathlib.Core.Path.{_≡_, refl, sym}
+use mathlib.Core.Path.{_≡_, refl}
 use mathlib.Core.Bool.{Bool, true, false, _||_}
 use Prim.Native.Nat.{ℕ, zero, suc, _+_, _*_, _/_, _≤_, _^_}
 use native.Mathlib.Omega.{arith}
@@ -9,7 +9,7 @@ use Rattle.rules.specs.declared.Fields.{Fields}
 use Rattle.rules.specs.declared.Limits.{Limits}
 use Rattle.rules.specs.Names.{topGuest, topCondition, topWord, topKind}
 use Rattle.rules.specs.Words.{kindOf, dOf, aOf, bOf, cOf, zeroOf, vOf, fieldsOf, packOf, packFields, guestLimits, lacks, hasStray, hasHigh, judgeOf}
-use Rattle.rules.proofs.Bools.{no, cond-ind, neither}
+use Rattle.rules.proofs.Bools.{cond-ind, neither}
 use Rattle.rules.proofs.Tables.{all, raised}
 use Rattle.rules.proofs.Packing.{InBits, pack-kind, pack-d, pack-a, pack-b, pack-c, pack-zero, pack-v}
 

@@ -1,7 +1,6 @@
 -- The trial's output, by computation.
-use mathlib.Core.Path.{_≡_, refl}
+use mathlib.Core.Path.{refl}
 use lib.Count.{ones, leadingZeros}
-use Rattle.rules.specs.Names.{mostCommands, answer}
 use Rattle.rules.specs.Layouts.{rightLayout}
 use Rattle.rules.specs.Policies.{rightPolicy}
 use Rattle.rules.specs.Landings.{rightLandings, landingsOf}
@@ -12,8 +11,7 @@ use Rattle.rules.specs.Bundles.{shapeOf, placeAnswer, rewriteAnswer, valid, rea
 use Rattle.rules.specs.Machines.{installAnswer, installMemory, installMachine, effectOf, applyOf, runOf, loopFrom}
 use Rattle.rules.specs.Runs.{runOn, eachRun}
 use Rattle.sandbox_rules.specs.Loading.{translateAnswer, loadAnswer, loadCommands, loadMemory, loadMachine}
-use Rattle.samples.specs.Sample.{layout}
-use Rattle.samples.specs.Trial.{policy, input, memory, TrialHolds}
+use Rattle.samples.specs.Trial.{TrialHolds}
 
 pub trial-holds : TrialHolds
 unfolding ones leadingZeros rightLayout rightPolicy rightLandings landingsOf judgeOf judgeAt firstRefused instrOf routine bundlesFor byteAt quadAt fieldsAt oneFields oneMap oneOf scanOf wordsOf readAnswer isCommand commandOf wordOf fetchOf plainOf shapeOf placeAnswer rewriteAnswer valid readOff bundleAt isBundle shapedAt passesAt checkFrom checkAnswer installAnswer installMemory installMachine effectOf applyOf loopFrom runOf runOn translateAnswer loadAnswer loadCommands loadMemory loadMachine eachRun

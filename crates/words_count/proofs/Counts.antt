@@ -1,6 +1,6 @@
 -- Laws of the count of bundles and of the base.
-use mathlib.Core.Path.{_≡_, refl}
-use mathlib.Core.Bool.{Bool, true, false, _||_, true≢false}
+use mathlib.Core.Path.{_≡_}
+use mathlib.Core.Bool.{true, false, _||_}
 use mathlib.Core.Logic.{⊎-elim}
 use Prim.Native.Nat.{ℕ, _-_, _*_, _%_, _≤_, _<_, _^_}
 use native.Mathlib.Nat.{mod-zero, mod-eq-of-lt}

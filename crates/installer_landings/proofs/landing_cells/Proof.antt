@@ -1,8 +1,7 @@
 use Prim.Native.Nat.{zero-le, _-_, _≤_}
-use mathlib.Core.Path.{_≡_, refl}
+use mathlib.Core.Path.{_≡_}
 use borrow.Author.Needs.{needs}
 use lib.ListN.{length, take}
-use Rattle.rules.specs.Names.{landingCells}
 use Rattle.rules.specs.Landings.{landingsOf}
 use Rattle.installer_landings.proofs.Marks.{no-marks, below-most, mark-more, marked-all, marked-long}
 use Rattle.installer_landings.proofs.landing_cells.Statement.{statement}

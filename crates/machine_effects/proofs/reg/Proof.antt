@@ -1,4 +1,3 @@
-use native.Mathlib.Omega.{arith}
 use borrow.Author.Needs.{needs}
 use Rattle.machine_effects.proofs.reg.Statement.{statement}
 use Rattle.machine_effects.proofs.reg.Tie as tie
