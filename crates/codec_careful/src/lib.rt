@@ -67,7 +67,7 @@ fn judge_fields(m: usize, size: usize, f: Fields) -> One
     if judged == Refusal::TAKEN {
         One::Word(pack(f), size)
     } else {
-        One::Bad(judged)
+        One::RefusedWith(judged)
     }
 }
 
@@ -76,15 +76,15 @@ pub fn careful(s: &[u8]) -> One
     ensures { λ r. ⌜ r ≡ oneOf (now (s .entry)) ⌝ }
 {
     if s.len() == 0 {
-        return One::Bad(Refusal::SHORT);
+        return One::RefusedWith(Refusal::SHORT);
     }
     let m = wide(s[0]) as usize;
     if m > TOP_MAP {
-        return One::Bad(Refusal::FOREIGN);
+        return One::RefusedWith(Refusal::FOREIGN);
     }
     let size = size_of(m);
     if s.len() < size {
-        return One::Bad(Refusal::SHORT);
+        return One::RefusedWith(Refusal::SHORT);
     }
     judge_fields(m, size, fields_of(s, m))
 }

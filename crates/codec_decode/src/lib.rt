@@ -16,6 +16,6 @@ pub fn read_one(s: &[u8]) -> One
     let o = sure(s);
     match o {
         One::Word(w, size) => One::Word(w, size),
-        One::Bad(_) => careful(s),
+        One::RefusedWith(_) => careful(s),
     }
 }

@@ -10,7 +10,7 @@ use lib.Seq.{sets as stores, sets-eq, length-sets, take-all, take-at, length-tak
 use borrow.Author.Tests.{eq-eqb, ne-eqb}
 use Rattle.rules.specs.declared.Answer.{Answer}
 use Rattle.rules.specs.declared.One.{One}
-use Rattle.rules.specs.declared.One.the-variants.{Word, Bad}
+use Rattle.rules.specs.declared.One.the-variants.{Word, RefusedWith}
 use Rattle.rules.specs.declared.Refusal.the-variants.{Taken, Trailing}
 use Rattle.rules.specs.Names.{mostInstructions, numberOf, answer, refusal}
 use Rattle.rules.specs.Bytes.{oneOf, scanOf, wordsOf, countOf, wordsIn, readAnswer, readOutput}
@@ -35,7 +35,7 @@ module _ (n i : ℕ) (t : List ℕ) (o : One) (e : o ≡ oneOf t) (h : i < n) wh
   unfolding scanOf
   scan-more w u eo z ez = ez ∙ rw (rest u t (used t o w u eo e), left, ← e, eo)
 
-  pub scan-stop : (x : ℕ) → o ≡ Bad x → (z : Answer) → z ≡ scanOf (n - i) i t → (r : Answer) → r ≡ answer x i → r ≡ z
+  pub scan-stop : (x : ℕ) → o ≡ RefusedWith x → (z : Answer) → z ≡ scanOf (n - i) i t → (r : Answer) → r ≡ answer x i → r ≡ z
   unfolding scanOf
   scan-stop x eo z ez r er = er ∙ sym (ez ∙ rw (left, ← e, eo))
 
@@ -44,7 +44,7 @@ module _ (n i : ℕ) (t : List ℕ) (o : One) (e : o ≡ oneOf t) (h : i < n) wh
   unfolding wordsOf
   fill-more w u eo out z ez = ez ∙ rw (rest u t (used t o w u eo e), left, ← e, eo, add-one)
 
-  pub fill-stop : (x : ℕ) → o ≡ Bad x → (out z : List ℕ) → z ≡ stores out i (wordsOf (n - i) t) → out ≡ z
+  pub fill-stop : (x : ℕ) → o ≡ RefusedWith x → (out z : List ℕ) → z ≡ stores out i (wordsOf (n - i) t) → out ≡ z
   unfolding wordsOf
   fill-stop x eo out z ez = sym (ez ∙ rw (left, ← e, eo))
 

@@ -29,7 +29,7 @@ fn scan(s: &[u8], n: usize, words: &mut [u64]) -> Answer
                 t = &t[used..];
                 i += 1;
             }
-            One::Bad(refused) => {
+            One::RefusedWith(refused) => {
                 return Answer::refused_at(refused, i);
             }
         }

@@ -6,7 +6,7 @@ use mathlib.Core.List.{List}
 use lib.ListN.{length, getD}
 use lib.Dec.{eqb}
 use Rattle.rules.specs.declared.One.{One}
-use Rattle.rules.specs.declared.One.the-variants.{Word, Bad}
+use Rattle.rules.specs.declared.One.the-variants.{Word, RefusedWith}
 use Rattle.rules.specs.Bytes.{bitOf, byteAt, quadAt, oneOf}
 use Rattle.codec_sure.specs.declared.Part.{Part}
 
@@ -44,4 +44,4 @@ pub record Begun (s : List ℕ) (m at kind d a : ℕ) : Type 0 where
 -- an instruction that was read so is the one at the front of s; a refusal says nothing
 abbrev pub Sure : One → List ℕ → Type 0
 Sure (Word w u) s = Word w u ≡ oneOf s
-Sure (Bad x) s = Unit {0}
+Sure (RefusedWith x) s = Unit {0}

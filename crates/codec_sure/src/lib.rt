@@ -84,15 +84,15 @@ fn sure_rest(s: &[u8], m: usize, at: usize, kind: u64, d: u64, a: u64) -> One
 {
     let b = got(s, at, m / 2 / 2 / 2 % 2);
     if b.zero {
-        return One::Bad(UNSURE);
+        return One::RefusedWith(UNSURE);
     }
     let c = got(s, b.next, m / 2 / 2 / 2 / 2 % 2);
     if c.zero {
-        return One::Bad(UNSURE);
+        return One::RefusedWith(UNSURE);
     }
     let v = got_four(s, c.next, m / 2 / 2 / 2 / 2 / 2);
     if v.zero {
-        return One::Bad(UNSURE);
+        return One::RefusedWith(UNSURE);
     }
     let w = join(kind, d, a, b.value, c.value, v.value);
     let fits = (d < field::FOUR_BITS)
@@ -102,7 +102,7 @@ fn sure_rest(s: &[u8], m: usize, at: usize, kind: u64, d: u64, a: u64) -> One
     if fits & clean(w) {
         return One::Word(w, v.next);
     }
-    One::Bad(UNSURE)
+    One::RefusedWith(UNSURE)
 }
 
 // The instruction at the front of s where it is plain that it is taken, or no answer.
@@ -112,19 +112,19 @@ pub fn sure(s: &[u8]) -> One
 {
     let m = wide(s[0]) as usize;
     if m > TOP_MAP {
-        return One::Bad(UNSURE);
+        return One::RefusedWith(UNSURE);
     }
     let kind = got(s, 1, m % 2);
     if kind.zero {
-        return One::Bad(UNSURE);
+        return One::RefusedWith(UNSURE);
     }
     let d = got(s, kind.next, m / 2 % 2);
     if d.zero {
-        return One::Bad(UNSURE);
+        return One::RefusedWith(UNSURE);
     }
     let a = got(s, d.next, m / 2 / 2 % 2);
     if a.zero {
-        return One::Bad(UNSURE);
+        return One::RefusedWith(UNSURE);
     }
     sure_rest(s, m, a.next, kind.value, d.value, a.value)
 }

@@ -24,9 +24,9 @@ fit s r e h =
     let b = both (leb 1 s) (leb s mostStates) (sym e ∙ not-false r h) in
     (leb-true 1 s (b .0), leb-true s mostStates (b .1))
 
-pub unfit : (s w : ℕ) (r : Bool) → r ≡ statesRight s → not r ≡ true → false ≡ wordRight s w
+pub states-wrong : (s w : ℕ) (r : Bool) → r ≡ statesRight s → not r ≡ true → false ≡ wordRight s w
 unfolding wordRight
-unfit s w r e h = rw (← e, not-true r h)
+states-wrong s w r e h = rw (← e, not-true r h)
 
 pub word-entries : (s w : ℕ) → 1 ≤ s → s ≤ mostStates → wordRight s w ≡ entriesRight s (lowBytes wordBytes w)
 unfolding wordRight

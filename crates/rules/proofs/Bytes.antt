@@ -10,7 +10,7 @@ use borrow.Author.Tests.{le-ltb, lt-ltb, eq-eqb, ne-eqb, eqb-true, eqb-false, lt
 use Rattle.rules.specs.declared.Fields.{Fields}
 use Rattle.rules.specs.declared.Answer.{Answer}
 use Rattle.rules.specs.declared.One.{One}
-use Rattle.rules.specs.declared.One.the-variants.{Word, Bad}
+use Rattle.rules.specs.declared.One.the-variants.{Word, RefusedWith}
 use Rattle.rules.specs.declared.Refusal.the-variants.{Short, Foreign, Oversize, SmallOutput}
 use Rattle.rules.specs.Names.{mostInstructions, numberOf, refusal, roomFor}
 use Rattle.rules.specs.Words.{judgeOf, judgeWord, firstRefused, packFields}
@@ -21,7 +21,7 @@ use Rattle.rules.proofs.Refusals.{TakesEach, takes-each, none-refused, 
 
 -- ---- one instruction read
 
-pub one-none : (s : List ℕ) → length s ≡ 0 → Bad (numberOf Short) ≡ oneOf s
+pub one-none : (s : List ℕ) → length s ≡ 0 → RefusedWith (numberOf Short) ≡ oneOf s
 unfolding oneOf
 one-none s h = simp (eq-eqb _ _ h)
 
@@ -30,11 +30,11 @@ module _ (s : List ℕ) (m : ℕ) (e : m ≡ getD s 0 0) (h : (length s ≡ 0 �
   unfolding oneOf
   one-map = simp (ne-eqb _ _ h, ← e)
 
-  pub one-large : 63 < m → Bad (numberOf Foreign) ≡ oneOf s
+  pub one-large : 63 < m → RefusedWith (numberOf Foreign) ≡ oneOf s
   unfolding oneMap
   one-large g = simp (lt-ltb _ _ g) at one-map
 
-  pub one-short : (u : ℕ) → u ≡ sizeOf m → m ≤ 63 → length s < u → Bad (numberOf Short) ≡ oneOf s
+  pub one-short : (u : ℕ) → u ≡ sizeOf m → m ≤ 63 → length s < u → RefusedWith (numberOf Short) ≡ oneOf s
   unfolding oneMap
   one-short u eu g l = simp (le-ltb 63 m g, ← eu, lt-ltb _ _ l) at one-map
 
@@ -56,9 +56,9 @@ module _ (m : ℕ) (f : Fields) (n : ℕ) (en : n ≡ mapOf f) (x : ℕ) (ex : x
   unfolding oneFields
   fields-word z p u ep eu = rw (← same, eq-eqb _ _ z, ep, eu)
 
-  pub fields-bad : (x ≡ 0 → ⊥) → Bad x ≡ oneFields m f
+  pub fields-refused : (x ≡ 0 → ⊥) → RefusedWith x ≡ oneFields m f
   unfolding oneFields
-  fields-bad z = rw (← same, ne-eqb _ _ z)
+  fields-refused z = rw (← same, ne-eqb _ _ z)
 
 -- what an instruction that is read has
 pub record Read (s : List ℕ) (w u : ℕ) (f : Fields) : Type 0 where
@@ -69,7 +69,7 @@ pub record Read (s : List ℕ) (w u : ℕ) (f : Fields) : Type 0 where
   pub clean : judgeOf (not (eqb (getD s 0 0) (mapOf f))) f ≡ 0
   pub word : w ≡ packFields f
 
-no-word : {w u x : ℕ} {A : Type 0} → Word w u ≡ Bad x → A
+no-word : {w u x : ℕ} {A : Type 0} → Word w u ≡ RefusedWith x → A
 no-word {w} {u} {x} {A} e = let z : _≡_ {A = ℕ} 0 1 = cc in absurd (omega arith)
 
 pub one-read : (s : List ℕ) (w u : ℕ) → Word w u ≡ oneOf s → Read s w u (fieldsAt (getD s 0 0) s)
@@ -99,7 +99,7 @@ pos-of-ne {x} n = omega arith
 -- no refusal has the number 0
 unfoldable pub Named : One → Type 0
 Named (Word w u) = Unit {0}
-Named (Bad x) = 0 < x
+Named (RefusedWith x) = 0 < x
 
 pub named : (s : List ℕ) → Named (oneOf s)
 unfolding Named oneOf oneMap oneFields
@@ -127,7 +127,7 @@ scan-ok (suc n) i s e = go (oneOf s) (named s) (λ u. scan-ok n (i + 1) (drop u 
         → thenAnswer o i (λ u. scanOf n (i + 1) (drop u s)) .number ≡ 0
         → (length (thenWords o (λ u. wordsOf n (drop u s))) ≡ suc n) × (thenAnswer o i (λ u. scanOf n (i + 1) (drop u s)) .place ≡ i + suc n)
     go (Word w u) p ih f = (ap suc (ih u f .0), omega (arith, ih u f .1))
-    go (Bad x) p ih f = absurd (omega arith)
+    go (RefusedWith x) p ih f = absurd (omega arith)
 
 module _ (s : List ℕ) (room : ℕ) where
   pub read-short : length s < 2 → refusal Short 0 ≡ readAnswer s room

@@ -13,7 +13,7 @@ use Rattle.rules.specs.declared.Machine.{Machine}
 use Rattle.rules.specs.declared.Fields.{Fields}
 use Rattle.rules.specs.declared.Answer.{Answer}
 use Rattle.rules.specs.declared.One.{One}
-use Rattle.rules.specs.declared.One.the-variants.{Word, Bad}
+use Rattle.rules.specs.declared.One.the-variants.{Word, RefusedWith}
 use Rattle.rules.specs.declared.Ending.{Ending}
 use Rattle.rules.specs.declared.Effect.{Effect}
 use Rattle.rules.specs.declared.Effect.the-variants.{Go, Put, Cell, Order, Probe, End, Wait}
@@ -85,7 +85,7 @@ judge-small x f =
 
 abbrev SmallOne : One → Type 0
 SmallOne (Word w u) = Unit {0}
-SmallOne (Bad x) = x < 2 ^ 8
+SmallOne (RefusedWith x) = x < 2 ^ 8
 
 one-small : (s : List ℕ) → SmallOne (oneOf s)
 unfolding oneOf oneMap oneFields
@@ -106,7 +106,7 @@ scan-bound (suc n) i m s h = by (oneOf s) (one-small s) (λ u. scan-bound n (i +
   where
     by : (o : One) → SmallOne o → ((u : ℕ) → Bounded m m (scanOf n (i + 1) (drop u s))) → Bounded m m (thenAnswer o i (λ u. scanOf n (i + 1) (drop u s)))
     by (Word w u) q go = go u
-    by (Bad x) q go = record { number = q; place = omega arith; taken = λ _. omega arith }
+    by (RefusedWith x) q go = record { number = q; place = omega arith; taken = λ _. omega arith }
 
 pub read-bound : (s : List ℕ) (room : ℕ) → Bounded mostInstructions room (readAnswer s room)
 unfolding readAnswer

@@ -11,7 +11,7 @@ use lib.Seq.{drop-cons, drop-at, getD-at, getD-drop, getD-append-add}
 use lib.Dec.{eqb, ltb}
 use borrow.Author.Tests.{ne-eqb, eq-eqb, eqb-true, le-ltb, ltb-false}
 use Rattle.rules.specs.declared.One.{One}
-use Rattle.rules.specs.declared.One.the-variants.{Word, Bad}
+use Rattle.rules.specs.declared.One.the-variants.{Word, RefusedWith}
 use Rattle.rules.specs.declared.Answer.{Answer}
 use Rattle.rules.specs.declared.Fields.{Fields}
 use Rattle.rules.specs.Names.{mostInstructions, topWord, answer}
@@ -296,7 +296,7 @@ write-back (suc n) i s B e =
         let w1 = one-front s w u B eo in
         let r = ih u f in
         (rw (r .0) (sym (w1 .0)), elim [ zero ↦ λ h. w1 .1 | suc j ↦ λ h. r .1 j (omega arith) ])
-    go (Bad x) eo p ih f = absurd (omega arith)
+    go (RefusedWith x) eo p ih f = absurd (omega arith)
 
 routine-is : (ws s : List ℕ) → bytesOf ws ≡ s → routineOf ws ≡ length ws % 256 ∷ length ws / 256 ∷ s
 unfolding routineOf

@@ -1,6 +1,6 @@
 -- A routine's bytes: what reading and writing answer and leave.
 use Rattle.rules.specs.Kit.{ℕ, zero, suc, _+_, _*_, _/_, _%_, min, not, cond, List, [], _∷_, _++_, length, getD, drop, ltb, eqb}
-use Rattle.rules.specs.Types.{Fields, Answer, One, Word, Bad, Taken, Short, Foreign, Oversize, Trailing, SmallOutput}
+use Rattle.rules.specs.Types.{Fields, Answer, One, Word, RefusedWith, Taken, Short, Foreign, Oversize, Trailing, SmallOutput}
 use Rattle.rules.specs.Names.{mostInstructions, numberOf, answer, refusal, outputOf, roomFor, first}
 use Rattle.rules.specs.Words.{judgeOf, judgeWord, firstRefused, fieldsOf, packFields}
 
@@ -40,27 +40,27 @@ fieldsAt m s =
     }
 
 -- an instruction, or its refusal x
-abbrev pub orBad : ℕ → One → One
-orBad x o = cond (eqb x 0) o (Bad x)
+abbrev pub orRefused : ℕ → One → One
+orRefused x o = cond (eqb x 0) o (RefusedWith x)
 
 -- 3, 2, 4; a present field that is 0, which is foreign, makes the map another than the fields'
 unfoldable pub oneFields : ℕ → Fields → One
-oneFields m f = orBad (judgeOf (not (eqb m (mapOf f))) f) (Word (packFields f) (sizeOf m))
+oneFields m f = orRefused (judgeOf (not (eqb m (mapOf f))) f) (Word (packFields f) (sizeOf m))
 
 -- map 2, then 1
 unfoldable pub oneMap : ℕ → List ℕ → One
 oneMap m s =
-    cond (ltb 63 m) (Bad (numberOf Foreign))
-    (cond (ltb (length s) (sizeOf m)) (Bad (numberOf Short)) (oneFields m (fieldsAt m s)))
+    cond (ltb 63 m) (RefusedWith (numberOf Foreign))
+    (cond (ltb (length s) (sizeOf m)) (RefusedWith (numberOf Short)) (oneFields m (fieldsAt m s)))
 
 -- the instruction at the front of s; a missing map byte is 1
 unfoldable pub oneOf : List ℕ → One
-oneOf s = cond (eqb (length s) 0) (Bad (numberOf Short)) (oneMap (getD s 0 0) s)
+oneOf s = cond (eqb (length s) 0) (RefusedWith (numberOf Short)) (oneMap (getD s 0 0) s)
 
 -- the answer for what follows an instruction's bytes, or the instruction's own refusal at place i
 abbrev pub thenAnswer : One → ℕ → (ℕ → Answer) → Answer
 thenAnswer (Word w u) i go = go u
-thenAnswer (Bad x) i go = answer x i
+thenAnswer (RefusedWith x) i go = answer x i
 
 -- n instructions from s on, the first of them at place i, then 6
 unfoldable pub scanOf : ℕ → ℕ → List ℕ → Answer
@@ -70,7 +70,7 @@ scanOf (suc n) i s = thenAnswer (oneOf s) i (λ u. scanOf n (i + 1) (drop u s))
 -- an instruction's word and the words of what follows its bytes, or none where it is refused
 abbrev pub thenWords : One → (ℕ → List ℕ) → List ℕ
 thenWords (Word w u) go = w ∷ go u
-thenWords (Bad x) go = []
+thenWords (RefusedWith x) go = []
 
 -- the words of n instructions from s on
 unfoldable pub wordsOf : ℕ → List ℕ → List ℕ

@@ -166,7 +166,7 @@ statusAfter Refused = Running
 -- any other answers 20, 21, 22 or 26 exactly where its record has ended, stopped, faulted or strayed
 pub record EndingLaws (lay : Layout) (m : Machine) (mem log : List ℕ) (r : Ran) : Type 0 where
   pub refused : endingNumber (r .outcome .answer .ending) ≡ numberOf BadLayout → fits lay mem ≡ false
-  pub unfit : fits lay mem ≡ false → r ≡ ranOf (outcomeOf m Refused 0 0 0) mem log
+  pub refuses : fits lay mem ≡ false → r ≡ ranOf (outcomeOf m Refused 0 0 0) mem log
   pub status : fits lay mem ≡ true → r .outcome .machine .status ≡ statusAfter (r .outcome .answer .ending)
 
 abbrev pub Endings : Type 0

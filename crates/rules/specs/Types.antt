@@ -15,7 +15,7 @@ pub use Rattle.rules.specs.declared.Refusal.{Refusal}
 pub use Rattle.rules.specs.declared.Refusal.the-variants.{Taken, Short, Foreign, UnknownKind, OffRange, Oversize, Trailing, BadLayout, BadLanding, SmallOutput, BadPolicy, BadBundle, BadCount, BadBase, BadLandings, TooManyStates, BadDrawing, BadPair, NotForward}
 pub use Rattle.rules.specs.declared.Answer.{Answer}
 pub use Rattle.rules.specs.declared.One.{One}
-pub use Rattle.rules.specs.declared.One.the-variants.{Word, Bad}
+pub use Rattle.rules.specs.declared.One.the-variants.{Word, RefusedWith}
 pub use Rattle.rules.specs.declared.Ending.{Ending}
 pub use Rattle.rules.specs.declared.Ending.the-variants.{Done, NoArrow, Fault, LogFull, Silent, Spent, NoLanding, Refused}
 pub use Rattle.rules.specs.declared.RunAnswer.{RunAnswer}

@@ -356,7 +356,7 @@ impl Answer {
 // One instruction read: its word and the bytes that it took, or the refusal's number.
 pub enum One {
     Word(u64, usize),
-    Bad(u8),
+    RefusedWith(u8),
 }
 
 // How a run ends; Refused where its layout or memory is refused.

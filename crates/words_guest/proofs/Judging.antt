@@ -67,9 +67,9 @@ clean-judged w r f e = sym (eqb-true (judgeWord w) 0 (sym f ∙ e))
 
 -- ---- the refusal of a word among n
 
-pub at-bad : (n w x : ℕ) → x ≡ judgeWord w → (x ≡ 0 → ⊥) → x ≡ judgeAt n w
+pub at-refused : (n w x : ℕ) → x ≡ judgeWord w → (x ≡ 0 → ⊥) → x ≡ judgeAt n w
 unfolding judgeAt
-at-bad n w x e h = rw (← e, ne-eqb x 0 h)
+at-refused n w x e h = rw (← e, ne-eqb x 0 h)
 
 -- its kind, and where it leads if it is a GOIF
 module _ (n w k v : ℕ) (ek : k ≡ kindOf w) (ev : v ≡ vOf w) where
@@ -81,10 +81,10 @@ module _ (n w k v : ℕ) (ek : k ≡ kindOf w) (ev : v ≡ vOf w) where
     unfolding judgeAt
     at-landing h = rw (← e, ← ek, ← ev, eq-eqb x 0 z, h)
 
-    pub at-good : beyond ≡ false → numberOf Taken ≡ judgeAt n w
+    pub at-taken : beyond ≡ false → numberOf Taken ≡ judgeAt n w
     unfolding judgeAt
-    at-good h = rw (← e, ← ek, ← ev, eq-eqb x 0 z, h)
+    at-taken h = rw (← e, ← ek, ← ev, eq-eqb x 0 z, h)
 
   -- a clean word, and no landing past the words
   pub clean-at : (r : Bool) → r ≡ eqb (judgeWord w) 0 → (r && not beyond) ≡ true → numberOf Taken ≡ judgeAt n w
-  clean-at r f t = let u = both r (not beyond) t in at-good 0 (clean-judged w r f (u .0)) refl (not-true beyond (u .1))
+  clean-at r f t = let u = both r (not beyond) t in at-taken 0 (clean-judged w r f (u .0)) refl (not-true beyond (u .1))

@@ -1,5 +1,5 @@
 use borrow.Author.Needs.{needs}
-use Rattle.rules.proofs.Bytes.{fields-bad}
+use Rattle.rules.proofs.Bytes.{fields-refused}
 use Rattle.codec_careful.proofs.Reading.{fields-good}
 use Rattle.codec_careful.proofs.judge_fields.Statement.{statement}
 use Rattle.codec_careful.proofs.judge_fields.Tie as tie
@@ -12,4 +12,4 @@ judge-fields-spec =
     (λ c κs. search needs)
     (λ c κs. search needs)
     (λ c. search (fields-good, needs))
-    (λ c. search (fields-bad, needs)))
+    (λ c. search (fields-refused, needs)))

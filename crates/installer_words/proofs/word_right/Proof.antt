@@ -3,7 +3,7 @@ use borrow.Author.Needs.{needs}
 use native.Mathlib.Omega.{arith}
 use lib.Bits.{and-le-r}
 use Rattle.installer_words.specs.Words.{wordBytes}
-use Rattle.installer_words.proofs.Words.{fit, unfit, fill, together}
+use Rattle.installer_words.proofs.Words.{fit, states-wrong, fill, together}
 use Rattle.installer_words.proofs.word_right.Statement.{statement}
 use Rattle.installer_words.proofs.word_right.Tie as tie
 
@@ -12,7 +12,7 @@ word-right-spec =
     tie.close
     (tie.spec
     (λ c κs. search needs)
-    (λ c. unfit _ _ _ (c .before .states-right .ensures) (c .if1 .taken))
+    (λ c. states-wrong _ _ _ (c .before .states-right .ensures) (c .if1 .taken))
     (λ c. let f = fit (c .before .before .args .states) _ (c .before .states-right .ensures) (c .if1 .left) in omega (arith, f .1))
     (λ c. search needs)
     (λ c. let f = fit (c .before .before .args .states) _ (c .before .states-right .ensures) (c .if1 .left) in record { fits = omega (arith, f .0, and-le-r (c .before .before .args .w) (fill 127 wordBytes)) })

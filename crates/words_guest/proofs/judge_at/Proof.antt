@@ -1,5 +1,5 @@
 use borrow.Author.Needs.{needs}
-use Rattle.words_guest.proofs.Judging.{clean-at, at-bad, at-landing, at-good}
+use Rattle.words_guest.proofs.Judging.{clean-at, at-refused, at-landing, at-taken}
 use Rattle.words_guest.proofs.judge_at.Statement.{statement}
 use Rattle.words_guest.proofs.judge_at.Tie as tie
 
@@ -12,6 +12,6 @@ judge-at-spec =
     (λ c κs. search needs)
     (λ c. search (clean-at, needs))
     (λ c κs. search needs)
-    (λ c. search (at-bad, needs))
+    (λ c. search (at-refused, needs))
     (λ c. search (at-landing, needs))
-    (λ c. search (at-good, needs)))
+    (λ c. search (at-taken, needs)))
