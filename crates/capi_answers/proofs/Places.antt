@@ -2,7 +2,7 @@
 use Prim.Native.Nat.{ℕ, _^_, _<_}
 use mathlib.Core.Path.{_≡_, sym, subst}
 use native.Mathlib.Omega.{arith}
-use Rattle.rules.specs.declared.Answer.{Answer}
+use Rattle.names.specs.declared.Answer.{Answer}
 use Rattle.rules.proofs.Counts.{Bounded}
 
 pub narrow : {m r : ℕ} (a b : Answer) → a ≡ b → Bounded m r b → m < 2 ^ 32 → a .place < 2 ^ 32

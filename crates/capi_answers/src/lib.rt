@@ -2,8 +2,8 @@
 use capi_numbers::ANSWER;
 use capi_numbers::MADE;
 use capi_numbers::RUN_ANSWER;
-use rules::Answer;
-use rules::RunAnswer;
+use names::Answer;
+use names::RunAnswer;
 ghost use mathlib.Core.Path.{_≡_};
 ghost use Prim.Native.Nat.{_<_, _^_};
 ghost use Rattle.capi_numbers.specs.Numbers.{answerTo, runAnswerTo, madeTo};

@@ -3,8 +3,8 @@ use Prim.Native.Nat.{ℕ}
 use mathlib.Core.Path.{_≡_, _∙_, ap}
 use mathlib.Core.List.{List}
 use lib.ListN.{length}
-use Rattle.rules.specs.declared.Layout.{Layout}
-use Rattle.rules.specs.declared.Answer.{Answer}
+use Rattle.names.specs.declared.Layout.{Layout}
+use Rattle.names.specs.declared.Answer.{Answer}
 use Rattle.rules.specs.Bundles.{rewriteAnswer, rewriteOutput, checkAnswer}
 use Rattle.capi_numbers.specs.Numbers.{layoutFrom, answerTo}
 use Rattle.capi_numbers.specs.Hosts.{checkFor}

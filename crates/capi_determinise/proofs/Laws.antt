@@ -8,7 +8,7 @@ use lib.Dec.{ltb}
 use lib.ListN.{length}
 use lib.Pow.{pow-mono}
 use borrow.Author.Tests.{ltb-false, lt-ltb, le-ltb}
-use Rattle.rules.specs.Names.{mostStates}
+use Rattle.names.specs.Names.{mostStates}
 use Rattle.policy_exploration.specs.declared.Made.{Made}
 use Rattle.policy_exploration.proofs.Reach.{place-most}
 use Rattle.policy_determinise.specs.Drawings.{drawingOf, setAfter, drawingRight, determiniseOf, determiniseTable}

@@ -3,7 +3,7 @@ use Prim.Native.Nat.{ℕ, _^_}
 use mathlib.Core.Bool.{cond}
 use mathlib.Core.List.{List}
 use lib.Dec.{ltb}
-use Rattle.rules.specs.Names.{mostStates}
+use Rattle.names.specs.Names.{mostStates}
 use Rattle.capi_numbers.specs.Numbers.{madeTo}
 use Rattle.policy_exploration.specs.declared.Made.{Made}
 

@@ -5,8 +5,8 @@ use mathlib.Core.Bool.{Bool, true, false}
 use mathlib.Core.List.{List, [], map}
 use lib.Dec.{eqb}
 use lib.ListN.{length}
-use Rattle.rules.specs.declared.Layout.{Layout}
-use Rattle.rules.specs.Names.{guestRegisters}
+use Rattle.names.specs.declared.Layout.{Layout}
+use Rattle.names.specs.Names.{guestRegisters}
 use Rattle.rules.specs.Policies.{Policy}
 use Rattle.rules.specs.Machines.{installAnswer, installMemory}
 use Rattle.rules.specs.Runs.{Given, eachRun, Carried as MachineCarried}

@@ -3,8 +3,8 @@ use Prim.Native.Nat.{ℕ, _^_, _<_}
 use mathlib.Core.Path.{_≡_, sym, ap, subst}
 use mathlib.Core.List.{List}
 use native.Mathlib.Omega.{arith}
-use Rattle.rules.specs.declared.Layout.{Layout}
-use Rattle.rules.specs.Names.{guestRegisters}
+use Rattle.names.specs.declared.Layout.{Layout}
+use Rattle.names.specs.Names.{guestRegisters}
 use Rattle.rules.specs.Machines.{ranOf}
 use Rattle.capi_numbers.specs.Numbers.{layoutFrom, numbersAfter}
 use Rattle.capi_numbers.specs.Hosts.{hostRan, hostLeft}

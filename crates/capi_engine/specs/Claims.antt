@@ -3,7 +3,7 @@ use Prim.Native.Nat.{ℕ, _+_}
 use mathlib.Core.Path.{_≡_}
 use mathlib.Core.List.{List, [], map}
 use lib.ListN.{replicate}
-use Rattle.rules.specs.Names.{guestRegisters}
+use Rattle.names.specs.Names.{guestRegisters}
 use Rattle.rules.specs.Policies.{Policy}
 use Rattle.rules.specs.Runs.{Given}
 use Rattle.capi_numbers.specs.Numbers.{layoutFrom, behind}

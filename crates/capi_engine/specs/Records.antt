@@ -1,7 +1,7 @@
 -- The numbers in which a C host holds the engine's record and its answer, and what it holds after a call.
 use Prim.Native.Nat.{ℕ}
 use mathlib.Core.List.{List, [], _∷_}
-use Rattle.rules.specs.Names.{guestRegisters}
+use Rattle.names.specs.Names.{guestRegisters}
 use Rattle.capi_numbers.specs.Numbers.{layoutFrom, recordTo, recordFrom}
 use Rattle.capi_numbers.specs.Hosts.{HostRan, hostRan, hostLeft}
 use Rattle.engine_rules.specs.declared.Engine.{Engine}

@@ -3,8 +3,8 @@ use Prim.Native.Nat.{ℕ, _^_, _<_}
 use mathlib.Core.Path.{_≡_, _∙_, ap}
 use mathlib.Core.List.{List}
 use lib.Dec.{lit<}
-use Rattle.rules.specs.declared.Layout.{Layout}
-use Rattle.rules.specs.declared.Answer.{Answer}
+use Rattle.names.specs.declared.Layout.{Layout}
+use Rattle.names.specs.declared.Answer.{Answer}
 use Rattle.capi_numbers.specs.Numbers.{layoutFrom, answerTo}
 use Rattle.capi_answers.proofs.Places.{narrow}
 use Rattle.forward_rules.specs.Forward.{forwardAnswer, checkForwardAnswer}

@@ -3,8 +3,8 @@ use Prim.Native.Nat.{ℕ}
 use mathlib.Core.Path.{_≡_, ap}
 use mathlib.Core.List.{List}
 use lib.ListN.{length}
-use Rattle.rules.specs.declared.Layout.{Layout}
-use Rattle.rules.specs.declared.Installed.{Installed}
+use Rattle.names.specs.declared.Layout.{Layout}
+use Rattle.names.specs.declared.Installed.{Installed}
 use Rattle.rules.specs.Policies.{Policy}
 use Rattle.rules.specs.Machines.{installMemory, installOf}
 use Rattle.sandbox_rules.specs.Loading.{loadCommands, loadMemory, loadOf}

@@ -5,7 +5,7 @@ use capi_numbers::LAYOUT;
 use capi_numbers::RECORD;
 use capi_numbers::layout_of;
 use capi_numbers::record_of;
-use rules::PolicyNumbers;
+use names::PolicyNumbers;
 ghost use mathlib.Core.Path.{_≡_};
 ghost use Rattle.rules.specs.Policies.{policyOf};
 ghost use Rattle.installer_words.specs.Words.{wordRight};

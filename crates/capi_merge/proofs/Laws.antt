@@ -6,7 +6,7 @@ use mathlib.Core.List.{List, [], _∷_, _++_, append-nil}
 use native.Mathlib.Omega.{arith}
 use lib.ListN.{length, getD, drop, replicate}
 use lib.Seq.{sets, sets-eq}
-use Rattle.rules.specs.Names.{orders}
+use Rattle.names.specs.Names.{orders}
 use Rattle.rules.specs.Policies.{Policy, policyOf}
 use Rattle.capi_numbers.specs.Numbers.{answerTo}
 use Rattle.policy_exploration.proofs.Reach.{place-most}

@@ -2,7 +2,7 @@
 use Prim.Native.Nat.{ℕ}
 use mathlib.Core.List.{List, [], _∷_}
 use lib.ListN.{length, getD}
-use Rattle.rules.specs.Names.{orders}
+use Rattle.names.specs.Names.{orders}
 use Rattle.rules.specs.Policies.{Policy, policyOf}
 use Rattle.capi_numbers.specs.Numbers.{numbersFrom, answerTo}
 use Rattle.policy_merge.specs.declared.Merged.{Merged}

@@ -2,9 +2,9 @@
 use capi_answers::answer_of;
 use capi_numbers::ANSWER;
 use capi_numbers::ceilings_from;
+use names::PolicyNumbers;
 use policy_merge::Merged;
 use policy_merge::Side;
-use rules::PolicyNumbers;
 use words_cells::store_cells;
 ghost use mathlib.Core.Path.{_≡_};
 ghost use Rattle.capi_merge.specs.Numbers.{sideFrom, mergedTo, hostMerged, mergeFor};

@@ -4,13 +4,14 @@ use mathlib.Core.Path.{_≡_, refl, _∙_, ap, subst}
 use mathlib.Core.Bool.{Bool, true, false}
 use mathlib.Core.List.{List, [], _∷_, map}
 use lib.ListN.{length}
-use Rattle.rules.specs.declared.Layout.{Layout}
-use Rattle.rules.specs.declared.Ending.{Ending}
-use Rattle.rules.specs.declared.Effect.{Effect}
-use Rattle.rules.specs.Names.{registers}
+use Rattle.names.specs.declared.Layout.{Layout}
+use Rattle.names.specs.declared.Ending.{Ending}
+use Rattle.names.specs.declared.Effect.{Effect}
+use Rattle.names.specs.Names.{registers}
 use Rattle.rules.specs.Policies.{Policy}
 use Rattle.rules.specs.Bundles.{checkAnswer}
-use Rattle.rules.specs.Machines.{machineOf, State, startOf, fits, runOf, installAnswer, installMachine, installMemory}
+use Rattle.rules.specs.Machines.{State, startOf, fits, runOf, installAnswer, installMachine, installMemory}
+use Rattle.names.specs.Records.{machineOf}
 use Rattle.rules.specs.Runs.{Given, Carried, carriedOf, atFirst, runOn, afterTaken, afterRun, runAs, Lends, eachRun}
 use Rattle.rules.proofs.Loops.{Loop, keeps, machineLoop}
 use Rattle.rules.proofs.Counts.{apply-regs}

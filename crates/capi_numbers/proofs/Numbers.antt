@@ -9,11 +9,11 @@ use borrow.Author.Tests.{lt-ltb, le-ltb, ltb-true}
 use lib.Dec.{ltb}
 use lib.ListN.{length, getD, set, take, drop, replicate, take-append-drop, length-append, length-drop, length-set}
 use lib.Seq.{sets, length-sets, drop-cons, length-take-le, take-all, take-at, set-at, getD-at, getD-append-add}
-use Rattle.rules.specs.declared.Layout.{Layout}
-use Rattle.rules.specs.declared.Status.{Status}
-use Rattle.rules.specs.declared.Status.the-variants.{Running, Ended, Stopped, Faulted, Strayed}
-use Rattle.rules.specs.Names.{orders}
-use Rattle.rules.specs.Layouts.{layoutOf}
+use Rattle.names.specs.declared.Layout.{Layout}
+use Rattle.names.specs.declared.Status.{Status}
+use Rattle.names.specs.declared.Status.the-variants.{Running, Ended, Stopped, Faulted, Strayed}
+use Rattle.names.specs.Names.{orders}
+use Rattle.names.specs.Records.{layoutOf}
 use Rattle.rules.proofs.Bools.{cond-ind}
 use Rattle.words_cells.proofs.Storing.{store-front, store-all}
 use Rattle.capi_numbers.specs.Numbers.{numbersFrom, layoutFrom, statuses, statusFrom, statusNumber, behind, recordTo, statusIn, recordFrom, statusKnown, numbersAfter}

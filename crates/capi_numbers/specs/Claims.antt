@@ -4,7 +4,7 @@ use mathlib.Core.Path.{_≡_}
 use mathlib.Core.Bool.{true}
 use mathlib.Core.List.{List, [], _∷_, map}
 use lib.ListN.{length, getD, take}
-use Rattle.rules.specs.Names.{registers}
+use Rattle.names.specs.Names.{registers}
 use Rattle.rules.specs.Policies.{Policy}
 use Rattle.rules.specs.Runs.{Given, carriedOf, Lends, allRuns}
 use Rattle.rules.specs.Claims.{Isolated}

@@ -4,15 +4,14 @@ use mathlib.Core.Bool.{Bool, cond}
 use mathlib.Core.List.{List, [], _∷_, _++_}
 use lib.ListN.{getD, take}
 use lib.Dec.{eqb, ltb}
-use Rattle.rules.specs.declared.Layout.{Layout}
-use Rattle.rules.specs.declared.Machine.{Machine}
-use Rattle.rules.specs.declared.Answer.{Answer}
-use Rattle.rules.specs.declared.RunAnswer.{RunAnswer}
-use Rattle.rules.specs.declared.Status.{Status}
-use Rattle.rules.specs.declared.Status.the-variants.{Running, Ended, Stopped, Faulted, Strayed}
-use Rattle.rules.specs.Names.{orders, registers, endingNumber, first}
-use Rattle.rules.specs.Layouts.{layoutOf}
-use Rattle.rules.specs.Machines.{machineOf}
+use Rattle.names.specs.declared.Layout.{Layout}
+use Rattle.names.specs.declared.Machine.{Machine}
+use Rattle.names.specs.declared.Answer.{Answer}
+use Rattle.names.specs.declared.RunAnswer.{RunAnswer}
+use Rattle.names.specs.declared.Status.{Status}
+use Rattle.names.specs.declared.Status.the-variants.{Running, Ended, Stopped, Faulted, Strayed}
+use Rattle.names.specs.Names.{orders, registers, endingNumber, first}
+use Rattle.names.specs.Records.{layoutOf, machineOf}
 
 -- n numbers from place i on
 abbrev pub numbersFrom : ℕ → ℕ → List ℕ → List ℕ

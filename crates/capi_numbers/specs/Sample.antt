@@ -4,7 +4,7 @@ use Prim.Native.Nat.{ℕ}
 use mathlib.Core.Path.{_≡_}
 use mathlib.Core.List.{List, [], _∷_, _++_, map}
 use lib.ListN.{set, replicate}
-use Rattle.rules.specs.Names.{orders, topWord}
+use Rattle.names.specs.Names.{orders, topWord}
 use Rattle.rules.specs.Policies.{Policy, policyOf}
 use Rattle.rules.specs.Runs.{Given, Carried, carriedOf, afterRun, Lends}
 use Rattle.capi_numbers.specs.Numbers.{layoutFrom, machineFrom}

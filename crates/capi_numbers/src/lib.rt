@@ -1,13 +1,13 @@
 // The numbers of a C host: layouts and records as arrays of u32, and back.
-use rules::Layout;
-use rules::Machine;
-use rules::PolicyNumbers;
-use rules::Status;
+use names::Layout;
+use names::Machine;
+use names::PolicyNumbers;
+use names::Status;
 use words_cells::store_cells;
 ghost use mathlib.Core.Path.{_≡_};
 ghost use Prim.Native.Nat.{_+_};
 ghost use lib.ListN.{length, take};
-ghost use Rattle.rules.specs.Names.{orders, registers};
+ghost use Rattle.names.specs.Names.{orders, registers};
 ghost use Rattle.capi_numbers.specs.Numbers.{numbersFrom, layoutFrom, statusFrom, statusNumber, behind, recordTo, statusIn, numbersAfter, machineFrom, machineTo};
 
 // How many numbers a layout has, the ceilings behind the others; an answer; a run's answer; a made policy.

@@ -3,10 +3,10 @@ use Prim.Native.Nat.{ℕ, _^_, _<_}
 use mathlib.Core.Path.{_≡_, sym, ap, subst}
 use mathlib.Core.List.{List}
 use native.Mathlib.Omega.{arith}
-use Rattle.rules.specs.declared.Layout.{Layout}
-use Rattle.rules.specs.declared.Machine.{Machine}
-use Rattle.rules.specs.declared.Outcome.{Outcome}
-use Rattle.rules.specs.Names.{registers}
+use Rattle.names.specs.declared.Layout.{Layout}
+use Rattle.names.specs.declared.Machine.{Machine}
+use Rattle.names.specs.declared.Outcome.{Outcome}
+use Rattle.names.specs.Names.{registers}
 use Rattle.rules.specs.Machines.{Ran, ranOf, runOf}
 use Rattle.capi_numbers.specs.Numbers.{layoutFrom, machineFrom, machineTo, numbersAfter, runAnswerTo}
 use Rattle.capi_numbers.specs.Hosts.{HostRan, hostRan, hostLeft, ranTo, runFor, hostPreviewed, previewFor}

@@ -8,11 +8,11 @@ use native.Mathlib.Omega.{arith}
 use lib.Dec.{lit<}
 use lib.ListN.{length, getD, take, drop}
 use lib.Seq.{getD-take, getD-drop}
-use Rattle.rules.specs.declared.Layout.{Layout}
-use Rattle.rules.specs.declared.Instr.{Instr}
-use Rattle.rules.specs.declared.Instr.the-variants.{EVENT}
-use Rattle.rules.specs.declared.Refusal.the-variants.{BadBundle}
-use Rattle.rules.specs.Names.{bundleLength, numberOf, command}
+use Rattle.names.specs.declared.Layout.{Layout}
+use Rattle.names.specs.declared.Instr.{Instr}
+use Rattle.names.specs.declared.Instr.the-variants.{EVENT}
+use Rattle.names.specs.declared.Refusal.the-variants.{BadBundle}
+use Rattle.names.specs.Names.{bundleLength, numberOf, command}
 use Rattle.rules.specs.Words.{kindOf, vOf, packOf}
 use Rattle.rules.specs.Commands.{wordOf}
 use Rattle.rules.specs.Bundles.{shapeOf, readOff, bundleAt, shapedAt, passesAt, checkFrom, checkAnswer}

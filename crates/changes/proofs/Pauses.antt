@@ -4,9 +4,9 @@ use mathlib.Core.Bool.{Bool, true, false, cond}
 use native.Mathlib.Omega.{arith}
 use borrow.Author.Tests.{ltb-true, ltb-false, eqb-true, lt-ltb, le-ltb, eq-eqb}
 use lib.Dec.{eqb, ltb}
-use Rattle.rules.specs.declared.Effect.the-variants.{Order, Probe, Wait}
-use Rattle.rules.specs.declared.Ending.the-variants.{LogFull, Silent}
-use Rattle.rules.specs.Names.{orders}
+use Rattle.names.specs.declared.Effect.the-variants.{Order, Probe, Wait}
+use Rattle.names.specs.declared.Ending.the-variants.{LogFull, Silent}
+use Rattle.names.specs.Names.{orders}
 use Rattle.rules.specs.Machines.{effectOf}
 use Rattle.changes.specs.Claims.{SilentFirst}
 

@@ -8,10 +8,10 @@ use lib.Count.{ones, ones-le}
 use lib.Dec.{ltb, eqb}
 use lib.ListN.{length, getD}
 use borrow.Author.Tests.{leb-true, eqb-true}
-use Rattle.rules.specs.declared.Layout.{Layout}
-use Rattle.rules.specs.declared.Answer.{Answer}
-use Rattle.rules.specs.declared.Refusal.the-variants.{BadBase, BadBundle, BadCount, BadLayout, Taken}
-use Rattle.rules.specs.Names.{mostBundles, mostCommands, bundleLength, baseBound, numberOf, answer, refusal}
+use Rattle.names.specs.declared.Layout.{Layout}
+use Rattle.names.specs.declared.Answer.{Answer}
+use Rattle.names.specs.declared.Refusal.the-variants.{BadBase, BadBundle, BadCount, BadLayout, Taken}
+use Rattle.names.specs.Names.{mostBundles, mostCommands, bundleLength, baseBound, numberOf, answer, refusal}
 use Rattle.rules.specs.Layouts.{rightLayout}
 use Rattle.rules.specs.Words.{kindOf}
 use Rattle.rules.specs.Bundles.{addressOf, readOff, bundleAt, isBundle, shapedAt, passesAt, checkFrom, baseRight, countRight, checkAnswer}

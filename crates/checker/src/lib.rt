@@ -1,15 +1,15 @@
 // The check of a list of commands: bundles of the known shapes, the last of them HALT. It takes lists of any producer.
-use rules::Answer;
-use rules::Bundle;
-use rules::Layout;
-use rules::Refusal;
+use names::Answer;
+use names::Bundle;
+use names::Layout;
+use names::Refusal;
 use words::count::base_right;
 use words::count::count_right;
 use words::layout::right;
 ghost use mathlib.Core.Path.{_≡_};
 ghost use Prim.Native.Nat.{_*_, _≤_, _<_, _^_};
 ghost use lib.ListN.{length};
-ghost use Rattle.rules.specs.Names.{mostBundles, bundleLength};
+ghost use Rattle.names.specs.Names.{mostBundles, bundleLength};
 ghost use Rattle.rules.specs.Bundles.{addressOf, passesAt, checkFrom, checkAnswer};
 
 // Whether bundle h of n has a shape, and is a HALT if it is the last.

@@ -5,11 +5,11 @@ use Prim.Native.Nat.{ℕ, _+_, _-_, _%_, _^_, _≤_, _<_}
 use native.Mathlib.Omega.{arith}
 use lib.Dec.{ltb, leb, eqb}
 use borrow.Author.Tests.{lt-ltb, le-leb, eqb-true, eq-eqb, ne-eqb}
-use Rattle.rules.specs.declared.Layout.{Layout}
-use Rattle.rules.specs.declared.Fields.{Fields}
-use Rattle.rules.specs.declared.Instr.{Instr}
-use Rattle.rules.specs.declared.Instr.the-variants.{PLAIN, GOIF, GOX}
-use Rattle.rules.specs.Names.{bundleLength, bundleShift, guestRegisters, hidden, topCondition, events, guest, command, plainStep}
+use Rattle.names.specs.declared.Layout.{Layout}
+use Rattle.names.specs.declared.Fields.{Fields}
+use Rattle.names.specs.declared.Instr.{Instr}
+use Rattle.names.specs.declared.Instr.the-variants.{PLAIN, GOIF, GOX}
+use Rattle.names.specs.Names.{bundleLength, bundleShift, guestRegisters, hidden, topCondition, events, guest, command, plainStep}
 use Rattle.rules.specs.Words.{kindOf, dOf, aOf, bOf, cOf, vOf, zeroOf, fieldsOf, packOf, packFields}
 use Rattle.rules.specs.Commands.{limitsOf, isCommand, wordOf}
 use Rattle.rules.specs.Bundles.{addressOf, shapeOf, valid, isBundle}

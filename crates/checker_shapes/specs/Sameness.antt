@@ -2,10 +2,10 @@
 use Prim.Native.Nat.{ℕ, _-_, _/_}
 use mathlib.Core.Bool.{Bool, _&&_, _||_, cond}
 use lib.Dec.{ltb, eqb}
-use Rattle.rules.specs.declared.Layout.{Layout}
-use Rattle.rules.specs.declared.Instr.{Instr}
-use Rattle.rules.specs.declared.Instr.the-variants.{LOAD, STORE}
-use Rattle.rules.specs.Names.{bundleLength, guestRegisters, hidden, events, command}
+use Rattle.names.specs.declared.Layout.{Layout}
+use Rattle.names.specs.declared.Instr.{Instr}
+use Rattle.names.specs.declared.Instr.the-variants.{LOAD, STORE}
+use Rattle.names.specs.Names.{bundleLength, guestRegisters, hidden, events, command}
 use Rattle.rules.specs.Words.{kindOf, dOf, aOf, bOf, vOf, packOf}
 use Rattle.rules.specs.Commands.{isCommand}
 use Rattle.rules.specs.Bundles.{addressOf, readOff, isBundle}

@@ -1,8 +1,8 @@
 // Whether four words are a bundle of one of the known shapes.
 mod shape;
 
-use rules::Command;
-use rules::Layout;
+use names::Command;
+use names::Layout;
 use shape::accesses;
 use shape::goes;
 use shape::goes_if;
@@ -12,7 +12,7 @@ use shape::sends;
 use words::field;
 ghost use mathlib.Core.Path.{_≡_};
 ghost use Prim.Native.Nat.{_≤_, _<_, _^_};
-ghost use Rattle.rules.specs.Names.{mostBundles};
+ghost use Rattle.names.specs.Names.{mostBundles};
 ghost use Rattle.rules.specs.Bundles.{addressOf};
 ghost use Rattle.checker_shapes.specs.Sameness.{passesOf};
 

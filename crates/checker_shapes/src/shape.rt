@@ -1,9 +1,9 @@
 // The shapes of a bundle. Whole words are compared; no bundle is built, and no instruction.
-use rules::Bundle;
-use rules::Command;
-use rules::Layout;
-use rules::Machine;
-use rules::PolicyNumbers;
+use names::Bundle;
+use names::Command;
+use names::Layout;
+use names::Machine;
+use names::PolicyNumbers;
 use words::command::is_command;
 use words::field;
 use words::guest::TOP_CONDITION;
@@ -12,8 +12,8 @@ use words::guest::word;
 ghost use mathlib.Core.Path.{_≡_};
 ghost use Prim.Native.Nat.{_≤_, _<_, _^_};
 ghost use lib.Dec.{eqb};
-ghost use Rattle.rules.specs.declared.Instr.the-variants.{GOX};
-ghost use Rattle.rules.specs.Names.{command};
+ghost use Rattle.names.specs.declared.Instr.the-variants.{GOX};
+ghost use Rattle.names.specs.Names.{command};
 ghost use Rattle.rules.specs.Words.{aOf, bOf, cOf, packOf};
 ghost use Rattle.rules.specs.Bundles.{addressOf, isBundle};
 ghost use Rattle.checker_shapes.specs.Sameness.{alone, plainWords, masksOf, loadOf, storeOf, accessOf, landsOf, goifWords, eventWords};

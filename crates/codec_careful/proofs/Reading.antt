@@ -7,8 +7,8 @@ use native.Mathlib.Omega.{arith}
 use native.Mathlib.Nat.{zero-mul, one-mul, mul-one}
 use lib.ListN.{getD}
 use lib.Dec.{eqb}
-use Rattle.rules.specs.declared.Fields.{Fields}
-use Rattle.rules.specs.declared.One.the-variants.{Word}
+use Rattle.names.specs.declared.Fields.{Fields}
+use Rattle.names.specs.declared.One.the-variants.{Word}
 use Rattle.rules.specs.Words.{judgeOf, packFields}
 use Rattle.words_fields.specs.Cut.{cutOf}
 use Rattle.rules.specs.Bytes.{byteAt, quadAt, fieldsAt, mapOf, sizeOf, oneFields}

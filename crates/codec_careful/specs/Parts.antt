@@ -1,7 +1,7 @@
 -- Parts of an instruction's bytes, as the code reads them.
 use Prim.Native.Nat.{ℕ, _+_, _/_, _%_}
 use mathlib.Core.List.{List}
-use Rattle.rules.specs.declared.Fields.{Fields}
+use Rattle.names.specs.declared.Fields.{Fields}
 use Rattle.rules.specs.Bytes.{byteAt, quadAt}
 
 -- the fields before b, and those that the rest m of a map announces from the place at on

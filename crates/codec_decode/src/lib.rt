@@ -2,7 +2,7 @@
 use codec_careful::careful;
 use codec_sure::LONGEST;
 use codec_sure::sure;
-use rules::One;
+use names::One;
 ghost use mathlib.Core.Path.{_≡_};
 ghost use Rattle.rules.specs.Bytes.{oneOf};
 

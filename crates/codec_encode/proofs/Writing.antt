@@ -7,7 +7,7 @@ use native.Mathlib.Nat.{add-assoc}
 use native.Mathlib.Numerals.{add-one, towards-suc}
 use lib.ListN.{length, set}
 use lib.Seq.{sets as stores}
-use Rattle.rules.specs.declared.Fields.{Fields}
+use Rattle.names.specs.declared.Fields.{Fields}
 use Rattle.rules.specs.Words.{fieldsOf}
 use Rattle.rules.specs.Bytes.{bitOf, mapOf, byteOut, quadOut, regsOut, fieldsOut, oneOut}
 use Rattle.rules.proofs.Bytes.{byte-none, byte-some, length-byte, quad-none, quad-some, length-two, length-regs, length-fields}

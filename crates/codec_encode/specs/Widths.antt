@@ -1,6 +1,6 @@
 -- The widths of fields in the byte form.
 use Prim.Native.Nat.{ℕ, _+_, _*_, _<_}
-use Rattle.rules.specs.declared.Fields.{Fields}
+use Rattle.names.specs.declared.Fields.{Fields}
 use Rattle.rules.specs.Bytes.{bitOf}
 
 -- how many bytes the fields take, as the code counts them; by `length-fields` it is the length of their bytes

@@ -1,6 +1,6 @@
 // One instruction's word written in bytes.
 use codec_map::map_of;
-use rules::Fields;
+use names::Fields;
 use words::guest::fields;
 ghost use mathlib.Core.Path.{_≡_};
 ghost use mathlib.Core.List.{_++_};

@@ -1,5 +1,5 @@
 // The map of an instruction's fields in its bytes, which reading and writing share.
-use rules::Fields;
+use names::Fields;
 ghost use mathlib.Core.Path.{_≡_};
 ghost use Prim.Native.Nat.{_+_, _*_, _<_};
 ghost use Rattle.rules.specs.Bytes.{bitOf, mapOf, sizeOf};

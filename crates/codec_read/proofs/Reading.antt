@@ -8,11 +8,11 @@ use native.Mathlib.Numerals.{add-one}
 use lib.ListN.{length, take, drop, set, length-drop}
 use lib.Seq.{sets as stores, sets-eq, length-sets, take-all, take-at, length-take-le}
 use borrow.Author.Tests.{eq-eqb, ne-eqb}
-use Rattle.rules.specs.declared.Answer.{Answer}
-use Rattle.rules.specs.declared.One.{One}
-use Rattle.rules.specs.declared.One.the-variants.{Word, RefusedWith}
-use Rattle.rules.specs.declared.Refusal.the-variants.{Taken, Trailing}
-use Rattle.rules.specs.Names.{mostInstructions, numberOf, answer, refusal}
+use Rattle.names.specs.declared.Answer.{Answer}
+use Rattle.names.specs.declared.One.{One}
+use Rattle.names.specs.declared.One.the-variants.{Word, RefusedWith}
+use Rattle.names.specs.declared.Refusal.the-variants.{Taken, Trailing}
+use Rattle.names.specs.Names.{mostInstructions, numberOf, answer, refusal}
 use Rattle.rules.specs.Bytes.{oneOf, scanOf, wordsOf, countOf, wordsIn, readAnswer, readOutput}
 use Rattle.rules.proofs.Refusals.{output-kept, output-written}
 use Rattle.rules.proofs.Bytes.{one-read, read-scan, ReadOk, read-ok}

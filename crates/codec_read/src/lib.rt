@@ -1,16 +1,16 @@
 // A routine's bytes read into words.
 use codec_decode::read_one;
-use rules::Answer;
-use rules::Instr;
-use rules::One;
-use rules::Refusal;
+use names::Answer;
+use names::Instr;
+use names::One;
+use names::Refusal;
 use words_cells::index_of;
 use words_cells::store_words;
 ghost use mathlib.Core.Path.{_≡_};
 ghost use Prim.Native.Nat.{_≤_};
 ghost use lib.ListN.{length};
 ghost use lib.Seq.{sets as stores};
-ghost use Rattle.rules.specs.Names.{mostInstructions};
+ghost use Rattle.names.specs.Names.{mostInstructions};
 ghost use Rattle.rules.specs.Bytes.{scanOf, wordsOf, countOf, wordsIn, readAnswer, readOutput};
 
 // What n instructions from s on answer; their words are stored, up to the first that is refused.

@@ -7,9 +7,9 @@ use native.Mathlib.Omega.{arith}
 use lib.ListN.{length, getD}
 use lib.Dec.{ltb, eqb}
 use borrow.Author.Tests.{eq-eqb, eqb-true, eqb-false, ltb-true}
-use Rattle.rules.specs.declared.Fields.{Fields}
-use Rattle.rules.specs.declared.One.{One}
-use Rattle.rules.specs.declared.One.the-variants.{Word}
+use Rattle.names.specs.declared.Fields.{Fields}
+use Rattle.names.specs.declared.One.{One}
+use Rattle.names.specs.declared.One.the-variants.{Word}
 use Rattle.rules.specs.Words.{judgeOf, judgeWord, packOf}
 use Rattle.rules.specs.Bytes.{bitOf, byteAt, quadAt, fieldsAt, mapOf, sizeOf, oneOf}
 use Rattle.rules.proofs.Bytes.{one-fields, fields-are, fields-word}

@@ -5,8 +5,8 @@ use mathlib.Core.Bool.{Bool, _&&_, not}
 use mathlib.Core.List.{List}
 use lib.ListN.{length, getD}
 use lib.Dec.{eqb}
-use Rattle.rules.specs.declared.One.{One}
-use Rattle.rules.specs.declared.One.the-variants.{Word, RefusedWith}
+use Rattle.names.specs.declared.One.{One}
+use Rattle.names.specs.declared.One.the-variants.{Word, RefusedWith}
 use Rattle.rules.specs.Bytes.{bitOf, byteAt, quadAt, oneOf}
 use Rattle.codec_sure.specs.declared.Part.{Part}
 

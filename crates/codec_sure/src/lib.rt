@@ -1,8 +1,8 @@
 // The common case of reading: an instruction that is taken, with bytes enough after it.
 use codec_bytes::quad;
 use codec_bytes::wide;
-use rules::One;
-use rules::Refusal;
+use names::One;
+use names::Refusal;
 use words::field;
 use words::guest::clean;
 ghost use mathlib.Core.Path.{_≡_};

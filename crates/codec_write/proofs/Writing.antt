@@ -8,10 +8,10 @@ use native.Mathlib.Numerals.{add-one}
 use borrow.Author.Tests.{lt-ltb, le-ltb}
 use lib.ListN.{length, getD, drop, set, length-set, length-append, drop-of-length-le}
 use lib.Seq.{sets as stores, length-sets, drop-cons}
-use Rattle.rules.specs.declared.Answer.{Answer}
-use Rattle.rules.specs.declared.Fields.{Fields}
-use Rattle.rules.specs.declared.Refusal.the-variants.{SmallOutput, Taken}
-use Rattle.rules.specs.Names.{mostInstructions, numberOf, answer, refusal, roomFor}
+use Rattle.names.specs.declared.Answer.{Answer}
+use Rattle.names.specs.declared.Fields.{Fields}
+use Rattle.names.specs.declared.Refusal.the-variants.{SmallOutput, Taken}
+use Rattle.names.specs.Names.{mostInstructions, numberOf, answer, refusal, roomFor}
 use Rattle.rules.specs.Words.{fieldsOf, judgeWord, firstRefused}
 use Rattle.rules.specs.Bytes.{bitOf, mapOf, sizeOf, fieldsOut, oneOut, bytesOf, routineOf, writeAnswer, writeOutput}
 use Rattle.rules.proofs.Bytes.{length-fields, length-routine, WriteOk, write-ok}

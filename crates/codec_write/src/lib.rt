@@ -2,16 +2,16 @@
 use codec_encode::put_one;
 use codec_map::map_of;
 use codec_map::size_of;
-use rules::Answer;
-use rules::Instr;
-use rules::Refusal;
+use names::Answer;
+use names::Instr;
+use names::Refusal;
 use words::guest::fields;
 use words::guest::judge_word;
 ghost use mathlib.Core.Path.{_≡_};
 ghost use Prim.Native.Nat.{_+_, _≤_};
 ghost use lib.ListN.{length};
 ghost use lib.Seq.{sets as stores};
-ghost use Rattle.rules.specs.Names.{mostInstructions, roomFor};
+ghost use Rattle.names.specs.Names.{mostInstructions, roomFor};
 ghost use Rattle.rules.specs.Words.{judgeWord, firstRefused};
 ghost use Rattle.rules.specs.Bytes.{oneOut, bytesOf, routineOf, writeAnswer, writeOutput};
 

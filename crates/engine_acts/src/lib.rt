@@ -1,18 +1,18 @@
 // What the instruction at the index would do: a pure decision.
 use engine_rules::Engine;
-use rules::Effect;
-use rules::Instr;
-use rules::Layout;
-use rules::PolicyNumbers;
-use rules::Status;
+use names::Effect;
+use names::Instr;
+use names::Layout;
+use names::PolicyNumbers;
+use names::Status;
 use words::arith;
 use words::layout;
 ghost use mathlib.Core.Path.{_≡_};
 ghost use mathlib.Core.Bool.{cond};
 ghost use Prim.Native.Nat.{_+_, _*_};
 ghost use lib.ListN.{getD};
-ghost use Rattle.rules.specs.declared.Effect.the-variants.{Go};
-ghost use Rattle.rules.specs.Names.{events};
+ghost use Rattle.names.specs.declared.Effect.the-variants.{Go};
+ghost use Rattle.names.specs.Names.{events};
 ghost use Rattle.rules.specs.Landings.{marked};
 ghost use Rattle.rules.specs.Layouts.{maskOf};
 ghost use Rattle.rules.specs.Words.{dOf, aOf, bOf, vOf, instrOf, bundlesFor};

@@ -1,8 +1,8 @@
 // The refusals before any instruction: 7, 5, then per word 3, 2, 4, 8.
-use rules::Answer;
-use rules::Instr;
-use rules::Layout;
-use rules::Refusal;
+use names::Answer;
+use names::Instr;
+use names::Layout;
+use names::Refusal;
 use words::guest::judge_all;
 use words::layout::fits;
 ghost use mathlib.Core.Path.{_≡_};

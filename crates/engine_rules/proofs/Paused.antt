@@ -7,17 +7,17 @@ use native.Mathlib.Omega.{arith}
 use borrow.Author.Tests.{eq-eqb}
 use lib.Dec.{eqb, ltb, lit<}
 use lib.ListN.{length, getD}
-use Rattle.rules.specs.declared.Layout.{Layout}
-use Rattle.rules.specs.declared.Status.{Status}
-use Rattle.rules.specs.declared.Status.the-variants.{Running}
-use Rattle.rules.specs.declared.Ending.the-variants.{LogFull, Silent, Spent}
-use Rattle.rules.specs.declared.Instr.{Instr}
-use Rattle.rules.specs.declared.Instr.the-variants.{EVENT}
-use Rattle.rules.specs.declared.Command.{Command}
-use Rattle.rules.specs.declared.Command.the-variants.{Event}
-use Rattle.rules.specs.declared.Effect.{Effect}
-use Rattle.rules.specs.declared.Effect.the-variants.{Order, Probe, Wait}
-use Rattle.rules.specs.Names.{orders, events, endingNumber}
+use Rattle.names.specs.declared.Layout.{Layout}
+use Rattle.names.specs.declared.Status.{Status}
+use Rattle.names.specs.declared.Status.the-variants.{Running}
+use Rattle.names.specs.declared.Ending.the-variants.{LogFull, Silent, Spent}
+use Rattle.names.specs.declared.Instr.{Instr}
+use Rattle.names.specs.declared.Instr.the-variants.{EVENT}
+use Rattle.names.specs.declared.Command.{Command}
+use Rattle.names.specs.declared.Command.the-variants.{Event}
+use Rattle.names.specs.declared.Effect.{Effect}
+use Rattle.names.specs.declared.Effect.the-variants.{Order, Probe, Wait}
+use Rattle.names.specs.Names.{orders, events, endingNumber}
 use Rattle.rules.specs.Policies.{arrow}
 use Rattle.rules.specs.Words.{routine, bundlesFor}
 use Rattle.rules.specs.Commands.{fetchOf}

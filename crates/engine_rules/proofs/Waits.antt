@@ -9,22 +9,23 @@ use borrow.Author.Tests.{lt-ltb, eq-eqb, ne-eqb, eqb-false}
 use lib.Dec.{eqb, ltb, lit<}
 use lib.ListN.{length, getD, take, set}
 use lib.Seq.{getD-set-same}
-use Rattle.rules.specs.declared.Layout.{Layout}
-use Rattle.rules.specs.declared.Status.{Status}
-use Rattle.rules.specs.declared.Status.the-variants.{Running, Ended, Stopped, Faulted, Strayed}
-use Rattle.rules.specs.declared.Ending.{Ending}
-use Rattle.rules.specs.declared.Instr.{Instr}
-use Rattle.rules.specs.declared.Instr.the-variants.{HALT, PLAIN, LOAD, STORE, GOIF, GOX, EVENT}
-use Rattle.rules.specs.declared.Command.{Command}
-use Rattle.rules.specs.declared.Command.the-variants.{Look, StopIf}
-use Rattle.rules.specs.declared.Effect.{Effect}
-use Rattle.rules.specs.declared.Effect.the-variants.{Go, Put, Wait}
-use Rattle.rules.specs.Names.{events, noArrow, hidden, registers, bundleLength, endingNumber}
+use Rattle.names.specs.declared.Layout.{Layout}
+use Rattle.names.specs.declared.Status.{Status}
+use Rattle.names.specs.declared.Status.the-variants.{Running, Ended, Stopped, Faulted, Strayed}
+use Rattle.names.specs.declared.Ending.{Ending}
+use Rattle.names.specs.declared.Instr.{Instr}
+use Rattle.names.specs.declared.Instr.the-variants.{HALT, PLAIN, LOAD, STORE, GOIF, GOX, EVENT}
+use Rattle.names.specs.declared.Command.{Command}
+use Rattle.names.specs.declared.Command.the-variants.{Look, StopIf}
+use Rattle.names.specs.declared.Effect.{Effect}
+use Rattle.names.specs.declared.Effect.the-variants.{Go, Put, Wait}
+use Rattle.names.specs.Names.{events, noArrow, hidden, registers, bundleLength, endingNumber}
 use Rattle.rules.specs.Landings.{marked}
 use Rattle.rules.specs.Words.{routine, bundlesFor}
 use Rattle.rules.specs.Commands.{fetchOf, holdsOf}
 use Rattle.rules.specs.Bundles.{shapeOf, addressOf, commandsOf, rewriteAnswer}
-use Rattle.rules.specs.Machines.{View, regAt, cellAt, entryOf, State, stateOf, machineOf, onward, applyOf, effectOf, eventEffect, endingOf, seen, fits, nextOf as machineNext, Ran as MachineRan, endedIn as machineEnded, startOf as machineStart, runFrom as machineFrom, runOf as machineRunOf, installMemory}
+use Rattle.rules.specs.Machines.{View, regAt, cellAt, entryOf, State, stateOf, onward, applyOf, effectOf, eventEffect, endingOf, seen, fits, nextOf as machineNext, Ran as MachineRan, endedIn as machineEnded, startOf as machineStart, runFrom as machineFrom, runOf as machineRunOf, installMemory}
+use Rattle.names.specs.Records.{machineOf}
 use Rattle.rules.specs.Guests.{Guest, guestAfter, guestStart}
 use Rattle.rules.specs.Runs.{Given, Lent, Carried as MachineCarried, carriedOf as machineCarried, pairsOf, waitingAt, begins, begunFrom, eventIn, runOn as machineOn, afterTaken as machineTaken, afterRun as machineRun, after as machineAfter}
 use Rattle.rules.specs.Claims.{Stands, Waiting, givenFor}

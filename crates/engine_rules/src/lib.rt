@@ -1,6 +1,6 @@
 // The types of request 5's engine, which runs guest words directly under the guest rule; its definitions and claims are in specs/.
-use rules::Answer;
-use rules::Status;
+use names::Answer;
+use names::Status;
 ghost use mathlib.Core.Path.{_≡_};
 ghost use Rattle.engine_rules.specs.Engines.{engineFirst};
 

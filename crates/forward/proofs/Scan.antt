@@ -7,12 +7,12 @@ use native.Mathlib.Omega.{arith}
 use borrow.Author.Tests.{ne-eqb, le-ltb, eqb-true}
 use lib.Dec.{eqb, ltb}
 use lib.ListN.{length, getD}
-use Rattle.rules.specs.declared.Layout.{Layout}
-use Rattle.rules.specs.declared.Answer.{Answer}
-use Rattle.rules.specs.declared.Instr.{Instr}
-use Rattle.rules.specs.declared.Instr.the-variants.{GOIF}
-use Rattle.rules.specs.declared.Refusal.the-variants.{Taken, Oversize, NotForward}
-use Rattle.rules.specs.Names.{mostInstructions, bundleLength, numberOf, answer, refusal, command}
+use Rattle.names.specs.declared.Layout.{Layout}
+use Rattle.names.specs.declared.Answer.{Answer}
+use Rattle.names.specs.declared.Instr.{Instr}
+use Rattle.names.specs.declared.Instr.the-variants.{GOIF}
+use Rattle.names.specs.declared.Refusal.the-variants.{Taken, Oversize, NotForward}
+use Rattle.names.specs.Names.{mostInstructions, bundleLength, numberOf, answer, refusal, command}
 use Rattle.rules.specs.Words.{kindOf, vOf, judgeAt, firstRefused, instrOf, routine}
 use Rattle.rules.specs.Bundles.{readOff, bundleAt, checkAnswer}
 use Rattle.rules.proofs.Bools.{cond-ind}

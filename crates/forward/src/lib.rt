@@ -1,18 +1,18 @@
 // Routines that always finish: the class without GOX, in which every GOIF goes to a higher instruction than its own.
 // One check is of guest words, one of command lists.
 use checker::check;
-use rules::Answer;
-use rules::Bundle;
-use rules::Command;
-use rules::Instr;
-use rules::Layout;
-use rules::Refusal;
+use names::Answer;
+use names::Bundle;
+use names::Command;
+use names::Instr;
+use names::Layout;
+use names::Refusal;
 use words::guest::instruction;
 use words::guest::judge_all;
 ghost use mathlib.Core.Path.{_≡_};
 ghost use Prim.Native.Nat.{_/_};
 ghost use lib.ListN.{length};
-ghost use Rattle.rules.specs.Names.{bundleLength};
+ghost use Rattle.names.specs.Names.{bundleLength};
 ghost use Rattle.rules.specs.Words.{routine};
 ghost use Rattle.rules.specs.Bundles.{bundleAt};
 ghost use Rattle.forward_rules.specs.Forward.{forwardAt, forwardWord, forwardFrom, forwardAnswer, checkForwardAnswer};

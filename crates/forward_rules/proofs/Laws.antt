@@ -5,11 +5,11 @@ use mathlib.Core.List.{List}
 use Prim.Native.Nat.{ℕ, suc, _+_, _/_, _<_, _≤_}
 use borrow.Author.Tests.{lt-ltb, le-ltb}
 use lib.ListN.{length}
-use Rattle.rules.specs.declared.Layout.{Layout}
-use Rattle.rules.specs.declared.Answer.{Answer}
-use Rattle.rules.specs.declared.Instr.{Instr}
-use Rattle.rules.specs.declared.Refusal.the-variants.{Taken, Oversize, NotForward}
-use Rattle.rules.specs.Names.{mostInstructions, bundleLength, numberOf, answer, refusal}
+use Rattle.names.specs.declared.Layout.{Layout}
+use Rattle.names.specs.declared.Answer.{Answer}
+use Rattle.names.specs.declared.Instr.{Instr}
+use Rattle.names.specs.declared.Refusal.the-variants.{Taken, Oversize, NotForward}
+use Rattle.names.specs.Names.{mostInstructions, bundleLength, numberOf, answer, refusal}
 use Rattle.rules.specs.Words.{judgeAt, firstRefused, routine}
 use Rattle.rules.specs.Bundles.{bundleAt, checkAnswer}
 use Rattle.rules.proofs.Refusals.{else-next, else-kept}

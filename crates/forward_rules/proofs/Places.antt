@@ -5,9 +5,9 @@ use native.Mathlib.Omega.{arith}
 use borrow.Author.Tests.{ltb-false}
 use lib.Dec.{lit<, ltb}
 use lib.ListN.{length}
-use Rattle.rules.specs.declared.Layout.{Layout}
-use Rattle.rules.specs.declared.Instr.{Instr}
-use Rattle.rules.specs.Names.{mostInstructions, bundleLength, answer}
+use Rattle.names.specs.declared.Layout.{Layout}
+use Rattle.names.specs.declared.Instr.{Instr}
+use Rattle.names.specs.Names.{mostInstructions, bundleLength, answer}
 use Rattle.rules.specs.Words.{judgeAt, routine}
 use Rattle.rules.specs.Bundles.{bundleAt, checkAnswer}
 use Rattle.rules.proofs.Bools.{cond-ind}

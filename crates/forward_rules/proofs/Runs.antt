@@ -5,12 +5,12 @@ use mathlib.Core.Logic.{⊎-elim}
 use mathlib.Core.List.{List}
 use Prim.Native.Nat.{ℕ, zero, suc, _+_, _≤_}
 use native.Mathlib.Omega.{arith}
-use Rattle.rules.specs.declared.Layout.{Layout}
-use Rattle.rules.specs.declared.Outcome.{Outcome}
-use Rattle.rules.specs.declared.Status.{Status}
-use Rattle.rules.specs.declared.Status.the-variants.{Running, Ended, Stopped, Faulted, Strayed}
-use Rattle.rules.specs.declared.Ending.{Ending}
-use Rattle.rules.specs.declared.Effect.the-variants.{Wait}
+use Rattle.names.specs.declared.Layout.{Layout}
+use Rattle.names.specs.declared.Outcome.{Outcome}
+use Rattle.names.specs.declared.Status.{Status}
+use Rattle.names.specs.declared.Status.the-variants.{Running, Ended, Stopped, Faulted, Strayed}
+use Rattle.names.specs.declared.Ending.{Ending}
+use Rattle.names.specs.declared.Effect.the-variants.{Wait}
 use Rattle.rules.specs.Commands.{fetchOf}
 use Rattle.rules.specs.Machines.{State, Ran, seen, nextOf, stepOf, endingOf, runFrom, loopFrom}
 use Rattle.rules.specs.Runs.{Given, eachRun, afterAll, Run, Carried, afterRun, runAs}

@@ -5,13 +5,13 @@ use mathlib.Core.Bool.{Bool, true, false}
 use mathlib.Core.Logic.{_⊎_}
 use mathlib.Core.List.{List, [], _∷_, _++_}
 use lib.ListN.{length}
-use Rattle.rules.specs.declared.Layout.{Layout}
-use Rattle.rules.specs.declared.Machine.{Machine}
-use Rattle.rules.specs.declared.Outcome.{Outcome}
-use Rattle.rules.specs.declared.Status.the-variants.{Running, Ended, Stopped}
-use Rattle.rules.specs.declared.Ending.{Ending}
-use Rattle.rules.specs.declared.Ending.the-variants.{Done, NoArrow, Fault, LogFull, Silent, Spent, NoLanding, Refused}
-use Rattle.rules.specs.Names.{bundleLength, answer}
+use Rattle.names.specs.declared.Layout.{Layout}
+use Rattle.names.specs.declared.Machine.{Machine}
+use Rattle.names.specs.declared.Outcome.{Outcome}
+use Rattle.names.specs.declared.Status.the-variants.{Running, Ended, Stopped}
+use Rattle.names.specs.declared.Ending.{Ending}
+use Rattle.names.specs.declared.Ending.the-variants.{Done, NoArrow, Fault, LogFull, Silent, Spent, NoLanding, Refused}
+use Rattle.names.specs.Names.{bundleLength, answer}
 use Rattle.rules.specs.Policies.{Policy}
 use Rattle.rules.specs.Words.{bundlesFor}
 use Rattle.rules.specs.Bundles.{commandsOf, rewriteAnswer}

@@ -4,12 +4,12 @@ use mathlib.Core.Bool.{Bool, true, false, not, cond}
 use mathlib.Core.List.{List, [], _∷_}
 use lib.ListN.{length}
 use lib.Dec.{eqb, ltb}
-use Rattle.rules.specs.declared.Layout.{Layout}
-use Rattle.rules.specs.declared.Answer.{Answer}
-use Rattle.rules.specs.declared.Instr.{Instr}
-use Rattle.rules.specs.declared.Instr.the-variants.{HALT, PLAIN, LOAD, STORE, GOIF, GOX, EVENT}
-use Rattle.rules.specs.declared.Refusal.the-variants.{Taken, Oversize, NotForward}
-use Rattle.rules.specs.Names.{mostInstructions, bundleLength, numberOf, answer, refusal, orElse, first, command}
+use Rattle.names.specs.declared.Layout.{Layout}
+use Rattle.names.specs.declared.Answer.{Answer}
+use Rattle.names.specs.declared.Instr.{Instr}
+use Rattle.names.specs.declared.Instr.the-variants.{HALT, PLAIN, LOAD, STORE, GOIF, GOX, EVENT}
+use Rattle.names.specs.declared.Refusal.the-variants.{Taken, Oversize, NotForward}
+use Rattle.names.specs.Names.{mostInstructions, bundleLength, numberOf, answer, refusal, orElse, first, command}
 use Rattle.rules.specs.Words.{kindOf, vOf, judgeAt, firstRefused, routine}
 use Rattle.rules.specs.Bundles.{bundleAt, checkAnswer}
 

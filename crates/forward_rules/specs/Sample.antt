@@ -5,15 +5,15 @@ use mathlib.Core.Path.{_≡_}
 use mathlib.Core.Bool.{Bool, true, false, cond}
 use mathlib.Core.List.{List, [], _∷_, map}
 use lib.ListN.{length, set, replicate}
-use Rattle.rules.specs.declared.Layout.{Layout}
-use Rattle.rules.specs.declared.Ending.the-variants.{Done, LogFull, Spent}
-use Rattle.rules.specs.Names.{answer}
-use Rattle.rules.specs.Layouts.{layoutOf}
+use Rattle.names.specs.declared.Layout.{Layout}
+use Rattle.names.specs.declared.Ending.the-variants.{Done, LogFull, Spent}
+use Rattle.names.specs.Names.{answer}
+use Rattle.names.specs.Records.{layoutOf, runAnswer}
 use Rattle.samples.specs.Tray.{noLimits}
 use Rattle.rules.specs.Policies.{Policy, policyOf}
 use Rattle.rules.specs.Words.{packOf, bundlesFor}
 use Rattle.rules.specs.Bundles.{commandsOf, rewriteAnswer}
-use Rattle.rules.specs.Machines.{installMemory, runAnswer}
+use Rattle.rules.specs.Machines.{installMemory}
 use Rattle.rules.specs.Runs.{Given, Carried, atFirst, afterRun, Served, allRuns, Every}
 use Rattle.rules.specs.Claims.{Enough}
 use Rattle.forward_rules.specs.Forward.{forwardAnswer, checkForwardAnswer}

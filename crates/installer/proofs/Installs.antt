@@ -7,17 +7,18 @@ use native.Mathlib.Omega.{arith}
 use lib.ListN.{length, set}
 use lib.Seq.{sets}
 use borrow.Author.Tests.{eqb-true}
-use Rattle.rules.specs.declared.Layout.{Layout}
-use Rattle.rules.specs.declared.Answer.{Answer}
-use Rattle.rules.specs.declared.Installed.{Installed}
-use Rattle.rules.specs.declared.Machine.{Machine}
-use Rattle.rules.specs.declared.Refusal.{Refusal}
-use Rattle.rules.specs.declared.Refusal.the-variants.{Taken, BadLayout, BadPolicy, BadLandings}
-use Rattle.rules.specs.Names.{numberOf, answer, refusal}
+use Rattle.names.specs.declared.Layout.{Layout}
+use Rattle.names.specs.declared.Answer.{Answer}
+use Rattle.names.specs.declared.Installed.{Installed}
+use Rattle.names.specs.declared.Machine.{Machine}
+use Rattle.names.specs.declared.Refusal.{Refusal}
+use Rattle.names.specs.declared.Refusal.the-variants.{Taken, BadLayout, BadPolicy, BadLandings}
+use Rattle.names.specs.Names.{numberOf, answer, refusal}
 use Rattle.rules.specs.Layouts.{rightLayout}
 use Rattle.rules.specs.Policies.{Policy, policyOf, rightPolicy}
 use Rattle.rules.specs.Landings.{rightLandings, landingsOf}
-use Rattle.rules.specs.Machines.{fits, machineAt, machineRefused, installAnswer, installMachine, installMemory, installOf}
+use Rattle.rules.specs.Machines.{fits, installAnswer, installMachine, installMemory, installOf}
+use Rattle.names.specs.Records.{machineAt, machineRefused}
 use Rattle.rules.proofs.Bools.{both}
 use Rattle.rules.proofs.Layouts.{LayoutFacts, layout-facts}
 use Rattle.rules.proofs.Landings.{length-landings}

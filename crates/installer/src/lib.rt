@@ -3,21 +3,22 @@ use installer_landings::landing_cells;
 use installer_landings::landings_right;
 use installer_tables::entries_right;
 pub use installer_words::word_right;
-use rules::Answer;
-use rules::Installed;
-use rules::Layout;
-use rules::Machine;
-use rules::PolicyNumbers;
-use rules::Refusal;
+use names::Answer;
+use names::Installed;
+use names::Layout;
+use names::Machine;
+use names::PolicyNumbers;
+use names::Refusal;
 use words::layout::fits;
 use words_cells::poke;
 use words_cells::store_bytes;
 use words_cells::store_cells;
 ghost use mathlib.Core.Path.{_≡_};
 ghost use mathlib.Core.List.{[]};
-ghost use Rattle.rules.specs.Names.{answer};
+ghost use Rattle.names.specs.Names.{answer};
 ghost use Rattle.rules.specs.Policies.{lentPolicy, rightPolicy};
-ghost use Rattle.rules.specs.Machines.{machineRefused, installOf, installMemory};
+ghost use Rattle.rules.specs.Machines.{installOf, installMemory};
+ghost use Rattle.names.specs.Records.{machineRefused};
 
 // Whether a policy can be installed under a layout: 10's four conditions.
 fn policy_right(layout: Layout, policy: PolicyNumbers, table: &[u8]) -> bool

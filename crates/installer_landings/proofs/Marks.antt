@@ -12,7 +12,7 @@ use lib.Pow.{pow-mono, pow-pos}
 use lib.ListN.{length, getD, set, take, drop, drop-of-length-le, length-set, replicate}
 use lib.Seq.{drop-cons, take-suc, take-all, ext-getD, getD-set-same, getD-set-other}
 use borrow.Author.Tests.{lt-ltb, le-ltb, le-leb, lt-leb, eqb-true, eqb-false, eq-eqb, ne-eqb, ltb-true, ltb-false}
-use Rattle.rules.specs.Names.{mostBundles, landingCells, cellBits}
+use Rattle.names.specs.Names.{mostBundles, landingCells, cellBits}
 use Rattle.rules.specs.Landings.{listed, risingFrom, rightLandings, bitsFrom, landingsOf}
 use Rattle.rules.specs.Guests.{snoc}
 use Rattle.rules.proofs.Bools.{both, cases}

@@ -1,12 +1,12 @@
 // A list of landings: whether it is right, and the cells that hold its bits.
-use rules::Bundle;
-use rules::Layout;
+use names::Bundle;
+use names::Layout;
 ghost use mathlib.Core.Path.{_≡_};
 ghost use mathlib.Core.Bool.{true};
 ghost use Prim.Native.Nat.{_/_, _%_, _^_, _<_};
 ghost use lib.Bits.{bitOr};
 ghost use lib.ListN.{length, getD, set};
-ghost use Rattle.rules.specs.Names.{mostBundles, landingCells, cellBits};
+ghost use Rattle.names.specs.Names.{mostBundles, landingCells, cellBits};
 ghost use Rattle.rules.specs.Landings.{rightLandings, landingsOf};
 
 // A landing is below it.

@@ -6,7 +6,7 @@ use mathlib.Core.List.{List}
 use native.Mathlib.Omega.{arith}
 use lib.ListN.{length, getD, take, drop, drop-of-length-le, take-append-drop}
 use lib.Seq.{drop-cons, take-add}
-use Rattle.rules.specs.Names.{mostStates}
+use Rattle.names.specs.Names.{mostStates}
 use Rattle.rules.specs.Policies.{entryRight, entriesRight}
 use Rattle.installer_words.specs.Words.{lowBytes, wordBytes, wordRight}
 use Rattle.installer_words.proofs.Words.{word-entries}

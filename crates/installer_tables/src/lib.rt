@@ -2,11 +2,11 @@
 use installer_words::states_right;
 use installer_words::word_at;
 use installer_words::word_right;
-use rules::PolicyNumbers;
+use names::PolicyNumbers;
 ghost use mathlib.Core.Path.{_≡_};
 ghost use Prim.Native.Nat.{_*_, _≤_};
 ghost use lib.ListN.{length, take, drop};
-ghost use Rattle.rules.specs.Names.{mostStates};
+ghost use Rattle.names.specs.Names.{mostStates};
 ghost use Rattle.rules.specs.Policies.{entriesRight};
 ghost use Rattle.installer_words.specs.Words.{wordBytes};
 

@@ -11,7 +11,7 @@ use lib.ListN.{length, getD, take, drop}
 use lib.Seq.{drop-cons}
 use lib.Pow.{split}
 use borrow.Author.Tests.{eqb-true, eqb-false, ltb-true, ltb-false, leb-true, le-leb, eq-eqb, ne-eqb, not-true, not-false}
-use Rattle.rules.specs.Names.{mostStates, noArrow}
+use Rattle.names.specs.Names.{mostStates, noArrow}
 use Rattle.rules.specs.Policies.{entryRight, entriesRight, statesRight}
 use Rattle.installer_words.specs.Words.{lowBytes, wordBytes, wordRight}
 use Rattle.rules.proofs.Bools.{both}

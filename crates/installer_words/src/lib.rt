@@ -1,5 +1,5 @@
 // Four bytes of a policy's table as one word, tested at once.
-use rules::Layout;
+use names::Layout;
 use words_cells::cell_of;
 ghost use mathlib.Core.Path.{_≡_};
 ghost use Prim.Native.Nat.{_+_, _≤_, _<_};

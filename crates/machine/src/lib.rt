@@ -1,7 +1,7 @@
 // The stepping machine: runs, the record by value; a step is a run of budget 1.
-use rules::Layout;
-use rules::Machine;
-use rules::Outcome;
+use names::Layout;
+use names::Machine;
+use names::Outcome;
 use words::layout::fits;
 ghost use mathlib.Core.Path.{_≡_};
 ghost use Rattle.rules.specs.Machines.{ranOf, runOf};

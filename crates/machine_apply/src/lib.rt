@@ -6,12 +6,12 @@ use machine_points::onward;
 use machine_points::ordered;
 use machine_points::probed;
 use machine_points::read;
-use rules::Effect;
-use rules::Machine;
+use names::Effect;
+use names::Machine;
 ghost use mathlib.Core.Path.{_≡_};
 ghost use Prim.Native.Nat.{_<_, _^_};
 ghost use lib.ListN.{length, getD, set};
-ghost use Rattle.rules.specs.Names.{registers};
+ghost use Rattle.names.specs.Names.{registers};
 ghost use Rattle.rules.specs.Machines.{applyOf, withPair};
 ghost use Rattle.machine_points.specs.Points.{stateAt};
 

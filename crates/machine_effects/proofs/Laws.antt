@@ -10,12 +10,12 @@ use mir.Val.{Fits as Held}
 use mir.Syntax.{w32}
 use lib.ListN.{length, getD, List·getD-eq-default}
 use native.Mathlib.Nat.{zero-div}
-use Rattle.rules.specs.declared.Effect.{Effect}
-use Rattle.rules.specs.declared.Command.{Command}
-use Rattle.rules.specs.declared.Command.the-variants.{Nop, Halt, Plain, Load, Store, GoIf, GoReg, Look, StopIf, Keep, Event, Stray}
-use Rattle.rules.specs.declared.Effect.the-variants.{Go, Put, Cell, End}
-use Rattle.rules.specs.declared.Status.the-variants.{Ended, Stopped, Faulted, Strayed}
-use Rattle.rules.specs.Names.{mostBundles, bundleLength, cellBits, registers, events, noArrow, topWord, command}
+use Rattle.names.specs.declared.Effect.{Effect}
+use Rattle.names.specs.declared.Command.{Command}
+use Rattle.names.specs.declared.Command.the-variants.{Nop, Halt, Plain, Load, Store, GoIf, GoReg, Look, StopIf, Keep, Event, Stray}
+use Rattle.names.specs.declared.Effect.the-variants.{Go, Put, Cell, End}
+use Rattle.names.specs.declared.Status.the-variants.{Ended, Stopped, Faulted, Strayed}
+use Rattle.names.specs.Names.{mostBundles, bundleLength, cellBits, registers, events, noArrow, topWord, command}
 use Rattle.rules.specs.Landings.{bitAt, marked}
 use Rattle.rules.specs.Words.{kindOf, dOf, aOf, bOf, vOf}
 use Rattle.rules.specs.Commands.{addOf, plainOf, holdsOf, isCommand, commandOf, fetchOf}

@@ -1,8 +1,8 @@
 -- Commands whose registers are the machine's and whose numbers have 32 bits, as those of a word are.
 use Prim.Native.Nat.{_≤_, _<_}
-use Rattle.rules.specs.declared.Command.{Command}
-use Rattle.rules.specs.declared.Command.the-variants.{Nop, Halt, Plain, Load, Store, GoIf, GoReg, Look, StopIf, Keep, Event, Stray}
-use Rattle.rules.specs.Names.{registers, topWord}
+use Rattle.names.specs.declared.Command.{Command}
+use Rattle.names.specs.declared.Command.the-variants.{Nop, Halt, Plain, Load, Store, GoIf, GoReg, Look, StopIf, Keep, Event, Stray}
+use Rattle.names.specs.Names.{registers, topWord}
 
 -- the registers that are read, and the number
 unfoldable pub Sized : Command → Type 0

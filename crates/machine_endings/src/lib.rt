@@ -1,9 +1,9 @@
 // How a run ends, the machine's or the engine's: its ending by the record's status, and an ending's number.
-use rules::Ending;
-use rules::Refusal;
-use rules::Status;
+use names::Ending;
+use names::Refusal;
+use names::Status;
 ghost use mathlib.Core.Path.{_≡_};
-ghost use Rattle.rules.specs.Names.{endingNumber};
+ghost use Rattle.names.specs.Names.{endingNumber};
 ghost use Rattle.rules.specs.Machines.{endingOf};
 
 // What a run answers that ends with this status and no pause.

@@ -1,8 +1,8 @@
 // Runs of a record that is lent; a step is a run of budget 1. Their proofs walk the compiled code by hand, which is why they stand apart from the machine.
-use rules::Layout;
-use rules::Machine;
-use rules::Outcome;
-use rules::RunAnswer;
+use names::Layout;
+use names::Machine;
+use names::Outcome;
+use names::RunAnswer;
 ghost use mathlib.Core.Path.{_≡_};
 ghost use Rattle.rules.specs.Machines.{ranOf, runOf};
 ghost use Rattle.machine_lent.specs.Lent.{asOutcome};

@@ -1,5 +1,5 @@
 // Where a run stands, the machine's or the engine's, and where an effect leads it.
-use rules::Status;
+use names::Status;
 ghost use mathlib.Core.Path.{_≡_};
 ghost use Prim.Native.Nat.{_+_, _<_, _^_};
 ghost use lib.ListN.{getD};

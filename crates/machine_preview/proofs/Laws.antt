@@ -7,13 +7,14 @@ use mathlib.Core.Logic.{⊎-elim}
 use native.Mathlib.Omega.{arith}
 use lib.ListN.{length}
 use borrow.Author.Tests.{eqb-true}
-use Rattle.rules.specs.declared.Layout.{Layout}
-use Rattle.rules.specs.declared.Machine.{Machine}
-use Rattle.rules.specs.declared.Outcome.{Outcome}
-use Rattle.rules.specs.declared.Ending.the-variants.{Refused}
-use Rattle.rules.specs.Names.{mostCells}
+use Rattle.names.specs.declared.Layout.{Layout}
+use Rattle.names.specs.declared.Machine.{Machine}
+use Rattle.names.specs.declared.Outcome.{Outcome}
+use Rattle.names.specs.declared.Ending.the-variants.{Refused}
+use Rattle.names.specs.Names.{mostCells}
 use Rattle.rules.specs.Layouts.{rightLayout}
-use Rattle.rules.specs.Machines.{fits, Ran, ranOf, outcomeOf, runOf}
+use Rattle.rules.specs.Machines.{fits, Ran, ranOf, runOf}
+use Rattle.names.specs.Records.{outcomeOf}
 use Rattle.rules.proofs.Bools.{both, cases}
 use Rattle.rules.proofs.Layouts.{layout-facts}
 

@@ -1,7 +1,7 @@
 // A look ahead: what a run would answer and log, before it touches memory and record.
-use rules::Layout;
-use rules::Machine;
-use rules::Outcome;
+use names::Layout;
+use names::Machine;
+use names::Outcome;
 use words_cells::store_cells;
 ghost use mathlib.Core.Path.{_≡_};
 ghost use Rattle.rules.specs.Machines.{runOf};

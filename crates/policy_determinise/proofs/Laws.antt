@@ -11,8 +11,8 @@ use lib.ListN.{length, getD, drop}
 use lib.Pow.{pow-lt}
 use lib.Seq.{drop-cons, drop-length}
 use borrow.Author.Tests.{lt-ltb, lt-leb, le-leb}
-use Rattle.rules.specs.declared.Refusal.the-variants.{BadDrawing}
-use Rattle.rules.specs.Names.{events, mostStates, refusal}
+use Rattle.names.specs.declared.Refusal.the-variants.{BadDrawing}
+use Rattle.names.specs.Names.{events, mostStates, refusal}
 use Rattle.policy_maps.specs.Maps.{bit}
 use Rattle.policy_exploration.specs.declared.Found.{Found}
 use Rattle.policy_exploration.specs.declared.Made.{Made}

@@ -11,7 +11,7 @@ use lib.Pow.{pow-pos, shr-shr}
 use lib.Bits.{bitOr, or-lt}
 use lib.ListN.{length, getD}
 use borrow.Author.Tests.{ltb-true, ltb-false, eqb-true, eqb-false, leb-true, le-ltb, ne-eqb, not-true}
-use Rattle.rules.specs.Names.{events}
+use Rattle.names.specs.Names.{events}
 use Rattle.rules.specs.Policies.{statesRight, allowed}
 use Rattle.rules.proofs.Bools.{no, both, join, either, or-left, or-right}
 use Rattle.policy_maps.specs.Maps.{bit}

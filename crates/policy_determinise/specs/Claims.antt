@@ -4,8 +4,8 @@ use mathlib.Core.Path.{_≡_}
 use mathlib.Core.Bool.{true}
 use mathlib.Core.List.{List, [], _∷_, _++_}
 use lib.ListN.{length, take, replicate}
-use Rattle.rules.specs.declared.Layout.{Layout}
-use Rattle.rules.specs.Names.{noArrow, answer}
+use Rattle.names.specs.declared.Layout.{Layout}
+use Rattle.names.specs.Names.{noArrow, answer}
 use Rattle.rules.specs.Policies.{allowed, rightPolicy}
 use Rattle.policy_maps.specs.Maps.{bit}
 use Rattle.policy_exploration.specs.Reach.{statesOf, few, madeWith, nodeAfter}

@@ -6,8 +6,8 @@ use mathlib.Core.List.{List, [], _∷_}
 use lib.ListN.{length, getD}
 use lib.Dec.{eqb, ltb}
 use lib.Bits.{bitOr}
-use Rattle.rules.specs.declared.Refusal.the-variants.{BadDrawing}
-use Rattle.rules.specs.Names.{events, mostStates, refusal, first}
+use Rattle.names.specs.declared.Refusal.the-variants.{BadDrawing}
+use Rattle.names.specs.Names.{events, mostStates, refusal, first}
 use Rattle.rules.specs.Policies.{Policy, statesRight}
 use Rattle.policy_maps.specs.Maps.{bit}
 use Rattle.policy_exploration.specs.Reach.{policyFrom, madeWith, reachOf, reachTable}

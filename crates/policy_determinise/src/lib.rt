@@ -1,15 +1,15 @@
 // Policies drawn with several arrows: a deterministic policy of the sets of states that events lead to.
+use names::Layout;
+use names::PolicyNumbers;
+use names::Refusal;
 use policy_exploration::Found;
 use policy_exploration::Made;
-use rules::Layout;
-use rules::PolicyNumbers;
-use rules::Refusal;
 ghost use mathlib.Core.Path.{_≡_};
 ghost use mathlib.Core.Bool.{cond};
 ghost use Prim.Native.Nat.{_*_, _^_, _≤_, _<_};
 ghost use lib.ListN.{length};
 ghost use lib.Dec.{ltb};
-ghost use Rattle.rules.specs.Names.{events, mostStates};
+ghost use Rattle.names.specs.Names.{events, mostStates};
 ghost use Rattle.policy_maps.specs.Maps.{bit};
 ghost use Rattle.policy_exploration.specs.Founds.{Explored};
 ghost use Rattle.policy_determinise.specs.Drawings.{Fit, drawingOf, unionOf, setAfter, mapsRight, drawingRight, determiniseOf, determiniseTable};

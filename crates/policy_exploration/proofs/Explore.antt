@@ -8,7 +8,7 @@ use lib.Dec.{eqb, leb, ltb}
 use lib.ListN.{length, getD, take, drop, set, replicate, length-set, length-append, length-replicate, List·getD-append}
 use lib.Seq.{take-suc-set, length-take-le, getD-take, take-at}
 use borrow.Author.Tests.{ltb-true, ltb-false, leb-true, leb-false, eqb-false, lt-leb}
-use Rattle.rules.specs.Names.{mostStates, events, noArrow}
+use Rattle.names.specs.Names.{mostStates, events, noArrow}
 use Rattle.rules.proofs.Bools.{both}
 use Rattle.policy_maps.specs.Maps.{build}
 use Rattle.policy_maps.proofs.Maps.{length-build}

@@ -6,7 +6,7 @@ use native.Mathlib.Omega.{arith}
 use lib.ListN.{length, getD, take, drop, set}
 use lib.Seq.{drop-cons, length-take-le, getD-take, drop-length}
 use borrow.Author.Tests.{eq-eqb, ne-eqb, lt-ltb, le-ltb}
-use Rattle.rules.specs.Names.{noArrow}
+use Rattle.names.specs.Names.{noArrow}
 use Rattle.policy_exploration.specs.Reach.{place}
 use Rattle.policy_exploration.specs.declared.Found.{Found}
 use Rattle.policy_exploration.specs.Founds.{Sized, listOf, foundWith}

@@ -8,7 +8,7 @@ use lib.Dec.{eqb, ltb}
 use lib.ListN.{length, getD, drop, length-append, List·getD-append, List·getD-eq-default}
 use lib.Seq.{getD-append-seam, take-at}
 use borrow.Author.Tests.{ltb-true, ltb-false, leb-true, leb-false, eqb-true, eqb-false, eq-eqb, ne-eqb, lt-ltb}
-use Rattle.rules.specs.Names.{mostStates, events, noArrow}
+use Rattle.names.specs.Names.{mostStates, events, noArrow}
 use Rattle.rules.specs.Policies.{arrow, allowedFrom, allowed, entryRight, rightPolicy}
 use Rattle.policy_maps.proofs.Maps.{length-build, build-at}
 use Rattle.policy_maps.proofs.Tables.{entries-build}

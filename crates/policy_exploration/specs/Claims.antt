@@ -5,8 +5,8 @@ use mathlib.Core.Bool.{true, false, not}
 use mathlib.Core.List.{List}
 use lib.ListN.{length, getD, take}
 use lib.Dec.{eqb}
-use Rattle.rules.specs.declared.Layout.{Layout}
-use Rattle.rules.specs.Names.{mostStates, events}
+use Rattle.names.specs.declared.Layout.{Layout}
+use Rattle.names.specs.Names.{mostStates, events}
 use Rattle.rules.specs.Policies.{allowed, rightPolicy}
 use Rattle.policy_exploration.specs.Reach.{met, nodes, statesOf, policyFrom, few, reachOf, reachTable, nodeAfter}
 

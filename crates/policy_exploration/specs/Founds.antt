@@ -5,9 +5,9 @@ use mathlib.Core.Bool.{Bool, false, _&&_, _||_, not, cond}
 use mathlib.Core.List.{List, [], _∷_, _++_}
 use lib.ListN.{length, take, drop, set, replicate}
 use lib.Dec.{eqb, leb, ltb}
-use Rattle.rules.specs.declared.Answer.{Answer}
-use Rattle.rules.specs.declared.Refusal.the-variants.{TooManyStates}
-use Rattle.rules.specs.Names.{mostStates, events, refusal, ifTaken, outputOf, roomFor, first}
+use Rattle.names.specs.declared.Answer.{Answer}
+use Rattle.names.specs.declared.Refusal.the-variants.{TooManyStates}
+use Rattle.names.specs.Names.{mostStates, events, refusal, ifTaken, outputOf, roomFor, first}
 use Rattle.policy_maps.specs.Maps.{build}
 use Rattle.policy_exploration.specs.declared.Found.{Found}
 use Rattle.policy_exploration.specs.declared.Made.{Made}

@@ -5,9 +5,9 @@ use mathlib.Core.Bool.{Bool, _||_, not, cond}
 use mathlib.Core.List.{List, [], _∷_, _++_}
 use lib.ListN.{length, getD}
 use lib.Dec.{eqb, leb, ltb}
-use Rattle.rules.specs.declared.Answer.{Answer}
-use Rattle.rules.specs.declared.Refusal.the-variants.{TooManyStates}
-use Rattle.rules.specs.Names.{mostStates, events, noArrow, refusal, ifTaken, outputOf, roomFor, first}
+use Rattle.names.specs.declared.Answer.{Answer}
+use Rattle.names.specs.declared.Refusal.the-variants.{TooManyStates}
+use Rattle.names.specs.Names.{mostStates, events, noArrow, refusal, ifTaken, outputOf, roomFor, first}
 use Rattle.rules.specs.Policies.{Policy, policyOf}
 use Rattle.policy_maps.specs.Maps.{build}
 use Rattle.policy_exploration.specs.declared.Made.{Made}

@@ -1,12 +1,12 @@
 // What can be reached: the nodes that events lead to from a start, numbered as first met, and the policy of their numbers.
 // A node is a number above 0; 0 is no node. The caller has a loop: it asks for the node whose arrow is next and says where that leads.
-use rules::Answer;
-use rules::Layout;
-use rules::PolicyNumbers;
+use names::Answer;
+use names::Layout;
+use names::PolicyNumbers;
 ghost use mathlib.Core.Path.{_≡_};
 ghost use Prim.Native.Nat.{_+_, _*_, _/_, _≤_, _<_};
 ghost use lib.ListN.{length, getD, take};
-ghost use Rattle.rules.specs.Names.{events, mostStates};
+ghost use Rattle.names.specs.Names.{events, mostStates};
 ghost use Rattle.policy_exploration.specs.Reach.{place as placeOf};
 ghost use Rattle.policy_exploration.specs.Founds.{Sized, foundAt, foundWith, moreOf};
 

@@ -1,7 +1,7 @@
 // Numbers as maps of bits.
 ghost use mathlib.Core.Path.{_≡_};
 ghost use Prim.Native.Nat.{_<_};
-ghost use Rattle.rules.specs.Names.{events};
+ghost use Rattle.names.specs.Names.{events};
 ghost use Rattle.policy_maps.specs.Maps.{bit};
 
 // Whether a bit of a map is set.

@@ -6,8 +6,8 @@ use mathlib.Core.List.{List, [], _∷_, _++_}
 use native.Mathlib.Omega.{arith}
 use lib.ListN.{length, getD, drop, replicate, List·getD-eq-default}
 use borrow.Author.Tests.{eq-eqb, ne-eqb, lt-ltb}
-use Rattle.rules.specs.declared.Refusal.the-variants.{BadPolicy}
-use Rattle.rules.specs.Names.{mostStates, events, orders, noArrow, refusal}
+use Rattle.names.specs.declared.Refusal.the-variants.{BadPolicy}
+use Rattle.names.specs.Names.{mostStates, events, orders, noArrow, refusal}
 use Rattle.rules.specs.Policies.{Policy, policyOf}
 use Rattle.rules.proofs.Bools as bools
 use Rattle.policy_maps.specs.Maps.{build}

@@ -8,7 +8,7 @@ use native.Mathlib.Omega.{arith}
 use lib.Dec.{eqb, leb, ltb}
 use lib.ListN.{length, getD}
 use borrow.Author.Tests.{ltb-true, eqb-true, eqb-false, leb-true, ne-eqb, eq-eqb, le-ltb}
-use Rattle.rules.specs.Names.{mostStates, events, orders, noArrow}
+use Rattle.names.specs.Names.{mostStates, events, orders, noArrow}
 use Rattle.rules.specs.Policies.{Policy, arrow, allowedFrom, allowed, stateFrom, statesRight, entryRight, entriesRight, rightPolicy}
 use Rattle.rules.proofs.Bools as bools
 use Rattle.policy_maps.proofs.Maps.{build-at}

@@ -6,7 +6,7 @@ use mathlib.Core.List.{List, [], _∷_, _++_, map}
 use lib.Dec.{eqb}
 use lib.ListN.{length, getD, length-map}
 use borrow.Author.Tests.{eqb-true, eqb-false, eq-eqb, ne-eqb}
-use Rattle.rules.specs.Names.{mostStates, events, noArrow}
+use Rattle.names.specs.Names.{mostStates, events, noArrow}
 use Rattle.policy_maps.specs.Maps.{build}
 use Rattle.policy_exploration.specs.Reach.{place, known, meet, target, met, nodes, nodeState, byteOf, statesOf, tableOf}
 use Rattle.policy_exploration.proofs.Places.{Meets, none, again, anew, meets}

@@ -8,7 +8,7 @@ use native.Mathlib.Omega.{arith}
 use lib.Dec.{eqb}
 use lib.ListN.{getD}
 use borrow.Author.Tests.{eqb-true, eqb-false, ne-eqb}
-use Rattle.rules.specs.Names.{mostStates, orders, noArrow}
+use Rattle.names.specs.Names.{mostStates, orders, noArrow}
 use Rattle.rules.specs.Policies.{Policy, arrow}
 use Rattle.policy_maps.specs.Maps.{build}
 use Rattle.policy_exploration.specs.Reach.{statesOf, tableOf, reachAnswer, reachOf, reachTable}

@@ -4,9 +4,9 @@ use mathlib.Core.Path.{_≡_}
 use mathlib.Core.Bool.{true, _&&_, cond}
 use mathlib.Core.List.{List, [], _∷_, _++_}
 use lib.ListN.{length, getD, take, replicate}
-use Rattle.rules.specs.declared.Answer.{Answer}
-use Rattle.rules.specs.declared.Layout.{Layout}
-use Rattle.rules.specs.Names.{orders, topWord, noArrow, answer}
+use Rattle.names.specs.declared.Answer.{Answer}
+use Rattle.names.specs.declared.Layout.{Layout}
+use Rattle.names.specs.Names.{orders, topWord, noArrow, answer}
 use Rattle.rules.specs.Policies.{Policy, policyOf, stateOver, allowed, statesRight, rightPolicy}
 use Rattle.policy_exploration.specs.Reach.{statesOf, few, nodeAfter}
 use Rattle.policy_exploration.specs.Claims.{Exactly}

@@ -4,9 +4,9 @@ use mathlib.Core.Bool.{Bool, _&&_, _||_, not, cond}
 use mathlib.Core.List.{List, [], _∷_}
 use lib.ListN.{length, getD, replicate}
 use lib.Dec.{eqb, ltb}
-use Rattle.rules.specs.declared.PolicyNumbers.{PolicyNumbers}
-use Rattle.rules.specs.declared.Refusal.the-variants.{BadPolicy}
-use Rattle.rules.specs.Names.{mostStates, events, orders, noArrow, refusal, ifTaken, first}
+use Rattle.names.specs.declared.PolicyNumbers.{PolicyNumbers}
+use Rattle.names.specs.declared.Refusal.the-variants.{BadPolicy}
+use Rattle.names.specs.Names.{mostStates, events, orders, noArrow, refusal, ifTaken, first}
 use Rattle.rules.specs.Policies.{Policy, policyOf, lentPolicy, arrow, entriesRight, statesRight}
 use Rattle.policy_maps.specs.Maps.{build}
 use Rattle.policy_exploration.specs.Reach.{policyFrom, madeWith, reachOf, reachTable}

@@ -1,15 +1,15 @@
 // Two policies at once: the policy of the pairs of states that events lead to. A pair is held as 16 × s + t + 1, no pair as 0.
+use names::Answer;
+use names::Layout;
+use names::PolicyNumbers;
+use names::Refusal;
 use policy_exploration::Found;
 use policy_exploration::Made;
-use rules::Answer;
-use rules::Layout;
-use rules::PolicyNumbers;
-use rules::Refusal;
 use words_cells::index_of;
 ghost use mathlib.Core.Path.{_≡_};
 ghost use Prim.Native.Nat.{_+_, _*_, _^_, _<_, min};
 ghost use lib.ListN.{length, getD};
-ghost use Rattle.rules.specs.Names.{events, noArrow};
+ghost use Rattle.names.specs.Names.{events, noArrow};
 ghost use Rattle.policy_exploration.specs.Founds.{Explored};
 ghost use Rattle.policy_merge.specs.Pairs.{sideOf, arrowsOf, pair as pairOf, both as bothOf, pairAfter, sideRight, smaller as smallerOf, mergeMade, withCeilings, mergeOf, mergeTable};
 

@@ -11,9 +11,9 @@ use lib.Dec.{eqb, leb, ltb}
 use lib.ListN.{length, getD, drop}
 use borrow.Author.Tests.{ltb-true, eq-eqb, ne-eqb, lt-ltb, le-ltb, leb-true}
 use lib.Pow.{pow-lt, pow-pos, pow-mono}
-use Rattle.rules.specs.declared.Refusal.the-variants.{SmallOutput, BadPair}
-use Rattle.rules.specs.declared.Answer.{Answer}
-use Rattle.rules.specs.Names.{events, noArrow, answer, refusal}
+use Rattle.names.specs.declared.Refusal.the-variants.{SmallOutput, BadPair}
+use Rattle.names.specs.declared.Answer.{Answer}
+use Rattle.names.specs.Names.{events, noArrow, answer, refusal}
 use Rattle.rules.proofs.Bools.{both}
 use Rattle.policy_precedence.specs.declared.Made.{Made}
 use Rattle.policy_maps.specs.Maps.{every, some, mapWhere, bit, build}

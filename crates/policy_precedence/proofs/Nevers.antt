@@ -11,7 +11,7 @@ use lib.ListN.{length, getD, drop, length-append}
 use lib.Pow.{pow-pos}
 use lib.Seq.{drop-cons, getD-at}
 use borrow.Author.Tests.{ltb-true, ltb-false, leb-true, leb-false, eqb-true, eqb-false, not-true}
-use Rattle.rules.specs.Names.{events, noArrow}
+use Rattle.names.specs.Names.{events, noArrow}
 use Rattle.rules.specs.Policies.{Policy, arrow, stateFrom, allowedFrom, allowed}
 use Rattle.rules.proofs.Bools.{no, cases, both, either, join, or-left, or-right}
 use Rattle.policy_maps.specs.Maps.{count, mapWhere, bit}

@@ -11,7 +11,7 @@ use lib.ListN.{length, getD, drop}
 use lib.Pow.{pow-pos}
 use lib.Seq.{drop-cons, drop-length}
 use borrow.Author.Tests.{ltb-true, ltb-false, eqb-true, eqb-false, eq-eqb, not-true, not-false}
-use Rattle.rules.specs.Names.{events}
+use Rattle.names.specs.Names.{events}
 use Rattle.rules.specs.Policies.{allowedFrom, allowed}
 use Rattle.rules.proofs.Bools.{no, cases, both, either, join, or-left, or-right}
 use Rattle.policy_maps.specs.Maps.{mapWhere, bit}

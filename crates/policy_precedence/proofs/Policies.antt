@@ -9,7 +9,7 @@ use lib.ListN.{length, drop}
 use lib.Seq.{take-at}
 use lib.Pow.{pow-pos}
 use borrow.Author.Tests.{eq-eqb, lt-ltb, le-ltb}
-use Rattle.rules.specs.Names.{events, mostStates, noArrow}
+use Rattle.names.specs.Names.{events, mostStates, noArrow}
 use Rattle.rules.specs.Policies.{Policy, arrow, entryRight, rightPolicy}
 use Rattle.policy_maps.specs.Maps.{mapWhere}
 use Rattle.policy_precedence.specs.Precedence.{Fit, isNamed, namedCount, statesOf, tableBytes, arrowOf, byteOf, stuck, tableOf, madePolicy, pairsRight, makeAnswer, makeOf, makeTable}

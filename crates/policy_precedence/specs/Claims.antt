@@ -4,8 +4,8 @@ use mathlib.Core.Path.{_≡_}
 use mathlib.Core.Bool.{true}
 use mathlib.Core.List.{List, [], _∷_}
 use lib.ListN.{length, getD, take}
-use Rattle.rules.specs.declared.Layout.{Layout}
-use Rattle.rules.specs.Names.{events, answer}
+use Rattle.names.specs.declared.Layout.{Layout}
+use Rattle.names.specs.Names.{events, answer}
 use Rattle.rules.specs.Policies.{allowed, rightPolicy}
 use Rattle.policy_maps.specs.Maps.{bit}
 use Rattle.policy_precedence.specs.Precedence.{pairsIn, firstAt, secondAt, pairsRight, statesOf, tableOf, madePolicy, neverOf, makeAnswer, madeWith, makeOf, makeTable}

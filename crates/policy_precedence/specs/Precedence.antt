@@ -6,9 +6,9 @@ use mathlib.Core.List.{List, [], _∷_}
 use lib.ListN.{length, getD}
 use lib.Dec.{eqb, leb, ltb}
 use lib.Bits.{bitOr}
-use Rattle.rules.specs.declared.Answer.{Answer}
-use Rattle.rules.specs.declared.Refusal.the-variants.{BadPair}
-use Rattle.rules.specs.Names.{events, noArrow, refusal, ifTaken, outputOf, roomFor, first}
+use Rattle.names.specs.declared.Answer.{Answer}
+use Rattle.names.specs.declared.Refusal.the-variants.{BadPair}
+use Rattle.names.specs.Names.{events, noArrow, refusal, ifTaken, outputOf, roomFor, first}
 use Rattle.rules.specs.Policies.{Policy, policyOf}
 use Rattle.policy_maps.specs.Maps.{every, some, count, mapWhere, bit, build}
 use Rattle.policy_precedence.specs.declared.Made.{Made}

@@ -1,7 +1,7 @@
 // This before that: a policy from pairs of events, the first of which is to be recorded before the second.
-use rules::Answer;
-use rules::PolicyNumbers;
-use rules::Refusal;
+use names::Answer;
+use names::PolicyNumbers;
+use names::Refusal;
 use words_cells::index_of;
 ghost use mathlib.Core.Path.{_≡_};
 ghost use mathlib.Core.Bool.{true, cond};
@@ -11,7 +11,7 @@ ghost use lib.ListN.{length, drop};
 ghost use lib.Bits.{bitAnd};
 ghost use lib.Dec.{eqb};
 ghost use lib.Count.{ones};
-ghost use Rattle.rules.specs.Names.{events, answer};
+ghost use Rattle.names.specs.Names.{events, answer};
 ghost use Rattle.policy_maps.specs.Maps.{mapWhere, build};
 ghost use Rattle.policy_precedence.specs.Precedence.{Fit, isNamed, known, mostNamed, pairsIn, pairsRight, statesOf, firstsIn, arrowOf, byteOf, tableBytes, stuck, onOf, fullOf, neverOf, madeWith, makeOf, makeTable};
 

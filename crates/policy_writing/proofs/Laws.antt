@@ -6,9 +6,9 @@ use native.Mathlib.Omega.{arith}
 use lib.ListN.{length, getD, take, drop, set}
 use lib.Seq.{drop-cons, take-suc, set-at, append-snoc, length-take-le}
 use borrow.Author.Tests.{lt-ltb, le-ltb, le-leb, lt-leb}
-use Rattle.rules.specs.declared.Answer.{Answer}
-use Rattle.rules.specs.declared.Refusal.the-variants.{SmallOutput, TooManyStates}
-use Rattle.rules.specs.Names.{mostStates, events, answer, refusal}
+use Rattle.names.specs.declared.Answer.{Answer}
+use Rattle.names.specs.declared.Refusal.the-variants.{SmallOutput, TooManyStates}
+use Rattle.names.specs.Names.{mostStates, events, answer, refusal}
 use Rattle.policy_exploration.specs.Reach.{madeWith}
 use Rattle.policy_exploration.specs.declared.Found.{Found}
 use Rattle.policy_exploration.specs.declared.Made.{Made}

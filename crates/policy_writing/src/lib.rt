@@ -1,16 +1,16 @@
 // The policy of the nodes found, written: its numbers and its table, or a refusal.
+use names::Answer;
+use names::Layout;
+use names::PolicyNumbers;
+use names::Refusal;
 use policy_exploration::ARROWS;
 use policy_exploration::Found;
 use policy_exploration::Made;
-use rules::Answer;
-use rules::Layout;
-use rules::PolicyNumbers;
-use rules::Refusal;
 ghost use mathlib.Core.Path.{_≡_};
 ghost use mathlib.Core.List.{_++_};
 ghost use Prim.Native.Nat.{_*_, _≤_};
 ghost use lib.ListN.{length, take, drop};
-ghost use Rattle.rules.specs.Names.{events, mostStates, answer};
+ghost use Rattle.names.specs.Names.{events, mostStates, answer};
 ghost use Rattle.policy_exploration.specs.Reach.{madeWith};
 ghost use Rattle.policy_exploration.specs.Founds.{Sized, writtenOf, writtenTable};
 

@@ -7,11 +7,11 @@ use native.Mathlib.Nat.{sub-zero}
 use native.Mathlib.Numerals.{add-one, towards-suc}
 use lib.ListN.{length, getD, set, List·getD-eq-default}
 use lib.Seq.{sets, length-sets}
-use Rattle.rules.specs.declared.Layout.{Layout}
-use Rattle.rules.specs.declared.Instr.{Instr}
-use Rattle.rules.specs.declared.Instr.the-variants.{HALT}
-use Rattle.rules.specs.declared.Bundle.{Bundle}
-use Rattle.rules.specs.Names.{bundleLength}
+use Rattle.names.specs.declared.Layout.{Layout}
+use Rattle.names.specs.declared.Instr.{Instr}
+use Rattle.names.specs.declared.Instr.the-variants.{HALT}
+use Rattle.names.specs.declared.Bundle.{Bundle}
+use Rattle.names.specs.Names.{bundleLength}
 use Rattle.rules.specs.Words.{instrOf, routine}
 use Rattle.rules.specs.Bundles.{bundleOf, bundlesFrom}
 use Rattle.words.specs.Packing.{Packable}

@@ -3,8 +3,8 @@ use Prim.Native.Nat.{ℕ, _*_, _^_, _<_, _≤_}
 use mathlib.Core.Path.{_≡_}
 use mathlib.Core.Bool.{true}
 use mathlib.Core.List.{List}
-use Rattle.rules.specs.declared.Layout.{Layout}
-use Rattle.rules.specs.Names.{mostBundles, bundleLength}
+use Rattle.names.specs.declared.Layout.{Layout}
+use Rattle.names.specs.Names.{mostBundles, bundleLength}
 use Rattle.rules.specs.Words.{routine}
 use Rattle.rules.specs.Bundles.{addressOf, valid}
 

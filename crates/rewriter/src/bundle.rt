@@ -1,9 +1,9 @@
 // The words of one bundle.
-use rules::Bundle;
-use rules::Command;
-use rules::Instr;
-use rules::Layout;
-use rules::Machine;
+use names::Bundle;
+use names::Command;
+use names::Instr;
+use names::Layout;
+use names::Machine;
 use words::guest::word;
 ghost use mathlib.Core.Path.{_≡_};
 ghost use Rattle.rules.specs.Bundles.{bundleOf};

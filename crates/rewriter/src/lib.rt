@@ -2,11 +2,11 @@
 mod bundle;
 
 use bundle::bundle;
-use rules::Answer;
-use rules::Bundle;
-use rules::Instr;
-use rules::Layout;
-use rules::Refusal;
+use names::Answer;
+use names::Bundle;
+use names::Instr;
+use names::Layout;
+use names::Refusal;
 use words::count::base_right;
 use words::count::bundles;
 use words::guest::instruction;
@@ -17,7 +17,7 @@ ghost use mathlib.Core.List.{[], _∷_};
 ghost use Prim.Native.Nat.{_+_, _*_, _≤_, _<_};
 ghost use lib.ListN.{length};
 ghost use lib.Seq.{sets};
-ghost use Rattle.rules.specs.Names.{mostInstructions, bundleLength};
+ghost use Rattle.names.specs.Names.{mostInstructions, bundleLength};
 ghost use Rattle.rules.specs.Words.{routine};
 ghost use Rattle.rules.specs.Bundles.{bundleOf, bundlesFrom, placeAnswer, rewriteAnswer, rewriteOutput};
 ghost use Rattle.rewriter.specs.Rewriting.{Ready};

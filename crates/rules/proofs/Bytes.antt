@@ -7,12 +7,12 @@ use native.Mathlib.Omega.{arith}
 use lib.ListN.{length, getD, drop, length-append}
 use lib.Dec.{ltb, eqb}
 use borrow.Author.Tests.{le-ltb, lt-ltb, eq-eqb, ne-eqb, eqb-true, eqb-false, ltb-false}
-use Rattle.rules.specs.declared.Fields.{Fields}
-use Rattle.rules.specs.declared.Answer.{Answer}
-use Rattle.rules.specs.declared.One.{One}
-use Rattle.rules.specs.declared.One.the-variants.{Word, RefusedWith}
-use Rattle.rules.specs.declared.Refusal.the-variants.{Short, Foreign, Oversize, SmallOutput}
-use Rattle.rules.specs.Names.{mostInstructions, numberOf, refusal, roomFor}
+use Rattle.names.specs.declared.Fields.{Fields}
+use Rattle.names.specs.declared.Answer.{Answer}
+use Rattle.names.specs.declared.One.{One}
+use Rattle.names.specs.declared.One.the-variants.{Word, RefusedWith}
+use Rattle.names.specs.declared.Refusal.the-variants.{Short, Foreign, Oversize, SmallOutput}
+use Rattle.names.specs.Names.{mostInstructions, numberOf, refusal, roomFor}
 use Rattle.rules.specs.Words.{judgeOf, judgeWord, firstRefused, packFields}
 use Rattle.rules.specs.Bytes.{bitOf, mapOf, sizeOf, fieldsAt, oneFields, oneMap, oneOf, thenAnswer, scanOf, thenWords, wordsOf, countOf, wordsIn, readAnswer}
 use Rattle.rules.specs.Bytes.{byteOut, quadOut, regsOut, fieldsOut, bytesOf, routineOf, writeAnswer}

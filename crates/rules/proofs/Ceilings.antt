@@ -4,10 +4,10 @@ use mathlib.Core.List.{List, [], _∷_}
 use Prim.Native.Nat.{ℕ, _-_, _*_}
 use native.Mathlib.Omega.{arith}
 use lib.ListN.{length, getD}
-use Rattle.rules.specs.declared.Layout.{Layout}
-use Rattle.rules.specs.declared.Ending.{Ending}
-use Rattle.rules.specs.declared.Effect.{Effect}
-use Rattle.rules.specs.declared.Effect.the-variants.{Go, Put, Cell, Order, Probe, End, Wait}
+use Rattle.names.specs.declared.Layout.{Layout}
+use Rattle.names.specs.declared.Ending.{Ending}
+use Rattle.names.specs.declared.Effect.{Effect}
+use Rattle.names.specs.declared.Effect.the-variants.{Go, Put, Cell, Order, Probe, End, Wait}
 use Rattle.rules.specs.Layouts.{limited}
 use Rattle.rules.specs.Commands.{fetchOf}
 use Rattle.rules.specs.Machines.{State, applyOf, seen, nextOf, endingOf, Ran, startOf, fits, runOf}

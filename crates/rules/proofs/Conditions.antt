@@ -10,11 +10,11 @@ use lib.Dec.{eqb, leb, ltb}
 use lib.Count.{ones}
 use lib.ListN.{length, getD, set, length-set, List·getD-eq-default}
 use lib.Seq.{sets, length-sets, getD-set-same, getD-set-other}
-use Rattle.rules.specs.declared.Layout.{Layout}
-use Rattle.rules.specs.declared.Answer.{Answer}
-use Rattle.rules.specs.declared.Instr.{Instr}
-use Rattle.rules.specs.declared.Instr.the-variants.{HALT, PLAIN, LOAD, STORE, GOIF, GOX, EVENT}
-use Rattle.rules.specs.Names.{mostInstructions, mostBundles, mostCommands, bundleLength, events, command, noArrow}
+use Rattle.names.specs.declared.Layout.{Layout}
+use Rattle.names.specs.declared.Answer.{Answer}
+use Rattle.names.specs.declared.Instr.{Instr}
+use Rattle.names.specs.declared.Instr.the-variants.{HALT, PLAIN, LOAD, STORE, GOIF, GOX, EVENT}
+use Rattle.names.specs.Names.{mostInstructions, mostBundles, mostCommands, bundleLength, events, command, noArrow}
 use Rattle.rules.specs.Layouts.{rightLayout, inTable, inLandings, protected, tableEnd, landingsEnd}
 use Rattle.rules.specs.Policies.{Policy, entryRight, entriesRight, rightPolicy}
 use Rattle.rules.specs.Landings.{rightLandings, landingsOf}
@@ -22,7 +22,8 @@ use Rattle.rules.specs.Words.{kindOf, judgeAt, instrOf, routine, bundles
 use Rattle.rules.specs.Commands.{commandOf, wordOf, fetchOf}
 use Rattle.rules.specs.Bundles.{shapeOf, bundlesFrom, commandsOf, commandCount, baseRight, placeAnswer, rewriteAnswer, valid, readOff, bundleAt, isBundle, shapedAt, passesAt, checkFrom, countRight, checkAnswer}
 use Rattle.rules.specs.Claims.{Placed, SizeLaws, Installs}
-use Rattle.rules.specs.Machines.{machineAt, fits, installAnswer, installMemory, installMachine}
+use Rattle.rules.specs.Machines.{fits, installAnswer, installMemory, installMachine}
+use Rattle.names.specs.Records.{machineAt}
 use Rattle.rules.proofs.Facts.{Ready, Right, Valid, Bundled, Laid}
 use Rattle.rules.proofs.Bools.{no, cases, both, join, either, cond-ind, unless-ind, neither}
 use Rattle.rules.proofs.Refusals.{TakesEach, takes-each, taken-then}

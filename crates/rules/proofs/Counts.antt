@@ -8,18 +8,18 @@ use lib.ListN.{length, getD, set, drop, length-set, length-append}
 use lib.Seq.{getD-set-other}
 use lib.Dec.{eqb, ltb, lit<}
 use borrow.Author.Tests.{ltb-false, leb-true, eqb-false, eqb-true}
-use Rattle.rules.specs.declared.Layout.{Layout}
-use Rattle.rules.specs.declared.Machine.{Machine}
-use Rattle.rules.specs.declared.Fields.{Fields}
-use Rattle.rules.specs.declared.Answer.{Answer}
-use Rattle.rules.specs.declared.One.{One}
-use Rattle.rules.specs.declared.One.the-variants.{Word, RefusedWith}
-use Rattle.rules.specs.declared.Ending.{Ending}
-use Rattle.rules.specs.declared.Effect.{Effect}
-use Rattle.rules.specs.declared.Effect.the-variants.{Go, Put, Cell, Order, Probe, End, Wait}
-use Rattle.rules.specs.declared.Command.{Command}
-use Rattle.rules.specs.declared.Command.the-variants.{Nop, Halt, Plain, Load, Store, GoIf, GoReg, Look, StopIf, Keep, Event, Stray}
-use Rattle.rules.specs.Names.{mostInstructions, mostCommands, bundleLength, guest, topKind, orders, noArrow, answer, orElse, roomFor}
+use Rattle.names.specs.declared.Layout.{Layout}
+use Rattle.names.specs.declared.Machine.{Machine}
+use Rattle.names.specs.declared.Fields.{Fields}
+use Rattle.names.specs.declared.Answer.{Answer}
+use Rattle.names.specs.declared.One.{One}
+use Rattle.names.specs.declared.One.the-variants.{Word, RefusedWith}
+use Rattle.names.specs.declared.Ending.{Ending}
+use Rattle.names.specs.declared.Effect.{Effect}
+use Rattle.names.specs.declared.Effect.the-variants.{Go, Put, Cell, Order, Probe, End, Wait}
+use Rattle.names.specs.declared.Command.{Command}
+use Rattle.names.specs.declared.Command.the-variants.{Nop, Halt, Plain, Load, Store, GoIf, GoReg, Look, StopIf, Keep, Event, Stray}
+use Rattle.names.specs.Names.{mostInstructions, mostCommands, bundleLength, guest, topKind, orders, noArrow, answer, orElse, roomFor}
 use Rattle.rules.specs.Words.{guestLimits, hasStray, hasHigh, judgeOf, judgeWord, judgeAt, firstRefused, kindOf, vOf, fieldsOf, routine, bundlesFor}
 use Rattle.rules.specs.Bytes.{sizeOf, mapOf, fieldsAt, oneFields, oneMap, oneOf, thenAnswer, scanOf, countOf, readAnswer, oneOut, bytesOf, writeAnswer}
 use Rattle.rules.specs.Layouts.{rightLayout}

@@ -6,12 +6,12 @@ use Prim.Native.Nat.{ℕ, zero-le, _+_, _<_, _≤_}
 use native.Mathlib.Omega.{arith}
 use borrow.Author.Tests.{ltb-true, ltb-false, eqb-true, eqb-false, leb-true, lt-ltb, le-ltb, eq-eqb, ne-eqb}
 use lib.Dec.{eqb, leb, ltb, lit<, lit≤}
-use Rattle.rules.specs.declared.Fields.{Fields}
-use Rattle.rules.specs.declared.Limits.{Limits}
-use Rattle.rules.specs.declared.Instr.{Instr}
-use Rattle.rules.specs.declared.Instr.the-variants.{HALT, PLAIN, LOAD, STORE, GOIF, GOX, EVENT}
-use Rattle.rules.specs.declared.Refusal.the-variants.{Taken, BadLanding}
-use Rattle.rules.specs.Names.{topGuest, topCondition, events, topKind, guestRegisters, mostInstructions, guest, plainStep, numberOf}
+use Rattle.names.specs.declared.Fields.{Fields}
+use Rattle.names.specs.declared.Limits.{Limits}
+use Rattle.names.specs.declared.Instr.{Instr}
+use Rattle.names.specs.declared.Instr.the-variants.{HALT, PLAIN, LOAD, STORE, GOIF, GOX, EVENT}
+use Rattle.names.specs.declared.Refusal.the-variants.{Taken, BadLanding}
+use Rattle.names.specs.Names.{topGuest, topCondition, events, topKind, guestRegisters, mostInstructions, guest, plainStep, numberOf}
 use Rattle.rules.specs.Words.{kindOf, dOf, aOf, bOf, cOf, vOf, zeroOf, fieldsOf, packOf, guestLimits, judgeOf, judgeWord, judgeAt, instrOf}
 use Rattle.rules.specs.Commands.{limitsOf}
 use Rattle.rules.proofs.Facts.{Valid}

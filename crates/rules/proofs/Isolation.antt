@@ -8,10 +8,10 @@ use native.Mathlib.Omega.{arith}
 use lib.Dec.{leb, ltb}
 use lib.ListN.{length}
 use borrow.Author.Tests.{ltb-true, leb-true, eqb-true}
-use Rattle.rules.specs.declared.Layout.{Layout}
-use Rattle.rules.specs.declared.Instr.{Instr}
-use Rattle.rules.specs.declared.Machine.{Machine}
-use Rattle.rules.specs.Names.{mostBundles, bundleLength}
+use Rattle.names.specs.declared.Layout.{Layout}
+use Rattle.names.specs.declared.Instr.{Instr}
+use Rattle.names.specs.declared.Machine.{Machine}
+use Rattle.names.specs.Names.{mostBundles, bundleLength}
 use Rattle.rules.specs.Layouts.{inBox, inTable, inLandings, protected}
 use Rattle.rules.specs.Policies.{Policy, allowed}
 use Rattle.rules.specs.Words.{routine, bundlesFor}

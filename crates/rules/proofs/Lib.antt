@@ -26,6 +26,5 @@ pub mod Progress
 pub mod Pauses
 pub mod Moments
 pub mod Counts
-pub mod Turns
 pub mod Proved
 pub mod Entries

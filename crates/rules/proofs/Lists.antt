@@ -5,7 +5,7 @@ use mathlib.Core.List.{List, [], _∷_, _++_, append-assoc, append-nil}
 use Prim.Native.Nat.{ℕ}
 use native.Mathlib.Omega.{arith}
 use lib.ListN.{length, getD}
-use Rattle.rules.specs.declared.Layout.{Layout}
+use Rattle.names.specs.declared.Layout.{Layout}
 use Rattle.rules.specs.Layouts.{inBox}
 use Rattle.rules.specs.Guests.{Pair}
 use Rattle.rules.specs.Runs.{Given, pairsOf, Every, eachRun, afterAll, Run, recordedIn, Lent}

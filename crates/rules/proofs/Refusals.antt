@@ -9,8 +9,8 @@ use lib.ListN.{length, getD, take, drop, drop-of-length-le}
 use lib.Seq.{drop-cons, take-at, sets, sets-eq}
 use lib.Dec.{eqb}
 use borrow.Author.Tests.{eq-eqb, ne-eqb, eqb-true, eqb-false}
-use Rattle.rules.specs.declared.Answer.{Answer}
-use Rattle.rules.specs.Names.{answer, orElse, outputOf}
+use Rattle.names.specs.declared.Answer.{Answer}
+use Rattle.names.specs.Names.{answer, orElse, outputOf}
 use Rattle.rules.specs.Words.{firstRefused}
 use Rattle.rules.proofs.Bools.{cond-ind, cond-map}
 

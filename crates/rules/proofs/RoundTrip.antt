@@ -10,11 +10,11 @@ use lib.ListN.{length, getD, take, drop, length-append}
 use lib.Seq.{drop-cons, drop-at, getD-at, getD-drop, getD-append-add}
 use lib.Dec.{eqb, ltb}
 use borrow.Author.Tests.{ne-eqb, eq-eqb, eqb-true, le-ltb, ltb-false}
-use Rattle.rules.specs.declared.One.{One}
-use Rattle.rules.specs.declared.One.the-variants.{Word, RefusedWith}
-use Rattle.rules.specs.declared.Answer.{Answer}
-use Rattle.rules.specs.declared.Fields.{Fields}
-use Rattle.rules.specs.Names.{mostInstructions, topWord, answer}
+use Rattle.names.specs.declared.One.{One}
+use Rattle.names.specs.declared.One.the-variants.{Word, RefusedWith}
+use Rattle.names.specs.declared.Answer.{Answer}
+use Rattle.names.specs.declared.Fields.{Fields}
+use Rattle.names.specs.Names.{mostInstructions, topWord, answer}
 use Rattle.rules.specs.Words.{judgeOf, packFields, fieldsOf, zeroOf, judgeWord}
 use Rattle.rules.specs.Bytes.{bitOf, mapOf, sizeOf, byteAt, quadAt, fieldsAt, oneOf, thenAnswer, scanOf, thenWords, wordsOf, countOf, wordsIn, readAnswer, readOutput}
 use Rattle.rules.specs.Bytes.{byteOut, quadOut, regsOut, fieldsOut, oneOut, bytesOf, routineOf, writeAnswer, writeOutput}

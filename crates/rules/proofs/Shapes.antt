@@ -8,10 +8,10 @@ use borrow.Author.Tests.{eq-eqb}
 use lib.Dec.{lit<}
 use lib.ListN.{length, getD, take, drop, length-take, length-drop}
 use lib.Seq.{ext-getD, getD-take, getD-drop}
-use Rattle.rules.specs.declared.Layout.{Layout}
-use Rattle.rules.specs.declared.Instr.{Instr}
-use Rattle.rules.specs.declared.Instr.the-variants.{HALT}
-use Rattle.rules.specs.Names.{bundleLength, answer}
+use Rattle.names.specs.declared.Layout.{Layout}
+use Rattle.names.specs.declared.Instr.{Instr}
+use Rattle.names.specs.declared.Instr.the-variants.{HALT}
+use Rattle.names.specs.Names.{bundleLength, answer}
 use Rattle.rules.specs.Commands.{wordOf}
 use Rattle.rules.specs.Bundles.{shapeOf, bundleOf, readOff, bundleAt, isBundle, checkAnswer}
 use Rattle.rules.specs.Claims.{Shapes, AllShaped, Checks}

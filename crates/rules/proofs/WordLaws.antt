@@ -5,9 +5,9 @@ use Prim.Native.Nat.{ℕ, zero, suc, _+_, _*_, _/_, _≤_, _^_}
 use native.Mathlib.Omega.{arith}
 use lib.Dec.{ltb, leb}
 use borrow.Author.Tests.{ltb-false, le-ltb, ne-eqb}
-use Rattle.rules.specs.declared.Fields.{Fields}
-use Rattle.rules.specs.declared.Limits.{Limits}
-use Rattle.rules.specs.Names.{topGuest, topCondition, topWord, topKind}
+use Rattle.names.specs.declared.Fields.{Fields}
+use Rattle.names.specs.declared.Limits.{Limits}
+use Rattle.names.specs.Names.{topGuest, topCondition, topWord, topKind}
 use Rattle.rules.specs.Words.{kindOf, dOf, aOf, bOf, cOf, zeroOf, vOf, fieldsOf, packOf, packFields, guestLimits, lacks, hasStray, hasHigh, judgeOf}
 use Rattle.rules.proofs.Bools.{cond-ind, neither}
 use Rattle.rules.proofs.Tables.{all, raised}

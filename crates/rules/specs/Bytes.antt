@@ -1,7 +1,7 @@
 -- A routine's bytes: what reading and writing answer and leave.
 use Rattle.rules.specs.Kit.{ℕ, zero, suc, _+_, _*_, _/_, _%_, min, not, cond, List, [], _∷_, _++_, length, getD, drop, ltb, eqb}
 use Rattle.rules.specs.Types.{Fields, Answer, One, Word, RefusedWith, Taken, Short, Foreign, Oversize, Trailing, SmallOutput}
-use Rattle.rules.specs.Names.{mostInstructions, numberOf, answer, refusal, outputOf, roomFor, first}
+use Rattle.names.specs.Names.{mostInstructions, numberOf, answer, refusal, outputOf, roomFor, first}
 use Rattle.rules.specs.Words.{judgeOf, judgeWord, firstRefused, fieldsOf, packFields}
 
 -- 1 of a number that is not 0

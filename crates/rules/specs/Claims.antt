@@ -1,7 +1,7 @@
 -- What is claimed of the definitions. Each claim is a type; its proof has the claim's name in small letters, in proofs/.
 use Rattle.rules.specs.Kit.{ℕ, suc, _+_, _-_, _*_, _/_, _%_, _^_, _<_, _≤_, _≡_, true, false, _⊎_, List, [], _∷_, _++_, length, getD, take, drop, ones, pos, sucℤ, _*ℤ_, _≤ℤ_, _<ℤ_, ltb}
 use Rattle.rules.specs.Types.{Layout, Instr, HALT, EVENT, Machine, Outcome, Status, Running, Ended, Stopped, Faulted, Strayed, Ending, Done, NoArrow, Fault, LogFull, Silent, Spent, NoLanding, Refused, BadLayout}
-use Rattle.rules.specs.Names.{events, orders, noArrow, mostInstructions, mostBundles, bundleLength, bundleShift, landingCells, cellBits, guestRegisters, numberOf, answer, endingNumber}
+use Rattle.names.specs.Names.{events, orders, noArrow, mostInstructions, mostBundles, bundleLength, bundleShift, landingCells, cellBits, guestRegisters, numberOf, answer, endingNumber}
 use Rattle.rules.specs.Signed.{twos, sarOf, lessOf}
 use Rattle.rules.specs.Layouts.{span, rightLayout, widthOf, maskOf, inBox, protected}
 use Rattle.rules.specs.Policies.{Policy, arrow, allowed, stateOver}
@@ -10,7 +10,8 @@ use Rattle.rules.specs.Words.{routine, bundlesFor}
 use Rattle.rules.specs.Bytes.{readAnswer, readOutput, writeAnswer, writeOutput}
 use Rattle.rules.specs.Commands.{shlOf, fetchOf}
 use Rattle.rules.specs.Bundles.{addressOf, lastAddress, positionOf, shapeOf, bundleOf, valid, readOff, bundleAt, isBundle, baseRight, countRight, commandsOf, rewriteAnswer, rewriteOutput, checkAnswer}
-use Rattle.rules.specs.Machines.{State, onward, Ran, ranOf, outcomeOf, leftIn, fits, runFrom, runOf, installAnswer, installMemory}
+use Rattle.rules.specs.Machines.{State, onward, Ran, ranOf, leftIn, fits, runFrom, runOf, installAnswer, installMemory}
+use Rattle.names.specs.Records.{outcomeOf}
 use Rattle.rules.specs.Guests.{Pair, Guest, guestAfter, guestStart, boxOf}
 use Rattle.rules.specs.Runs.{begins, begunFrom, Given, Every, Each, eachRun, Carried, afterRun, runAs, allRuns, after, Run, recordedIn, Matches, Lent, Served, pairsOf, eventsOf, waitingAt, pendingAt}
 

@@ -1,6 +1,5 @@
 pub mod Kit
 pub mod Types
-pub mod Names
 pub mod Signed
 pub mod Layouts
 pub mod Policies

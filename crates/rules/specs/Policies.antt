@@ -1,7 +1,7 @@
 -- Policies: a start state and a table of 16 bytes a state.
 use Rattle.rules.specs.Kit.{ℕ, _+_, _*_, Bool, true, _&&_, _||_, not, cond, List, [], _∷_, length, getD, eqb, leb, ltb}
 use Rattle.rules.specs.Types.{Layout, PolicyNumbers}
-use Rattle.rules.specs.Names.{mostStates, events, noArrow}
+use Rattle.names.specs.Names.{mostStates, events, noArrow}
 
 -- what is installed: the state count, the start state and the table of a policy, and the list of landings
 pub record Policy : Type 0 where

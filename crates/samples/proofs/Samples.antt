@@ -7,8 +7,8 @@ use native.Mathlib.Omega.{arith}
 use lib.Count.{ones, leadingZeros}
 use lib.ListN.{set, replicate}
 use lib.Seq.{getD-set-other}
-use Rattle.rules.specs.declared.Status.the-variants.{Running, Stopped}
-use Rattle.rules.specs.Names.{topGuest}
+use Rattle.names.specs.declared.Status.the-variants.{Running, Stopped}
+use Rattle.names.specs.Names.{topGuest}
 use Rattle.rules.specs.Layouts.{rightLayout, inBox, inTable, inLandings, protected}
 use Rattle.rules.specs.Policies.{rightPolicy}
 use Rattle.rules.specs.Landings.{rightLandings, bitsFrom, landingsOf}

@@ -4,16 +4,16 @@ use Prim.Native.Nat.{ℕ}
 use mathlib.Core.Path.{_≡_}
 use mathlib.Core.List.{List, [], _∷_, _++_, map}
 use lib.ListN.{getD, set, replicate}
-use Rattle.rules.specs.declared.Layout.{Layout}
-use Rattle.rules.specs.declared.Ending.the-variants.{NoArrow, LogFull, Spent, Refused}
-use Rattle.rules.specs.declared.RunAnswer.{RunAnswer}
-use Rattle.rules.specs.declared.Outcome.{Outcome}
-use Rattle.rules.specs.Names.{guest}
-use Rattle.rules.specs.Layouts.{layoutOf}
+use Rattle.names.specs.declared.Layout.{Layout}
+use Rattle.names.specs.declared.Ending.the-variants.{NoArrow, LogFull, Spent, Refused}
+use Rattle.names.specs.declared.RunAnswer.{RunAnswer}
+use Rattle.names.specs.declared.Outcome.{Outcome}
+use Rattle.names.specs.Names.{guest}
+use Rattle.names.specs.Records.{layoutOf, runAnswer}
 use Rattle.rules.specs.Policies.{Policy, policyOf}
 use Rattle.rules.specs.Words.{packOf, routine}
 use Rattle.rules.specs.Bundles.{commandsOf}
-use Rattle.rules.specs.Machines.{installMemory, runAnswer}
+use Rattle.rules.specs.Machines.{installMemory}
 use Rattle.rules.specs.Guests.{pairOf, guestAfter, guestStart}
 use Rattle.rules.specs.Runs.{Given, Each, atFirst, afterRun, Run, recordedIn, Matches, Served, allRuns, after, pendingAt}
 use Rattle.rules.specs.Claims.{Alike, Same, Waiting}

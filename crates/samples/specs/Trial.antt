@@ -3,7 +3,7 @@ use Prim.Native.Nat.{ℕ, zero, suc}
 use mathlib.Core.Path.{_≡_}
 use mathlib.Core.List.{List, [], _∷_}
 use lib.ListN.{getD, take, replicate}
-use Rattle.rules.specs.Names.{mostBundles, mostCommands, answer, endingNumber}
+use Rattle.names.specs.Names.{mostBundles, mostCommands, answer, endingNumber}
 use Rattle.rules.specs.Policies.{Policy, policyOf}
 use Rattle.rules.specs.Machines.{Ran}
 use Rattle.rules.specs.Guests.{pairOf}

@@ -1,7 +1,7 @@
 // What programs, the C interface and hosts share: loading, running and stepping.
-use rules::Layout;
-use rules::Machine;
-use rules::Outcome;
+use names::Layout;
+use names::Machine;
+use names::Outcome;
 pub use sandbox_loading::load;
 ghost use mathlib.Core.Path.{_≡_};
 ghost use Rattle.rules.specs.Machines.{ranOf, runOf};

@@ -6,13 +6,14 @@ use native.Mathlib.Omega.{arith}
 use lib.ListN.{length, take, drop, length-append}
 use lib.Seq.{sets, length-take-le}
 use borrow.Author.Tests.{eq-eqb, ne-eqb}
-use Rattle.rules.specs.declared.Layout.{Layout}
-use Rattle.rules.specs.declared.Machine.{Machine}
-use Rattle.rules.specs.declared.Answer.{Answer}
-use Rattle.rules.specs.declared.Installed.{Installed}
-use Rattle.rules.specs.Names.{answer, orElse}
+use Rattle.names.specs.declared.Layout.{Layout}
+use Rattle.names.specs.declared.Machine.{Machine}
+use Rattle.names.specs.declared.Answer.{Answer}
+use Rattle.names.specs.declared.Installed.{Installed}
+use Rattle.names.specs.Names.{answer, orElse}
 use Rattle.rules.specs.Policies.{Policy}
-use Rattle.rules.specs.Machines.{machineRefused, installAnswer, installMemory, installMachine, installOf}
+use Rattle.rules.specs.Machines.{installAnswer, installMemory, installMachine, installOf}
+use Rattle.names.specs.Records.{machineRefused}
 use Rattle.sandbox_rules.specs.Loading.{translateAnswer, loadAnswer, loadCommands, loadMemory, loadMachine, loadOf}
 use Rattle.sandbox_translating.specs.Translating.{Listed}
 use Rattle.words_cells.proofs.Storing.{store-front}

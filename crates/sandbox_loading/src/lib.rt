@@ -1,12 +1,12 @@
 // Loading: from a routine's bytes to an installed machine and its commands: reading, rewriting,
 // checking and installing in one call. Whatever refuses, lent memory stays as it was, so the parts
 // work on a list of this crate's own and only a loaded routine's commands are copied out.
-use rules::Bundle;
-use rules::Installed;
-use rules::Layout;
-use rules::Machine;
-use rules::PolicyNumbers;
-use rules::Refusal;
+use names::Bundle;
+use names::Installed;
+use names::Layout;
+use names::Machine;
+use names::PolicyNumbers;
+use names::Refusal;
 use sandbox_translating::translate;
 use words_cells::store_words;
 ghost use Prim.Native.Nat.{_≤_};

@@ -3,7 +3,7 @@ use Prim.Native.Nat.{ℕ}
 use mathlib.Core.Path.{_≡_}
 use mathlib.Core.List.{List, []}
 use lib.ListN.{length, take}
-use Rattle.rules.specs.declared.Layout.{Layout}
+use Rattle.names.specs.declared.Layout.{Layout}
 use Rattle.rules.specs.Policies.{Policy}
 use Rattle.rules.specs.Bytes.{wordsIn}
 use Rattle.rules.specs.Bundles.{commandsOf, rewriteAnswer, checkAnswer}

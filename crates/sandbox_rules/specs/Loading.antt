@@ -2,15 +2,16 @@
 use Prim.Native.Nat.{ℕ}
 use mathlib.Core.List.{List}
 use lib.ListN.{length}
-use Rattle.rules.specs.declared.Layout.{Layout}
-use Rattle.rules.specs.declared.Machine.{Machine}
-use Rattle.rules.specs.declared.Answer.{Answer}
-use Rattle.rules.specs.declared.Installed.{Installed}
-use Rattle.rules.specs.Names.{mostInstructions, answer, ifTaken, orElse, outputOf}
+use Rattle.names.specs.declared.Layout.{Layout}
+use Rattle.names.specs.declared.Machine.{Machine}
+use Rattle.names.specs.declared.Answer.{Answer}
+use Rattle.names.specs.declared.Installed.{Installed}
+use Rattle.names.specs.Names.{mostInstructions, answer, ifTaken, orElse, outputOf}
 use Rattle.rules.specs.Policies.{Policy}
 use Rattle.rules.specs.Bytes.{wordsIn, readAnswer}
 use Rattle.rules.specs.Bundles.{commandsOf, commandCount, rewriteAnswer, checkAnswer}
-use Rattle.rules.specs.Machines.{machineRefused, installAnswer, installMemory, installMachine}
+use Rattle.rules.specs.Machines.{installAnswer, installMemory, installMachine}
+use Rattle.names.specs.Records.{machineRefused}
 
 -- reading, rewriting to a list of length room, and checking; on success the place is the commands written
 unfoldable pub translateAnswer : Layout → List ℕ → ℕ → Answer

@@ -2,8 +2,8 @@
 use mathlib.Core.Path.{_≡_, refl}
 use mathlib.Core.Bool.{Bool, true, false, cond}
 use lib.Dec.{eqb}
-use Rattle.rules.specs.declared.Answer.{Answer}
-use Rattle.rules.specs.Names.{orElse}
+use Rattle.names.specs.declared.Answer.{Answer}
+use Rattle.names.specs.Names.{orElse}
 
 pub else-assoc : (a b c : Answer) → orElse (orElse a b) c ≡ orElse a (orElse b c)
 else-assoc a b c = by (eqb (a .number) 0) refl

@@ -9,10 +9,10 @@ use lib.ListN.{length, take, drop, length-append}
 use lib.Seq.{take-at}
 use lib.Dec.{eqb, ltb}
 use borrow.Author.Tests.{eq-eqb, ne-eqb, eqb-true, eqb-false, lt-ltb, le-ltb, ltb-false}
-use Rattle.rules.specs.declared.Layout.{Layout}
-use Rattle.rules.specs.declared.Answer.{Answer}
-use Rattle.rules.specs.declared.Refusal.the-variants.{SmallOutput}
-use Rattle.rules.specs.Names.{mostInstructions, mostCommands, answer, refusal, orElse}
+use Rattle.names.specs.declared.Layout.{Layout}
+use Rattle.names.specs.declared.Answer.{Answer}
+use Rattle.names.specs.declared.Refusal.the-variants.{SmallOutput}
+use Rattle.names.specs.Names.{mostInstructions, mostCommands, answer, refusal, orElse}
 use Rattle.rules.specs.Layouts.{rightLayout}
 use Rattle.rules.specs.Words.{judgeAt, firstRefused, bundlesFor}
 use Rattle.rules.specs.Bytes.{wordsIn, readAnswer, readOutput}

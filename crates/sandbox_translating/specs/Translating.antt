@@ -3,9 +3,9 @@ use Prim.Native.Nat.{ℕ, _≤_}
 use mathlib.Core.Path.{_≡_}
 use mathlib.Core.List.{List}
 use lib.ListN.{length, take}
-use Rattle.rules.specs.declared.Layout.{Layout}
-use Rattle.rules.specs.declared.Answer.{Answer}
-use Rattle.rules.specs.Names.{mostInstructions, ifTaken, orElse, roomFor}
+use Rattle.names.specs.declared.Layout.{Layout}
+use Rattle.names.specs.declared.Answer.{Answer}
+use Rattle.names.specs.Names.{mostInstructions, ifTaken, orElse, roomFor}
 use Rattle.rules.specs.Bytes.{wordsIn, readAnswer}
 use Rattle.rules.specs.Bundles.{commandsOf, rewriteAnswer, rewriteOutput, checkAnswer}
 

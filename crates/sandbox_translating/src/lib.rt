@@ -1,13 +1,13 @@
 // From a routine's bytes to commands that passed: reading, rewriting and checking, on lists of this crate's own and of the
 // caller's, so that whatever refuses, nothing lent by a host is touched.
-use rules::Answer;
-use rules::Instr;
-use rules::Layout;
-use rules::Refusal;
+use names::Answer;
+use names::Instr;
+use names::Layout;
+use names::Refusal;
 ghost use Prim.Native.Nat.{_≤_};
 ghost use mathlib.Core.Path.{_≡_};
 ghost use lib.ListN.{length};
-ghost use Rattle.rules.specs.Names.{mostCommands};
+ghost use Rattle.names.specs.Names.{mostCommands};
 ghost use Rattle.sandbox_rules.specs.Loading.{translateAnswer};
 ghost use Rattle.sandbox_translating.specs.Translating.{writtenAnswer, writtenOutput, inRoom, checkedAnswer, Listed};
 

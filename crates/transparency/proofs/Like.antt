@@ -8,12 +8,12 @@ use native.Mathlib.Nat.{mod-eq-of-lt}
 use borrow.Author.Tests.{ne-eqb}
 use lib.Dec.{ltb}
 use lib.ListN.{length, getD, set, length-set}
-use Rattle.rules.specs.declared.Layout.{Layout}
-use Rattle.rules.specs.declared.Status.{Status}
-use Rattle.rules.specs.declared.Status.the-variants.{Running, Ended, Stopped, Faulted, Strayed}
-use Rattle.rules.specs.declared.Instr.{Instr}
-use Rattle.rules.specs.declared.Instr.the-variants.{HALT, PLAIN, LOAD, STORE, GOIF, GOX, EVENT}
-use Rattle.rules.specs.Names.{orders, noArrow}
+use Rattle.names.specs.declared.Layout.{Layout}
+use Rattle.names.specs.declared.Status.{Status}
+use Rattle.names.specs.declared.Status.the-variants.{Running, Ended, Stopped, Faulted, Strayed}
+use Rattle.names.specs.declared.Instr.{Instr}
+use Rattle.names.specs.declared.Instr.the-variants.{HALT, PLAIN, LOAD, STORE, GOIF, GOX, EVENT}
+use Rattle.names.specs.Names.{orders, noArrow}
 use Rattle.rules.specs.Layouts.{maskOf, limited, inBox}
 use Rattle.rules.specs.Policies.{Policy, arrow, stateOver}
 use Rattle.rules.specs.Landings.{listed}

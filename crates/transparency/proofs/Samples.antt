@@ -6,7 +6,7 @@ use native.Mathlib.Omega.{arith}
 use lib.Count.{ones, leadingZeros}
 use lib.Dec.{lit<, lit≤}
 use lib.ListN.{getD}
-use Rattle.rules.specs.declared.Status.the-variants.{Running, Ended}
+use Rattle.names.specs.declared.Status.the-variants.{Running, Ended}
 use Rattle.rules.specs.Layouts.{rightLayout, inBox}
 use Rattle.rules.specs.Policies.{rightPolicy}
 use Rattle.rules.specs.Landings.{rightLandings, bitsFrom, landingsOf, marked}

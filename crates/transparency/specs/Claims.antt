@@ -4,10 +4,10 @@ use mathlib.Core.Path.{_≡_}
 use mathlib.Core.Bool.{true}
 use mathlib.Core.List.{List}
 use lib.ListN.{length, getD, take}
-use Rattle.rules.specs.declared.Layout.{Layout}
-use Rattle.rules.specs.declared.Status.{Status}
-use Rattle.rules.specs.declared.Status.the-variants.{Running}
-use Rattle.rules.specs.Names.{guestRegisters}
+use Rattle.names.specs.declared.Layout.{Layout}
+use Rattle.names.specs.declared.Status.{Status}
+use Rattle.names.specs.declared.Status.the-variants.{Running}
+use Rattle.names.specs.Names.{guestRegisters}
 use Rattle.rules.specs.Layouts.{inBox}
 use Rattle.rules.specs.Policies.{Policy}
 use Rattle.rules.specs.Words.{routine, bundlesFor}

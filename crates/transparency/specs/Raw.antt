@@ -5,12 +5,12 @@ use mathlib.Core.Bool.{true, cond}
 use mathlib.Core.List.{List, []}
 use lib.ListN.{getD, set, replicate}
 use lib.Dec.{ltb}
-use Rattle.rules.specs.declared.Layout.{Layout}
-use Rattle.rules.specs.declared.Status.{Status}
-use Rattle.rules.specs.declared.Status.the-variants.{Running, Ended}
-use Rattle.rules.specs.declared.Instr.{Instr}
-use Rattle.rules.specs.declared.Instr.the-variants.{HALT, PLAIN, LOAD, STORE, GOIF, GOX, EVENT}
-use Rattle.rules.specs.Names.{guestRegisters, orders, noArrow, plainStep}
+use Rattle.names.specs.declared.Layout.{Layout}
+use Rattle.names.specs.declared.Status.{Status}
+use Rattle.names.specs.declared.Status.the-variants.{Running, Ended}
+use Rattle.names.specs.declared.Instr.{Instr}
+use Rattle.names.specs.declared.Instr.the-variants.{HALT, PLAIN, LOAD, STORE, GOIF, GOX, EVENT}
+use Rattle.names.specs.Names.{guestRegisters, orders, noArrow, plainStep}
 use Rattle.rules.specs.Layouts.{limited, inBox}
 use Rattle.rules.specs.Policies.{Policy, arrow, stateOver}
 use Rattle.rules.specs.Landings.{listed}

@@ -2,10 +2,10 @@
 // damaged routines for each number by which reading and rewriting refuse. A line each: the case,
 // its answer's number and its place.
 use lines::print_case;
-use rules::Bundle;
-use rules::Instr;
-use rules::Layout;
-use rules::PolicyNumbers;
+use names::Bundle;
+use names::Instr;
+use names::Layout;
+use names::PolicyNumbers;
 
 // Orders, each with its ceiling.
 const ORDERS: usize = PolicyNumbers::ORDERS as usize;

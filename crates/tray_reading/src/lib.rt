@@ -1,6 +1,6 @@
 // Routines of 1,023 and 1,024 instructions to read, and damaged ones for each number by which reading refuses.
 use lines::print_case;
-use rules::Instr;
+use names::Instr;
 
 // The bytes of a routine's count; a HALT has one.
 const COUNT: usize = 2;

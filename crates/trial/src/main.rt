@@ -2,12 +2,12 @@
 // where that is 0, what one run records and how it ends.
 use libc::STDIN_FILENO;
 use lines::print;
-use rules::Bundle;
-use rules::Instr;
-use rules::Layout;
-use rules::Machine;
-use rules::PolicyNumbers;
-use rules::Refusal;
+use names::Bundle;
+use names::Instr;
+use names::Layout;
+use names::Machine;
+use names::PolicyNumbers;
+use names::Refusal;
 ghost use Prim.Native.Nat.{_*_, _≤_};
 ghost use lib.ListN.{length};
 

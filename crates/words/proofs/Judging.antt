@@ -3,7 +3,7 @@ use mathlib.Core.Path.{_≡_}
 use mathlib.Core.Bool.{Bool}
 use Prim.Native.Nat.{_%_, _^_}
 use native.Mathlib.Omega.{arith}
-use Rattle.rules.specs.declared.Fields.{Fields}
+use Rattle.names.specs.declared.Fields.{Fields}
 use Rattle.rules.specs.Words.{judgeOf}
 use Rattle.words_fields.specs.Cut.{cutOf}
 use Rattle.rules.proofs.WordLaws.{bounds}

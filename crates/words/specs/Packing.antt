@@ -3,9 +3,9 @@ pub use Rattle.words_fields.specs.Cut.{cutWord}
 use Prim.Native.Nat.{ℕ, _^_, _<_, _≤_}
 use mathlib.Core.Path.{_≡_}
 use mathlib.Core.Bool.{true}
-use Rattle.rules.specs.declared.Layout.{Layout}
-use Rattle.rules.specs.declared.Instr.{Instr}
-use Rattle.rules.specs.Names.{mostBundles}
+use Rattle.names.specs.declared.Layout.{Layout}
+use Rattle.names.specs.declared.Instr.{Instr}
+use Rattle.names.specs.Names.{mostBundles}
 use Rattle.rules.specs.Bundles.{addressOf, valid as isValid}
 
 -- an instruction that is valid among n bundles, of which a list can be made that ends at 2 ^ 32 or before it

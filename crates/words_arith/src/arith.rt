@@ -1,5 +1,5 @@
 // Arithmetic of 32-bit numbers: wrapping, two's complement, the conditions.
-use rules::Layout;
+use names::Layout;
 use words_signed::less;
 pub use words_signed::sar;
 ghost use mathlib.Core.Path.{_≡_};

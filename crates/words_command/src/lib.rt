@@ -1,10 +1,10 @@
 // Command words: whether a word is a command, and which.
-use rules::Command;
+use names::Command;
 use words_fields::field;
 use words_fields::fields;
 ghost use mathlib.Core.Path.{_≡_};
 ghost use Prim.Native.Nat.{_<_};
-ghost use Rattle.rules.specs.Names.{commandKinds};
+ghost use Rattle.names.specs.Names.{commandKinds};
 ghost use Rattle.rules.specs.Words.{kindOf};
 ghost use Rattle.rules.specs.Commands.{limitsOf, isCommand, commandOf};
 ghost use Rattle.words_fields.specs.Strays.{strayOf};

@@ -9,8 +9,8 @@ use lib.Count.{leadingZeros}
 use lib.Dec.{eqb, ltb}
 use lib.Pow.{pow-mono}
 use borrow.Author.Tests.{eqb-true, eqb-false, ltb-true, ltb-false}
-use Rattle.rules.specs.declared.Layout.{Layout}
-use Rattle.rules.specs.Names.{bundleLength, baseBound}
+use Rattle.names.specs.declared.Layout.{Layout}
+use Rattle.names.specs.Names.{bundleLength, baseBound}
 use Rattle.rules.specs.Words.{bundlesFor}
 use Rattle.rules.specs.Bundles.{baseRight}
 use Rattle.rules.proofs.Bools.{either, neither}

@@ -1,6 +1,6 @@
 // The count of a list's bundles, and the base that fits it.
-use rules::Bundle;
-use rules::Layout;
+use names::Bundle;
+use names::Layout;
 ghost use mathlib.Core.Path.{_≡_};
 ghost use Rattle.rules.specs.Words.{bundlesFor};
 ghost use Rattle.rules.specs.Bundles.{countRight, baseRight};

@@ -8,7 +8,7 @@ use lib.Dec.{eqb, ltb}
 use native.Mathlib.Nat.{add-comm}
 use lib.Pow.{shr-shr}
 use lib.Bits.{bitAnd, and-mask, and-mod, and-shr, and-zero-r}
-use Rattle.rules.specs.Names.{guestRegisters}
+use Rattle.names.specs.Names.{guestRegisters}
 use Rattle.rules.specs.Words.{kindOf, dOf, aOf, bOf, cOf, zeroOf, vOf}
 use Rattle.words_fields.specs.Guests.{guestsOf}
 use Rattle.rules.proofs.Tables.{all, each}

@@ -1,6 +1,6 @@
 -- Fields too great for a word, as packing takes them.
 use Prim.Native.Nat.{ℕ, _%_, _^_}
-use Rattle.rules.specs.declared.Fields.{Fields}
+use Rattle.names.specs.declared.Fields.{Fields}
 use Rattle.rules.specs.Words.{packOf}
 
 -- fields cut to their widths in a word

@@ -2,7 +2,7 @@
 use Prim.Native.Nat.{ℕ}
 use mathlib.Core.Bool.{Bool, _&&_}
 use lib.Dec.{ltb}
-use Rattle.rules.specs.Names.{guestRegisters}
+use Rattle.names.specs.Names.{guestRegisters}
 use Rattle.rules.specs.Words.{dOf, aOf, bOf}
 
 -- no register field of a word names the hidden register

@@ -2,8 +2,8 @@
 use Prim.Native.Nat.{ℕ, _+_, _-_, _*_, _^_}
 use mathlib.Core.Bool.{cond}
 use lib.Dec.{eqb}
-use Rattle.rules.specs.declared.Limits.{Limits}
-use Rattle.rules.specs.Names.{topWord}
+use Rattle.names.specs.declared.Limits.{Limits}
+use Rattle.names.specs.Names.{topWord}
 
 -- the bits of a register field: all where the kind lacks it, else none
 abbrev pub barred : ℕ → ℕ

@@ -1,8 +1,8 @@
 // The fields of a word: taken apart, packed, and the instruction that they stand for; and the bits that no word of a kind has.
 pub mod field;
 
-use rules::Fields;
-use rules::Instr;
+use names::Fields;
+use names::Instr;
 ghost use mathlib.Core.Path.{_≡_};
 ghost use Rattle.rules.specs.Words.{fieldsOf, packFields, instrOf};
 ghost use Rattle.words_fields.specs.Cut.{cutOf, cutWord};

@@ -6,9 +6,9 @@ use native.Mathlib.Omega.{arith}
 use lib.Bits.{bitAnd}
 use lib.Dec.{ltb, eqb}
 use borrow.Author.Tests.{eq-eqb, ne-eqb, eqb-true, lt-ltb, ltb-true, ltb-false, not-true}
-use Rattle.rules.specs.declared.Fields.{Fields}
-use Rattle.rules.specs.declared.Refusal.the-variants.{Taken, BadLanding}
-use Rattle.rules.specs.Names.{guestRegisters, topGuest, guest, topKind, numberOf}
+use Rattle.names.specs.declared.Fields.{Fields}
+use Rattle.names.specs.declared.Refusal.the-variants.{Taken, BadLanding}
+use Rattle.names.specs.Names.{guestRegisters, topGuest, guest, topKind, numberOf}
 use Rattle.rules.specs.Words.{guestLimits, judgeOf, fieldsOf, kindOf, dOf, aOf, bOf, vOf, zeroOf, judgeWord, judgeAt}
 use Rattle.rules.proofs.Bools.{both, join}
 use Rattle.rules.proofs.WordLaws.{good, judged, bounds}

@@ -1,7 +1,7 @@
 // The first refusal of a guest word, alone and among others.
-use rules::Answer;
-use rules::Instr;
-use rules::Refusal;
+use names::Answer;
+use names::Instr;
+use names::Refusal;
 use words_fields::field;
 use words_fields::fields;
 use words_fields::guests;
@@ -11,7 +11,7 @@ ghost use mathlib.Core.Path.{_≡_};
 ghost use Prim.Native.Nat.{_≤_};
 ghost use lib.Dec.{eqb};
 ghost use lib.ListN.{length};
-ghost use Rattle.rules.specs.Names.{topKind};
+ghost use Rattle.names.specs.Names.{topKind};
 ghost use Rattle.rules.specs.Words.{guestLimits, judgeWord, judgeAt, firstRefused};
 ghost use Rattle.words_fields.specs.Strays.{strayOf};
 

@@ -8,8 +8,8 @@ use lib.Count.{ones}
 use lib.Pow.{split, pow-mono}
 use lib.Dec.{leb, eqb}
 use borrow.Author.Tests.{le-ltb, lt-ltb, le-leb, lt-leb, eq-eqb, ne-eqb}
-use Rattle.rules.specs.declared.Layout.{Layout}
-use Rattle.rules.specs.Names.{mostCells, baseBound, cellBits}
+use Rattle.names.specs.declared.Layout.{Layout}
+use Rattle.names.specs.Names.{mostCells, baseBound, cellBits}
 use Rattle.rules.specs.Policies.{statesRight}
 use Rattle.rules.specs.Layouts.{rightLayout, inRange, span, widthOf, inMemory, apart}
 use Rattle.rules.proofs.Masks.{one-bit}

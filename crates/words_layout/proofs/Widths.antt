@@ -3,7 +3,7 @@ use mathlib.Core.Path.{_≡_}
 use Prim.Native.Nat.{_<_}
 use native.Mathlib.Omega.{arith}
 use lib.Count.{trailingZeros}
-use Rattle.rules.specs.declared.Layout.{Layout}
+use Rattle.names.specs.declared.Layout.{Layout}
 use Rattle.rules.specs.Layouts.{span, widthOf}
 
 -- a sandbox turned round counts as one cell

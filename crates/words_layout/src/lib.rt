@@ -1,6 +1,6 @@
 // The test of a layout, and the mask that keeps an address in its block.
-use rules::Layout;
-use rules::PolicyNumbers;
+use names::Layout;
+use names::PolicyNumbers;
 ghost use mathlib.Core.Path.{_≡_};
 ghost use mathlib.Core.Bool.{_&&_};
 ghost use lib.Dec.{eqb};

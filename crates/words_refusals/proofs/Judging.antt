@@ -3,10 +3,10 @@ use mathlib.Core.Path.{_≡_}
 use mathlib.Core.Bool.{Bool, true, false, _||_}
 use Prim.Native.Nat.{_≤_, _<_}
 use borrow.Author.Tests.{le-ltb, lt-ltb}
-use Rattle.rules.specs.declared.Fields.{Fields}
-use Rattle.rules.specs.declared.Limits.{Limits}
-use Rattle.rules.specs.declared.Refusal.the-variants.{Taken, Foreign, UnknownKind, OffRange}
-use Rattle.rules.specs.Names.{topKind, numberOf}
+use Rattle.names.specs.declared.Fields.{Fields}
+use Rattle.names.specs.declared.Limits.{Limits}
+use Rattle.names.specs.declared.Refusal.the-variants.{Taken, Foreign, UnknownKind, OffRange}
+use Rattle.names.specs.Names.{topKind, numberOf}
 use Rattle.rules.specs.Words.{guestLimits, hasStray, hasHigh, judgeOf}
 
 module _ (x : Bool) (f : Fields) where

@@ -1,13 +1,13 @@
 // The first refusal of an instruction, by its fields.
-use rules::Fields;
-use rules::Instr;
-use rules::Limits;
-use rules::Machine;
-use rules::PolicyNumbers;
-use rules::Refusal;
+use names::Fields;
+use names::Instr;
+use names::Limits;
+use names::Machine;
+use names::PolicyNumbers;
+use names::Refusal;
 ghost use mathlib.Core.Path.{_≡_};
 ghost use Prim.Native.Nat.{_≤_};
-ghost use Rattle.rules.specs.Names.{topKind};
+ghost use Rattle.names.specs.Names.{topKind};
 ghost use Rattle.rules.specs.Words.{limitOf, guestLimits, hasStray, hasHigh, judgeOf};
 
 // The greatest kind, the greatest guest register and the greatest condition.

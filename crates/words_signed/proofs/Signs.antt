@@ -13,7 +13,7 @@ use borrow.Author.Tests.{ltb-true, ltb-false}
 use mir.Syntax.{w32}
 use mir.Val.{SFits, Fits, toZ, ofZ}
 use mir.Facts.{toZ-ofZ, toZ-pos, sfits-toZ}
-use Rattle.rules.specs.Names.{cellBits, topShift}
+use Rattle.names.specs.Names.{cellBits, topShift}
 use Rattle.rules.specs.Signed.{twos, bitsOf}
 use Rattle.rules.specs.Commands.{shlOf}
 

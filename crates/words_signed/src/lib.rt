@@ -1,8 +1,8 @@
 // 32-bit numbers as two's complement.
-use rules::Layout;
+use names::Layout;
 ghost use mathlib.Core.Path.{_≡_};
 ghost use Prim.Native.Nat.{min};
-ghost use Rattle.rules.specs.Names.{topShift};
+ghost use Rattle.names.specs.Names.{topShift};
 ghost use Rattle.rules.specs.Signed.{twos, bitsOf, sarOf, lessOf};
 
 // The number that x stands for as two's complement.

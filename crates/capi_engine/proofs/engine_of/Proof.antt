@@ -1,4 +1,4 @@
-use Rattle.rules.specs.Names.{guestRegisters}
+use Rattle.names.specs.Names.{guestRegisters}
 use Rattle.engine_rules.specs.Engines.{engineOf}
 use Rattle.capi_numbers.proofs.Numbers.{record-read}
 use borrow.Author.Needs.{needs}

@@ -1,4 +1,4 @@
-use Rattle.rules.specs.Names.{guestRegisters}
+use Rattle.names.specs.Names.{guestRegisters}
 use Rattle.capi_numbers.proofs.Numbers.{record-left}
 use borrow.Author.Needs.{needs}
 use Rattle.capi_engine.proofs.record_after.Statement.{statement}

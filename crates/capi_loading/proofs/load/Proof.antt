@@ -1,5 +1,5 @@
 use mathlib.Core.Path.{ap}
-use Rattle.rules.specs.declared.Installed.{Installed}
+use Rattle.names.specs.declared.Installed.{Installed}
 use lib.Dec.{lit<}
 use Rattle.sandbox_rules.proofs.Loading.{load-bound}
 use Rattle.capi_answers.proofs.Places.{narrow}

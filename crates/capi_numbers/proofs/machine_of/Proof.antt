@@ -1,5 +1,5 @@
-use Rattle.rules.specs.Names.{registers}
-use Rattle.rules.specs.Machines.{machineOf}
+use Rattle.names.specs.Names.{registers}
+use Rattle.names.specs.Records.{machineOf}
 use Rattle.capi_numbers.proofs.Numbers.{record-read}
 use borrow.Author.Needs.{needs}
 use Rattle.capi_numbers.proofs.machine_of.Statement.{statement}

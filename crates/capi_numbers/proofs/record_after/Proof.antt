@@ -1,4 +1,4 @@
-use Rattle.rules.specs.Names.{registers}
+use Rattle.names.specs.Names.{registers}
 use Rattle.capi_numbers.proofs.Numbers.{record-left}
 use borrow.Author.Needs.{needs}
 use Rattle.capi_numbers.proofs.record_after.Statement.{statement}

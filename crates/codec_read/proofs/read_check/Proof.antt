@@ -1,6 +1,6 @@
 use mathlib.Core.Path.{_≡_, _∙_, ap}
 use native.Mathlib.Omega.{arith}
-use Rattle.rules.specs.declared.Answer.{Answer}
+use Rattle.names.specs.declared.Answer.{Answer}
 use borrow.Author.Needs.{needs}
 use Rattle.rules.proofs.Bytes.{read-many, read-room, read-short}
 use Rattle.codec_read.proofs.Reading.{read-rest, aside-rest}

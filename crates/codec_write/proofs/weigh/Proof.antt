@@ -5,7 +5,7 @@ use Rattle.codec_write.proofs.Writing.{weigh-more, weigh-small, weigh-t
 use mathlib.Core.Path.{_≡_, _∙_}
 use Prim.Native.Nat.{_≤_, _-_, _+_, _*_}
 use lib.ListN.{length, drop}
-use Rattle.rules.specs.Names.{roomFor}
+use Rattle.names.specs.Names.{roomFor}
 use Rattle.rules.specs.Words.{judgeWord, firstRefused}
 use Rattle.rules.specs.Bytes.{bytesOf, routineOf}
 use Rattle.codec_write.proofs.weigh.Statement.{statement}

@@ -1,7 +1,7 @@
 use Rattle.words.proofs.Laws.{past}
 use Rattle.engine_acts.proofs.Acting.{arm}
 use Rattle.engine_rules.specs.Engines.{actOf}
-use Rattle.rules.specs.Names.{guest}
+use Rattle.names.specs.Names.{guest}
 use Rattle.rules.specs.Words.{kindOf}
 use Rattle.rules.specs.Commands.{plainOf}
 use native.Mathlib.Omega.{arith}

@@ -1,6 +1,6 @@
 use mathlib.Core.Path.{ap}
 use borrow.Author.Needs.{needs}
-use Rattle.rules.specs.declared.Effect.the-variants.{Go}
+use Rattle.names.specs.declared.Effect.the-variants.{Go}
 use Rattle.machine_effects.proofs.Laws.{jump-lands, jump-strays, jump-stays}
 use Rattle.machine_effects.proofs.jump.Statement.{statement}
 use Rattle.machine_effects.proofs.jump.Tie as tie

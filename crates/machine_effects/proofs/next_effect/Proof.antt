@@ -1,7 +1,7 @@
 use mathlib.Core.Path.{_∙_, sym, ap}
 use borrow.Author.Needs.{needs}
 use denote.Ref.{now}
-use Rattle.rules.specs.declared.Command.{Command}
+use Rattle.names.specs.declared.Command.{Command}
 use Rattle.rules.specs.Machines.{effectOf, viewOf}
 use Rattle.machine_effects.proofs.Laws.{fetch-in, fetch-out}
 use Rattle.machine_effects.proofs.next_effect.Statement.{statement}

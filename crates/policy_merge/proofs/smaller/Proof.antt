@@ -3,7 +3,7 @@ use mathlib.Core.Path.{_≡_}
 use mathlib.Core.List.{_++_}
 use lib.ListN.{getD, drop, replicate}
 use borrow.Author.Needs.{needs}
-use Rattle.rules.specs.Names.{orders}
+use Rattle.names.specs.Names.{orders}
 use Rattle.policy_maps.specs.Maps.{build}
 use Rattle.policy_maps.proofs.Tables.{fill-none, fill-more}
 use Rattle.policy_merge.proofs.Laws.{smaller-done}

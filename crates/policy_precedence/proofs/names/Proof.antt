@@ -2,7 +2,7 @@ use Prim.Native.Nat.{_-_, _≤_, zero-le}
 use mathlib.Core.Path.{_≡_}
 use borrow.Author.Needs.{needs}
 use lib.ListN.{length}
-use Rattle.rules.specs.Names.{events}
+use Rattle.names.specs.Names.{events}
 use Rattle.policy_maps.specs.Maps.{mapWhere}
 use Rattle.policy_precedence.specs.Precedence.{namedIn}
 use Rattle.policy_precedence.proofs.Laws.{names-none, names-more, names-done}

@@ -4,7 +4,7 @@ use native.Mathlib.Omega.{arith}
 use lib.ListN.{length}
 use lib.Seq.{sets}
 use borrow.Author.Needs.{needs}
-use Rattle.rules.specs.Names.{bundleLength}
+use Rattle.names.specs.Names.{bundleLength}
 use Rattle.rules.specs.Words.{routine}
 use Rattle.rules.specs.Bundles.{bundlesFrom}
 use Rattle.rewriter.proofs.Filling.{fill-start, still-ready, fill-more, fill-done, length-put}

@@ -4,7 +4,7 @@ use mathlib.Core.Path.{_≡_, sym, subst}
 use mathlib.Core.List.{List}
 use native.Mathlib.Omega.{arith}
 use lib.ListN.{length}
-use Rattle.rules.specs.declared.Outcome.{Outcome}
+use Rattle.names.specs.declared.Outcome.{Outcome}
 use Rattle.rules.specs.Machines.{Ran, ranOf}
 use Rattle.rules.proofs.Counts.{RunCounts, run-counts}
 use borrow.Author.Needs.{needs}

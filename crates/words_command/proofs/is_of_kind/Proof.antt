@@ -3,7 +3,7 @@ use Prim.Native.Nat.{ℕ, _<_}
 use mathlib.Core.Path.{_≡_, subst, sym, _∙_, ap}
 use lib.Dec.{eqb}
 use lib.Bits.{bitAnd}
-use Rattle.rules.specs.Names.{commandKinds}
+use Rattle.names.specs.Names.{commandKinds}
 use Rattle.rules.specs.Commands.{limitsOf, isCommand}
 use Rattle.words_fields.specs.Strays.{strayOf}
 use Rattle.words_command.proofs.Masks.{clean-is}

@@ -1,6 +1,6 @@
 use Prim.Native.Nat.{zero-le, _≤_}
 use native.Mathlib.Omega.{arith}
-use Rattle.rules.specs.Names.{commandKinds}
+use Rattle.names.specs.Names.{commandKinds}
 use Rattle.rules.proofs.Tables.{past}
 use Rattle.words_command.proofs.stray.Statement.{statement}
 use Rattle.words_command.proofs.stray.Tie as tie

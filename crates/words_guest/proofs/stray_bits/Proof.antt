@@ -1,6 +1,6 @@
 use Prim.Native.Nat.{zero-le, _+_, _≤_}
 use native.Mathlib.Omega.{arith}
-use Rattle.rules.specs.Names.{topKind}
+use Rattle.names.specs.Names.{topKind}
 use Rattle.rules.proofs.Tables.{past}
 use Rattle.words_guest.proofs.stray_bits.Statement.{statement}
 use Rattle.words_guest.proofs.stray_bits.Tie as tie

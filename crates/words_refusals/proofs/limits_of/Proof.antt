@@ -2,7 +2,7 @@ use mathlib.Core.Path.{_∙_}
 use Prim.Native.Nat.{zero-le, _+_, _≤_}
 use borrow.Author.Needs.{needs}
 use native.Mathlib.Omega.{arith}
-use Rattle.rules.specs.Names.{topKind}
+use Rattle.names.specs.Names.{topKind}
 use Rattle.rules.proofs.Tables.{past}
 use Rattle.words_refusals.proofs.limits_of.Statement.{statement}
 use Rattle.words_refusals.proofs.limits_of.Tie as tie

@@ -2,7 +2,7 @@ use borrow.Author.Needs.{needs, sfits-of}
 use native.Mathlib.Omega.{arith}
 use native.Mathlib.Nat.{min-le-right}
 use mathlib.Core.Path.{ap, _∙_}
-use Rattle.rules.specs.Names.{topShift}
+use Rattle.names.specs.Names.{topShift}
 use Rattle.rules.specs.Signed.{bitsOf}
 use Rattle.words_signed.proofs.Signs.{shifted}
 use Rattle.words_signed.proofs.sar.Statement.{statement}

@@ -1,6 +1,14 @@
 -- The numbers of document 01 and of the requests, each named once, and the numbers of refusals and endings.
-use Rattle.rules.specs.Kit.{ℕ, _+_, _-_, _*_, _^_, Bool, cond, List, [], _∷_, _++_, length, drop, eqb, ltb}
-use Rattle.rules.specs.Types.{Refusal, Taken, Short, Foreign, UnknownKind, OffRange, Oversize, Trailing, BadLayout, BadLanding, SmallOutput, BadPolicy, BadBundle, BadCount, BadBase, BadLandings, TooManyStates, BadDrawing, BadPair, NotForward, Ending, Done, NoArrow, Fault, LogFull, Silent, Spent, NoLanding, Refused, Answer}
+use Prim.Native.Nat.{ℕ, _+_, _-_, _*_, _^_}
+use mathlib.Core.Bool.{Bool, cond}
+use mathlib.Core.List.{List, [], _∷_, _++_}
+use lib.ListN.{length, drop}
+use lib.Dec.{eqb, ltb}
+use Rattle.names.specs.declared.Refusal.{Refusal}
+use Rattle.names.specs.declared.Refusal.the-variants.{Taken, Short, Foreign, UnknownKind, OffRange, Oversize, Trailing, BadLayout, BadLanding, SmallOutput, BadPolicy, BadBundle, BadCount, BadBase, BadLandings, TooManyStates, BadDrawing, BadPair, NotForward}
+use Rattle.names.specs.declared.Ending.{Ending}
+use Rattle.names.specs.declared.Ending.the-variants.{Done, NoArrow, Fault, LogFull, Silent, Spent, NoLanding, Refused}
+use Rattle.names.specs.declared.Answer.{Answer}
 
 -- U is from 1 to 4,096, S from 1 to 16, B has 32 bits
 abbrev pub mostCells : ℕ
