@@ -1,18 +1,18 @@
 // The C interface: the sandbox's parts over numbers, arrays and slices. Each part is proved in a crate of its own and has
 // its name for C here.
-use capi_numbers::ANSWER;
-use capi_numbers::LAYOUT;
-use capi_numbers::MADE;
-use capi_numbers::RECORD;
-use capi_numbers::RUN_ANSWER;
+use capi_answers::ANSWER;
+use capi_answers::MADE;
+use capi_answers::RUN_ANSWER;
+use capi_layouts::LAYOUT;
+use capi_machines::RECORD;
 ghost use mathlib.Core.Path.{_≡_};
 ghost use lib.ListN.{length};
 ghost use Rattle.rules.specs.Policies.{policyOf};
 ghost use Rattle.installer_words.specs.Words.{wordRight};
 ghost use Rattle.rules.specs.Bytes.{readAnswer, readOutput, writeAnswer, writeOutput};
 ghost use Rattle.rules.specs.Bundles.{rewriteAnswer, rewriteOutput};
-ghost use Rattle.capi_numbers.specs.Numbers.{layoutFrom, answerTo};
-ghost use Rattle.capi_numbers.specs.Hosts.{checkFor, hostInstalled, installFor, hostLoaded, loadFor, hostRan, runFor, hostPreviewed, previewFor};
+ghost use Rattle.capi_rules.specs.Numbers.{layoutFrom, answerTo};
+ghost use Rattle.capi_rules.specs.Hosts.{checkFor, hostInstalled, installFor, hostLoaded, loadFor, hostRan, runFor, hostPreviewed, previewFor};
 ghost use Rattle.policy_precedence.specs.Precedence.{makeOf, makeTable};
 ghost use Rattle.forward_rules.specs.Forward.{forwardAnswer, checkForwardAnswer};
 ghost use Rattle.policy_determinise.specs.Drawings.{drawingOf, determiniseOf, determiniseTable};

@@ -1,12 +1,16 @@
 // Answers as the numbers of a C host.
-use capi_numbers::ANSWER;
-use capi_numbers::MADE;
-use capi_numbers::RUN_ANSWER;
 use names::Answer;
 use names::RunAnswer;
 ghost use mathlib.Core.Path.{_≡_};
 ghost use Prim.Native.Nat.{_<_, _^_};
-ghost use Rattle.capi_numbers.specs.Numbers.{answerTo, runAnswerTo, madeTo};
+ghost use Rattle.capi_rules.specs.Numbers.{answerTo, runAnswerTo, madeTo};
+
+// How many numbers an answer has; a run's answer; a made policy.
+pub const ANSWER: usize = 2;
+
+pub const RUN_ANSWER: usize = 4;
+
+pub const MADE: usize = 4;
 
 pub fn answer_of(a: Answer) -> [u32; ANSWER]
     requires { ⌜ a .place < 2 ^ 32 ⌝ }

@@ -1,10 +1,10 @@
 // A routine's bytes, for a C host.
+use capi_answers::ANSWER;
 use capi_answers::answer_of;
-use capi_numbers::ANSWER;
 ghost use mathlib.Core.Path.{_≡_};
 ghost use lib.ListN.{length};
 ghost use Rattle.rules.specs.Bytes.{readAnswer, readOutput, writeAnswer, writeOutput};
-ghost use Rattle.capi_numbers.specs.Numbers.{answerTo};
+ghost use Rattle.capi_rules.specs.Numbers.{answerTo};
 
 // Reads a routine's bytes into words.
 pub fn read(bytes: &[u8], words: &mut [u64], answer: &mut [u32; ANSWER])

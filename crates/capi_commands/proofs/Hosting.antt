@@ -6,8 +6,8 @@ use lib.ListN.{length}
 use Rattle.names.specs.declared.Layout.{Layout}
 use Rattle.names.specs.declared.Answer.{Answer}
 use Rattle.rules.specs.Bundles.{rewriteAnswer, rewriteOutput, checkAnswer}
-use Rattle.capi_numbers.specs.Numbers.{layoutFrom, answerTo}
-use Rattle.capi_numbers.specs.Hosts.{checkFor}
+use Rattle.capi_rules.specs.Numbers.{layoutFrom, answerTo}
+use Rattle.capi_rules.specs.Hosts.{checkFor}
 
 -- what a part answers and leaves under the layout of a host's numbers
 module _ (xs : List ℕ) (l : Layout) (e : l ≡ layoutFrom xs) where

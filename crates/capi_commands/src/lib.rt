@@ -1,13 +1,13 @@
 // A routine's commands, for a C host: rewriting words into them, and checking them.
+use capi_answers::ANSWER;
 use capi_answers::answer_of;
-use capi_numbers::ANSWER;
-use capi_numbers::LAYOUT;
-use capi_numbers::layout_of;
+use capi_layouts::LAYOUT;
+use capi_layouts::layout_of;
 ghost use mathlib.Core.Path.{_≡_};
 ghost use lib.ListN.{length};
 ghost use Rattle.rules.specs.Bundles.{rewriteAnswer, rewriteOutput};
-ghost use Rattle.capi_numbers.specs.Numbers.{layoutFrom, answerTo};
-ghost use Rattle.capi_numbers.specs.Hosts.{checkFor};
+ghost use Rattle.capi_rules.specs.Numbers.{layoutFrom, answerTo};
+ghost use Rattle.capi_rules.specs.Hosts.{checkFor};
 
 // Rewrites a routine's words into commands.
 pub fn rewrite(

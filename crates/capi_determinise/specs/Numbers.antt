@@ -4,7 +4,7 @@ use mathlib.Core.Bool.{cond}
 use mathlib.Core.List.{List}
 use lib.Dec.{ltb}
 use Rattle.names.specs.Names.{mostStates}
-use Rattle.capi_numbers.specs.Numbers.{madeTo}
+use Rattle.capi_rules.specs.Numbers.{madeTo}
 use Rattle.policy_exploration.specs.declared.Made.{Made}
 
 -- a map of starts that has a bit above 15 counts as none: 16 refuses both

@@ -1,6 +1,6 @@
 // The policy of a drawing with several arrows and starts, for a C host.
+use capi_answers::MADE;
 use capi_answers::made_of;
-use capi_numbers::MADE;
 ghost use mathlib.Core.Path.{_≡_};
 ghost use lib.ListN.{length};
 ghost use Rattle.policy_determinise.specs.Drawings.{drawingOf, determiniseOf, determiniseTable};

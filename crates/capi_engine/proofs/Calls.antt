@@ -12,12 +12,12 @@ use Rattle.rules.specs.Machines.{installAnswer, installMemory}
 use Rattle.rules.specs.Runs.{Given, eachRun, Carried as MachineCarried}
 use Rattle.rules.proofs.Conditions.{installs}
 use Rattle.sandbox_rules.proofs.Loading.{loads}
-use Rattle.capi_numbers.specs.Numbers.{layoutFrom}
-use Rattle.capi_numbers.specs.Hosts.{installFor, loadFor}
-use Rattle.capi_numbers.specs.Claims.{callsOf}
-use Rattle.capi_numbers.proofs.Numbers.{comes-back, called}
+use Rattle.capi_rules.specs.Numbers.{layoutFrom}
+use Rattle.capi_rules.specs.Hosts.{installFor, loadFor}
+use Rattle.capi_rules.specs.Claims.{callsOf}
+use Rattle.capi_rules.proofs.Numbers.{comes-back, called}
 use Rattle.rules.proofs.Counts.{apply-regs}
-use Rattle.capi_numbers.proofs.Calls.{calls-from, keeps-regs}
+use Rattle.capi_rules.proofs.Calls.{calls-from, keeps-regs}
 use Rattle.engine_rules.specs.Engines.{engineOf, engineFirst, effectOn, withMemory, movedOf, startOf, refusalOf, refusalBy, runOf}
 use Rattle.engine_rules.specs.Claims.{Carried, carriedOf, atFirst, runOn, afterTaken, afterRun, runAs, Lends}
 use Rattle.engine_rules.proofs.Runs.{engineLoop}

@@ -6,8 +6,8 @@ use native.Mathlib.Omega.{arith}
 use Rattle.names.specs.declared.Layout.{Layout}
 use Rattle.names.specs.Names.{guestRegisters}
 use Rattle.rules.specs.Machines.{ranOf}
-use Rattle.capi_numbers.specs.Numbers.{layoutFrom, numbersAfter}
-use Rattle.capi_numbers.specs.Hosts.{hostRan, hostLeft}
+use Rattle.capi_rules.specs.Numbers.{layoutFrom, numbersAfter}
+use Rattle.capi_rules.specs.Hosts.{hostRan, hostLeft}
 use Rattle.engine_rules.specs.declared.Engine.{Engine}
 use Rattle.engine_rules.specs.declared.EngineOutcome.{EngineOutcome}
 use Rattle.engine_rules.specs.Engines.{Ran, runOf}

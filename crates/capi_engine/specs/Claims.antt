@@ -1,4 +1,4 @@
--- What is claimed of the engine's record in a C host's numbers, as `capi_numbers` claims it of the machine's, and of calls of hemdroas_engine.
+-- What is claimed of the engine's record in a C host's numbers, as `capi_rules` claims it of the machine's, and of calls of hemdroas_engine.
 use Prim.Native.Nat.{ℕ, _+_}
 use mathlib.Core.Path.{_≡_}
 use mathlib.Core.List.{List, [], map}
@@ -6,9 +6,9 @@ use lib.ListN.{replicate}
 use Rattle.names.specs.Names.{guestRegisters}
 use Rattle.rules.specs.Policies.{Policy}
 use Rattle.rules.specs.Runs.{Given}
-use Rattle.capi_numbers.specs.Numbers.{layoutFrom, behind}
-use Rattle.capi_numbers.specs.Hosts.{installFor, loadFor, HostRan}
-use Rattle.capi_numbers.specs.Claims.{ComesBack, callsOf, number}
+use Rattle.capi_rules.specs.Numbers.{layoutFrom, behind}
+use Rattle.capi_rules.specs.Hosts.{installFor, loadFor, HostRan}
+use Rattle.capi_rules.specs.Claims.{ComesBack, callsOf, number}
 use Rattle.engine_rules.specs.Engines.{engineFirst, refusalOf}
 use Rattle.engine_rules.specs.Claims.{carriedOf, Lends, allRuns, Isolated}
 use Rattle.capi_engine.specs.Records.{engineFrom, engineTo, ranTo, engineFor}

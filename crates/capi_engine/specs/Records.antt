@@ -2,8 +2,8 @@
 use Prim.Native.Nat.{ℕ}
 use mathlib.Core.List.{List, [], _∷_}
 use Rattle.names.specs.Names.{guestRegisters}
-use Rattle.capi_numbers.specs.Numbers.{layoutFrom, recordTo, recordFrom}
-use Rattle.capi_numbers.specs.Hosts.{HostRan, hostRan, hostLeft}
+use Rattle.capi_rules.specs.Numbers.{layoutFrom, recordTo, recordFrom}
+use Rattle.capi_rules.specs.Hosts.{HostRan, hostRan, hostLeft}
 use Rattle.engine_rules.specs.declared.Engine.{Engine}
 use Rattle.engine_rules.specs.declared.EngineOutcome.{EngineOutcome}
 use Rattle.engine_rules.specs.Engines.{engineOf, Ran, runOf}

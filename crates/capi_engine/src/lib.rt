@@ -1,17 +1,17 @@
 // The engine over a C host's numbers, for the C interface: record and answer as arrays of u32.
-use capi_numbers::BEHIND;
-use capi_numbers::LAYOUT;
-use capi_numbers::layout_of;
-use capi_numbers::read_record;
-use capi_numbers::store_record;
+use capi_layouts::LAYOUT;
+use capi_layouts::layout_of;
+use capi_records::BEHIND;
+use capi_records::read_record;
+use capi_records::store_record;
 use engine_rules::Engine;
 use names::Answer;
 ghost use mathlib.Core.Path.{_≡_};
 ghost use mathlib.Core.List.{[], _∷_};
 ghost use Prim.Native.Nat.{_<_, _^_};
 ghost use Rattle.names.specs.Names.{guestRegisters};
-ghost use Rattle.capi_numbers.specs.Numbers.{numbersAfter};
-ghost use Rattle.capi_numbers.specs.Hosts.{hostRan};
+ghost use Rattle.capi_rules.specs.Numbers.{numbersAfter};
+ghost use Rattle.capi_rules.specs.Hosts.{hostRan};
 ghost use Rattle.capi_engine.specs.Records.{engineFrom, engineTo, engineFor};
 
 // How many numbers a record and an answer have.

@@ -5,7 +5,7 @@ use mathlib.Core.List.{List}
 use lib.Dec.{lit<}
 use Rattle.names.specs.declared.Layout.{Layout}
 use Rattle.names.specs.declared.Answer.{Answer}
-use Rattle.capi_numbers.specs.Numbers.{layoutFrom, answerTo}
+use Rattle.capi_rules.specs.Numbers.{layoutFrom, answerTo}
 use Rattle.capi_answers.proofs.Places.{narrow}
 use Rattle.forward_rules.specs.Forward.{forwardAnswer, checkForwardAnswer}
 use Rattle.forward_rules.proofs.Places.{forward-bound, check-forward-bound}

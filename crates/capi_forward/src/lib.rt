@@ -1,10 +1,10 @@
 // The class of routines that always finish, for a C host.
+use capi_answers::ANSWER;
 use capi_answers::answer_of;
-use capi_numbers::ANSWER;
-use capi_numbers::LAYOUT;
-use capi_numbers::layout_of;
+use capi_layouts::LAYOUT;
+use capi_layouts::layout_of;
 ghost use mathlib.Core.Path.{_≡_};
-ghost use Rattle.capi_numbers.specs.Numbers.{layoutFrom, answerTo};
+ghost use Rattle.capi_rules.specs.Numbers.{layoutFrom, answerTo};
 ghost use Rattle.forward_rules.specs.Forward.{forwardAnswer, checkForwardAnswer};
 
 // Checks that a routine's words are of the class that always finishes.

@@ -8,8 +8,8 @@ use Rattle.names.specs.declared.Installed.{Installed}
 use Rattle.rules.specs.Policies.{Policy}
 use Rattle.rules.specs.Machines.{installMemory, installOf}
 use Rattle.sandbox_rules.specs.Loading.{loadCommands, loadMemory, loadOf}
-use Rattle.capi_numbers.specs.Numbers.{layoutFrom, machineTo, answerTo}
-use Rattle.capi_numbers.specs.Hosts.{HostInstalled, hostInstalled, installFor, HostLoaded, hostLoaded, loadFor}
+use Rattle.capi_rules.specs.Numbers.{layoutFrom, machineTo, answerTo}
+use Rattle.capi_rules.specs.Hosts.{HostInstalled, hostInstalled, installFor, HostLoaded, hostLoaded, loadFor}
 
 -- under the layout of a host's numbers
 module _ (xs : List ℕ) (l : Layout) (e : l ≡ layoutFrom xs) (pol : Policy) (mem mem′ ms ns : List ℕ) (i : Installed) (s : ms ≡ machineTo (i .machine)) (t : ns ≡ answerTo (i .answer)) where

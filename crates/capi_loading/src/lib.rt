@@ -1,15 +1,15 @@
 // Installing a policy and loading a routine, for a C host.
+use capi_answers::ANSWER;
 use capi_answers::answer_of;
-use capi_numbers::ANSWER;
-use capi_numbers::LAYOUT;
-use capi_numbers::RECORD;
-use capi_numbers::layout_of;
-use capi_numbers::record_of;
+use capi_layouts::LAYOUT;
+use capi_layouts::layout_of;
+use capi_machines::RECORD;
+use capi_machines::record_of;
 use names::PolicyNumbers;
 ghost use mathlib.Core.Path.{_≡_};
 ghost use Rattle.rules.specs.Policies.{policyOf};
 ghost use Rattle.installer_words.specs.Words.{wordRight};
-ghost use Rattle.capi_numbers.specs.Hosts.{hostInstalled, installFor, hostLoaded, loadFor};
+ghost use Rattle.capi_rules.specs.Hosts.{hostInstalled, installFor, hostLoaded, loadFor};
 ghost use Rattle.capi_loading.specs.Hosts.{yesOrNo};
 
 // Whether four bytes of a policy's table, as one word, are right: 1 for yes, 0 for no.

@@ -8,7 +8,7 @@ use lib.ListN.{length, getD, drop, replicate}
 use lib.Seq.{sets, sets-eq}
 use Rattle.names.specs.Names.{orders}
 use Rattle.rules.specs.Policies.{Policy, policyOf}
-use Rattle.capi_numbers.specs.Numbers.{answerTo}
+use Rattle.capi_rules.specs.Numbers.{answerTo}
 use Rattle.policy_exploration.proofs.Reach.{place-most}
 use Rattle.policy_merge.specs.declared.Merged.{Merged}
 use Rattle.policy_merge.specs.declared.Side.{Side}

@@ -4,7 +4,7 @@ use mathlib.Core.List.{List, [], _∷_}
 use lib.ListN.{length, getD}
 use Rattle.names.specs.Names.{orders}
 use Rattle.rules.specs.Policies.{Policy, policyOf}
-use Rattle.capi_numbers.specs.Numbers.{numbersFrom, answerTo}
+use Rattle.capi_rules.specs.Numbers.{numbersFrom, answerTo}
 use Rattle.policy_merge.specs.declared.Merged.{Merged}
 use Rattle.policy_merge.specs.declared.Side.{Side}
 use Rattle.policy_merge.specs.Pairs.{mergeOf, mergeTable}

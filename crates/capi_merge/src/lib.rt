@@ -1,7 +1,7 @@
 // Two policies merged, for a C host.
+use capi_answers::ANSWER;
 use capi_answers::answer_of;
-use capi_numbers::ANSWER;
-use capi_numbers::ceilings_from;
+use capi_layouts::ceilings_from;
 use names::PolicyNumbers;
 use policy_merge::Merged;
 use policy_merge::Side;

@@ -1,7 +1,7 @@
 -- What a C host is told of a policy that was made.
 use Prim.Native.Nat.{ℕ}
 use mathlib.Core.List.{List}
-use Rattle.capi_numbers.specs.Numbers.{madeTo}
+use Rattle.capi_rules.specs.Numbers.{madeTo}
 use Rattle.policy_precedence.specs.declared.Made.{Made}
 
 -- a made policy as number, place, states and the map of the events that no allowed word holds

@@ -8,8 +8,8 @@ use Rattle.names.specs.declared.Machine.{Machine}
 use Rattle.names.specs.declared.Outcome.{Outcome}
 use Rattle.names.specs.Names.{registers}
 use Rattle.rules.specs.Machines.{Ran, ranOf, runOf}
-use Rattle.capi_numbers.specs.Numbers.{layoutFrom, machineFrom, machineTo, numbersAfter, runAnswerTo}
-use Rattle.capi_numbers.specs.Hosts.{HostRan, hostRan, hostLeft, ranTo, runFor, hostPreviewed, previewFor}
+use Rattle.capi_rules.specs.Numbers.{layoutFrom, machineFrom, machineTo, numbersAfter, runAnswerTo}
+use Rattle.capi_rules.specs.Hosts.{HostRan, hostRan, hostLeft, ranTo, runFor, hostPreviewed, previewFor}
 use Rattle.rules.proofs.Counts.{RunCounts, run-counts}
 use Rattle.machine_preview.proofs.Laws.{Previewed}
 

@@ -1,13 +1,13 @@
 // Runs and previews, for a C host.
+use capi_answers::RUN_ANSWER;
 use capi_answers::run_answer_of;
-use capi_numbers::LAYOUT;
-use capi_numbers::RECORD;
-use capi_numbers::RUN_ANSWER;
-use capi_numbers::layout_of;
-use capi_numbers::machine_of;
-use capi_numbers::record_after;
+use capi_layouts::LAYOUT;
+use capi_layouts::layout_of;
+use capi_machines::RECORD;
+use capi_machines::machine_of;
+use capi_machines::record_after;
 ghost use mathlib.Core.Path.{_≡_};
-ghost use Rattle.capi_numbers.specs.Hosts.{hostRan, runFor, hostPreviewed, previewFor};
+ghost use Rattle.capi_rules.specs.Hosts.{hostRan, runFor, hostPreviewed, previewFor};
 
 // Runs a record; one that is refused comes back as it was.
 pub fn run(

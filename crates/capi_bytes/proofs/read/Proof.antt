@@ -2,7 +2,7 @@ use lib.Dec.{lit<}
 use Rattle.rules.proofs.Counts.{read-bound}
 use Rattle.capi_answers.proofs.Places.{narrow}
 use mathlib.Core.Path.{_∙_, ap}
-use Rattle.capi_numbers.specs.Numbers.{answerTo}
+use Rattle.capi_rules.specs.Numbers.{answerTo}
 use borrow.Author.Needs.{needs}
 use Rattle.capi_bytes.proofs.read.Statement.{statement}
 use Rattle.capi_bytes.proofs.read.Tie as tie

@@ -1,6 +1,6 @@
 use Rattle.names.specs.Names.{guestRegisters}
 use Rattle.engine_rules.specs.Engines.{engineOf}
-use Rattle.capi_numbers.proofs.Numbers.{record-read}
+use Rattle.capi_rules.proofs.Numbers.{record-read}
 use borrow.Author.Needs.{needs}
 use Rattle.capi_engine.proofs.engine_of.Statement.{statement}
 use Rattle.capi_engine.proofs.engine_of.Tie as tie

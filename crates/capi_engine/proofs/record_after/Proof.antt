@@ -1,5 +1,5 @@
 use Rattle.names.specs.Names.{guestRegisters}
-use Rattle.capi_numbers.proofs.Numbers.{record-left}
+use Rattle.capi_rules.proofs.Numbers.{record-left}
 use borrow.Author.Needs.{needs}
 use Rattle.capi_engine.proofs.record_after.Statement.{statement}
 use Rattle.capi_engine.proofs.record_after.Tie as tie

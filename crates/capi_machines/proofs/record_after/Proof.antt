@@ -1,0 +1,13 @@
+use Rattle.names.specs.Names.{registers}
+use Rattle.capi_rules.proofs.Numbers.{record-left}
+use borrow.Author.Needs.{needs}
+use Rattle.capi_machines.proofs.record_after.Statement.{statement}
+use Rattle.capi_machines.proofs.record_after.Tie as tie
+
+pub record-after-spec : {M : Type 1} → statement M
+record-after-spec =
+    tie.close
+    (tie.spec
+    (λ c. search needs)
+    (λ c κs. search needs)
+    (λ c. search (record-left registers, needs)))
