@@ -10,6 +10,7 @@ use lib.Dec.{eqb, ltb, lit<}
 use lib.ListN.{length, getD, take, set}
 use lib.Seq.{getD-set-same}
 use Rattle.names.specs.declared.Layout.{Layout}
+use Rattle.names.specs.declared.Machine.{Machine}
 use Rattle.names.specs.declared.Status.{Status}
 use Rattle.names.specs.declared.Status.the-variants.{Running, Ended, Stopped, Faulted, Strayed}
 use Rattle.names.specs.declared.Ending.{Ending}
@@ -20,6 +21,8 @@ use Rattle.names.specs.declared.Command.the-variants.{Look, StopIf}
 use Rattle.names.specs.declared.Effect.{Effect}
 use Rattle.names.specs.declared.Effect.the-variants.{Go, Put, Wait}
 use Rattle.names.specs.Names.{events, noArrow, hidden, registers, bundleLength, endingNumber}
+use Rattle.rules.specs.Layouts.{tableEnd}
+use Rattle.rules.specs.Policies.{Policy}
 use Rattle.rules.specs.Landings.{marked}
 use Rattle.rules.specs.Words.{routine, bundlesFor}
 use Rattle.rules.specs.Commands.{fetchOf, holdsOf}
@@ -30,13 +33,14 @@ use Rattle.rules.specs.Guests.{Guest, guestAfter, guestStart}
 use Rattle.rules.specs.Runs.{Given, Lent, Carried as MachineCarried, carriedOf as machineCarried, pairsOf, waitingAt, begins, begunFrom, eventIn, runOn as machineOn, afterTaken as machineTaken, afterRun as machineRun, after as machineAfter}
 use Rattle.rules.specs.Claims.{Stands, Waiting, givenFor}
 use Rattle.rules.proofs.Bools.{no, cond-ind}
-use Rattle.rules.proofs.Facts.{Valid}
+use Rattle.rules.proofs.Facts.{Guarded, Valid}
 use Rattle.rules.proofs.Loops.{loop-ind, go-from, wait-from, begunLoop}
 use Rattle.rules.proofs.Conditions.{bundled-routine}
 use Rattle.rules.proofs.Track.{first-yes, first-no, lent-cell, tracks, event-at, enter as machine-enter}
 use Rattle.rules.proofs.Isolation.{guest-rule, routine-tracked}
 use Rattle.engine_rules.specs.Engines.{sendOf, actOf, nextFor, nextOf, stepOf, entryAddress, Ran, endedIn, startOf, runFrom, runOf, refusalOf, refusalBy}
 use Rattle.engine_rules.specs.Claims.{Carried, carriedOf, runOn, afterTaken, afterRun, after, Follows, InTurn, Meets, AfterBoth, PausedBy, EngineWaits}
+use Rattle.engine_rules.proofs.Steps.{Memory}
 use Rattle.engine_rules.proofs.Runs.{engineLoop, taken-size, enter}
 use Rattle.engine_rules.proofs.Rule.{taken-of, ready-of, routine-of, stays, engine-rule, engine-machine, engine-paused, meet}
 use Rattle.engine_rules.proofs.Together.{machine-more, engine-more, beside-more}
@@ -107,6 +111,17 @@ goes-on base n h p pc room lh lp e = omega arith
 not-first : (base h pc : ℕ) → pc ≡ base + bundleLength * h + 1 → (pc - base) % bundleLength ≡ 0 → ⊥
 not-first base h pc e z = omega arith
 
+-- its states: before the second command, and before the third
+module _ (lay : Layout) (s : State) (v : ℕ) where
+  abbrev entry : ℕ
+  entry = getD (s .mem) (entryAddress lay (s .mem) v) 0
+
+  abbrev second : State
+  second = stateOf (set (s .regs) hidden entry) (onward (s .pc)) (s .status) (s .mem) (s .log) (s .pairs) (s .used)
+
+  abbrev third : State
+  third = stateOf (set (s .regs) hidden entry) (onward (onward (s .pc))) (s .status) (s .mem) (s .log) (s .pairs) (s .used)
+
 module _ (lay : Layout) (code rd : List ℕ) (room : ℕ) (s : State) (h v : ℕ) (w : Ending) (z : rewriteAnswer lay code room .number ≡ 0) (top : lay .base + bundleLength * bundlesFor (length code) ≤ 2 ^ 32)
     (l : h < bundlesFor (length code)) (e : routine code h ≡ EVENT v) (pc : s .pc ≡ addressOf lay h + 0) (run : s .status ≡ Running) (regs : length (s .regs) ≡ registers)
     (cell : lay .cell < length (s .mem)) (inside : entryAddress lay (s .mem) v < length (s .mem)) (some : getD (s .mem) (entryAddress lay (s .mem) v) 0 ≡ noArrow → ⊥)
@@ -114,51 +129,41 @@ module _ (lay : Layout) (code rd : List ℕ) (room : ℕ) (s : State) (h v : ℕ
   abbrev ws : List ℕ
   ws = commandsOf lay code
 
-  abbrev entry : ℕ
-  entry = getD (s .mem) (entryAddress lay (s .mem) v) 0
-
-  -- after the first command, and after the second
-  abbrev second : State
-  second = stateOf (set (s .regs) hidden entry) (onward (s .pc)) (s .status) (s .mem) (s .log) (s .pairs) (s .used)
-
-  abbrev pub third : State
-  third = stateOf (set (s .regs) hidden entry) (onward (onward (s .pc))) (s .status) (s .mem) (s .log) (s .pairs) (s .used)
-
   second-pc : onward (s .pc) ≡ addressOf lay h + 1
   second-pc = goes-on (lay .base) (bundlesFor (length code)) h 0 (s .pc) top l (lit< tt) pc
 
-  pub third-pc : onward (onward (s .pc)) ≡ addressOf lay h + 2
+  third-pc : onward (onward (s .pc)) ≡ addressOf lay h + 2
   third-pc = goes-on (lay .base) (bundlesFor (length code)) h 1 (onward (s .pc)) top l (lit< tt) second-pc
 
-  looks : machineNext lay ws rd s ≡ Put hidden entry
+  looks : machineNext lay ws rd s ≡ Put hidden (entry lay s v)
   unfolding effectOf shapeOf
   looks =
       let at : fetchOf ws (lay .base) (s .pc) ≡ Look hidden v =
       ap (fetchOf ws (lay .base)) pc ∙ bundled-routine lay code room z .each h 0 l (lit< tt) ∙ ap (λ (i : Instr). shapeOf lay (bundlesFor (length code)) i 0) e in
       ap (λ (c : Command). effectOf c (seen lay rd s)) at ∙ rw (lt-ltb (lay .cell) (length (s .mem)) cell, lt-ltb (entryAddress lay (s .mem) v) (length (s .mem)) inside)
 
-  passes : machineNext lay ws rd second ≡ Go (onward (onward (s .pc)))
+  passes : machineNext lay ws rd (second lay s v) ≡ Go (onward (onward (s .pc)))
   unfolding effectOf shapeOf
   passes =
       let at : fetchOf ws (lay .base) (onward (s .pc)) ≡ StopIf hidden =
       ap (fetchOf ws (lay .base)) second-pc ∙ bundled-routine lay code room z .each h 1 l (lit< tt) ∙ ap (λ (i : Instr). shapeOf lay (bundlesFor (length code)) i 1) e in
-      let held : getD (set (s .regs) hidden entry) hidden 0 ≡ entry = getD-set-same (s .regs) hidden entry 0 (omega (arith, regs)) in
-      ap (λ (c : Command). effectOf c (seen lay rd second)) at ∙ rw (held, ne-eqb entry noArrow some)
+      let held : getD (set (s .regs) hidden (entry lay s v)) hidden 0 ≡ entry lay s v = getD-set-same (s .regs) hidden (entry lay s v) 0 (omega (arith, regs)) in
+      ap (λ (c : Command). effectOf c (seen lay rd (second lay s v))) at ∙ rw (held, ne-eqb (entry lay s v) noArrow some)
 
-  abbrev pub paused : ℕ → ℕ → MachineRan × ℕ
-  paused k b = (machineEnded w (k + 1 + 1) third, b + begins lay (s .pc) + begins lay (onward (s .pc)))
+  abbrev paused : ℕ → ℕ → MachineRan × ℕ
+  paused k b = (machineEnded w (k + 1 + 1) (third lay s v), b + begins lay (s .pc) + begins lay (onward (s .pc)))
 
-  pub third-pauses : (n k b : ℕ) → _≡_ {A = MachineRan × ℕ} (machineFrom lay ws rd (suc (suc (suc n))) k s, begunFrom lay ws rd (suc (suc (suc n))) b s) (paused k b)
+  third-pauses : (n k b : ℕ) → _≡_ {A = MachineRan × ℕ} (machineFrom lay ws rd (suc (suc (suc n))) k s, begunFrom lay ws rd (suc (suc (suc n))) b s) (paused k b)
   unfolding applyOf
   third-pauses n k b =
       let m = begunLoop lay ws rd in
-      go-from m (suc (suc n)) (k, b) s run (λ x y. let q : Put hidden entry ≡ Wait x = sym looks ∙ y in no (cc))
+      go-from m (suc (suc n)) (k, b) s run (λ x y. let q : Put hidden (entry lay s v) ≡ Wait x = sym looks ∙ y in no (cc))
       ∙ ap (λ (x : Effect). m .from (suc (suc n)) (k + 1, b + begins lay (s .pc)) (applyOf (lay .ceilings) rd x s)) looks
-      ∙ go-from m (suc n) (k + 1, b + begins lay (s .pc)) second run (λ x y. let q : Go (onward (onward (s .pc))) ≡ Wait x = sym passes ∙ y in no (cc))
-      ∙ ap (λ (x : Effect). m .from (suc n) (k + 1 + 1, b + begins lay (s .pc) + begins lay (onward (s .pc))) (applyOf (lay .ceilings) rd x second)) passes
-      ∙ wait-from m n (k + 1 + 1, b + begins lay (s .pc) + begins lay (onward (s .pc))) third w run (machine-next lay code rd room third h v z l e third-pc ∙ pauses)
+      ∙ go-from m (suc n) (k + 1, b + begins lay (s .pc)) (second lay s v) run (λ x y. let q : Go (onward (onward (s .pc))) ≡ Wait x = sym passes ∙ y in no (cc))
+      ∙ ap (λ (x : Effect). m .from (suc n) (k + 1 + 1, b + begins lay (s .pc) + begins lay (onward (s .pc))) (applyOf (lay .ceilings) rd x (second lay s v))) passes
+      ∙ wait-from m n (k + 1 + 1, b + begins lay (s .pc) + begins lay (onward (s .pc))) (third lay s v) w run (machine-next lay code rd room (third lay s v) h v z l e third-pc ∙ pauses)
 
-  pub one-begun : begins lay (s .pc) + begins lay (onward (s .pc)) ≡ 1
+  one-begun : begins lay (s .pc) + begins lay (onward (s .pc)) ≡ 1
   one-begun = ap₂ (λ (x y : ℕ). x + y) (first-yes lay (s .pc) (omega arith)) (first-no lay (onward (s .pc)) (not-first (lay .base) h (onward (s .pc)) second-pc))
 
 -- ---- what is carried on after a run that left r, the machine's with b bundles begun
@@ -182,6 +187,54 @@ record Pause (lay : Layout) (code : List ℕ) (c : MachineCarried) (n : Carried)
   machine : machineRun lay (commandsOf lay code) c g .consumed ≡ c .consumed
   counted : afterRun lay code n h .counted ≡ n .counted
   engine : afterRun lay code n h .consumed ≡ n .consumed
+
+-- the two memories have one entry for event e
+same-entry : (lay : Layout) (pol : Policy) (mem mem′ : List ℕ) (e : ℕ) → Memory lay pol mem → Guarded lay pol mem′ → getD mem′ (lay .cell) 0 ≡ getD mem (lay .cell) 0 → e < events → tableEnd lay ≤ lay .size → (entryAddress lay mem′ e < length mem′) × (getD mem′ (entryAddress lay mem′ e) 0 ≡ getD mem (entryAddress lay mem e) 0)
+same-entry lay pol mem mem′ e m m′ cells l end =
+    let q = getD mem (lay .cell) 0 in
+    let q′ = getD mem′ (lay .cell) 0 in
+    let i : lay .table + events * q + e ≡ lay .table + (events * q + e) = omega arith in
+    let i′ : lay .table + events * q′ + e ≡ lay .table + (events * q + e) = omega (arith, cells) in
+    let below : events * q + e < events * lay .states = omega (arith, m .below) in
+    (omega (arith, m′ .size, end, below, i′), ap (λ (k : ℕ). getD mem′ k 0) i′ ∙ m′ .table (events * q + e) below ∙ sym (ap (λ (k : ℕ). getD mem k 0) i ∙ m .guarded .table (events * q + e) below))
+
+-- the machine on the first command of bundle j and the engine before its instruction, an event in which it pauses
+module _ (lay : Layout) (code : List ℕ) (room : ℕ) (c : MachineCarried) (n : Carried) (g h : Given) (j v : ℕ) (w : Ending) (z : rewriteAnswer lay code room .number ≡ 0) (top : lay .base + bundleLength * bundlesFor (length code) ≤ 2 ^ 32)
+    (l : j < bundlesFor (length code)) (e : routine code j ≡ EVENT v) (pc : c .machine .pc ≡ addressOf lay j + 0) (run : c .machine .status ≡ Running) (regs : length (c .machine .regs) ≡ registers)
+    (cell : lay .cell < length (g .memory)) (inside : entryAddress lay (g .memory) v < length (g .memory)) (some : getD (g .memory) (entryAddress lay (g .memory) v) 0 ≡ noArrow → ⊥)
+    (pauses : eventEffect v (length (g .log) - 2 * 0) (length (g .readings) - 0) ≡ Wait w) (few : 3 ≤ g .budget) (fit : fits lay (g .memory) ≡ true)
+    (at : (m : Machine) → m .pc ≡ addressOf lay j + 2 → waitingAt lay (commandsOf lay code) m ≡ v ∷ [])
+    (runs : n .engine .status ≡ Running) (taken : refusalOf lay code (h .memory) .number ≡ 0) (next : nextOf lay code (h .readings) (startOf (n .engine) (h .memory) (h .log)) ≡ Wait w) where
+  abbrev from : State
+  from = machineStart (c .machine) (g .memory) (g .log)
+
+  abbrev to : State
+  to = third lay from v
+
+  machine-pauses : (machineOn lay (commandsOf lay code) c g ≡ machineEnded w 2 to) × (machineRun lay (commandsOf lay code) c g ≡ machineCarried (machineOf (to .regs) (to .pc) (to .status)) (g .memory) (c .records ++ pairsOf (g .log) 0) (c .consumed ++ []) (c .begun + begins lay (c .machine .pc) + begins lay (onward (c .machine .pc))))
+  machine-pauses =
+      let budget : g .budget ≡ suc (suc (suc (g .budget - 3))) = omega (arith, few) in
+      machine-left lay (commandsOf lay code) c g (machineEnded w 2 to) (c .begun + begins lay (c .machine .pc) + begins lay (onward (c .machine .pc))) fit
+      (ap (λ (k : ℕ). (machineFrom lay (commandsOf lay code) (g .readings) k 0 from, begunFrom lay (commandsOf lay code) (g .readings) k (c .begun) from)) budget
+      ∙ third-pauses lay code (g .readings) room from j v w z top l e pc run regs cell inside some pauses (g .budget - 3) 0 (c .begun))
+
+  engine-pauses : (runOn lay code n (givenFor h 1) ≡ endedIn w 0 (startOf (n .engine) (h .memory) (h .log))) × (afterRun lay code n (givenFor h 1) ≡ carriedOf (n .engine) (h .memory) (n .records ++ pairsOf (h .log) 0) (n .consumed ++ []) (n .counted + 0))
+  engine-pauses =
+      engine-left lay code n (givenFor h 1) (endedIn w 0 (startOf (n .engine) (h .memory) (h .log))) taken
+      (wait-from (engineLoop lay code (h .readings)) 0 0 (startOf (n .engine) (h .memory) (h .log)) w runs next)
+
+  pause : Pause lay code c n g (givenFor h 1)
+  pause =
+      let to-pc = third-pc lay code (g .readings) room from j v w z top l e pc run regs cell inside some pauses in
+      let one = one-begun lay code (g .readings) room from j v w z top l e pc run regs cell inside some pauses in
+      record {
+        answers = ap (λ (r : MachineRan). endingNumber (r .outcome .answer .ending)) (machine-pauses .0) ∙ sym (ap (λ (r : Ran). r .outcome .answer .number) (engine-pauses .0));
+        waiting = subst (λ (k : MachineCarried). Waiting lay (commandsOf lay code) (k .machine)) (sym (machine-pauses .1)) (record { running = run; event = v; third = at (machineOf (to .regs) (to .pc) (to .status)) to-pc });
+        begun = ap (λ (k : MachineCarried). k .begun) (machine-pauses .1) ∙ omega (arith, one);
+        machine = ap (λ (k : MachineCarried). k .consumed) (machine-pauses .1) ∙ append-nil (c .consumed);
+        counted = ap (λ (k : Carried). k .counted) (engine-pauses .1) ∙ omega arith;
+        engine = ap (λ (k : Carried). k .consumed) (engine-pauses .1) ∙ append-nil (n .consumed);
+      }
 
 both-pause : AfterBoth
     (λ lay code c e.
@@ -218,7 +271,6 @@ both-pause lay pol code mem room gs es v x count run g h lg lh sg sh logs readin
     let w = wait .0 in
     let y = waited lay code (h .readings) s w within (wait .1) in
     let e = y .event in
-    let there : runFrom lay code (h .readings) 1 0 s ≡ endedIn w 0 s = wait-from (engineLoop lay code (h .readings)) 0 0 s w runs (wait .1) in
     -- the machine
     let tracked = routine-tracked lay pol code mem room gs (v .rewritten) (v .machine) in
     let right = tracked .right in
@@ -226,41 +278,14 @@ both-pause lay pol code mem room gs es v x count run g h lg lh sg sh logs readin
     let s′ = machineStart (c .machine) (g .memory) (g .log) in
     let tr = tracks lay pol ws N (routine code) right bs (c .records) (c .consumed) (g .readings) g0 (c .begun) s′ (machine-enter lay pol ws N (routine code) right bs g0 c g sg lg (tracked .last)) in
     let guarded = tr .1 .agree .memory .guarded in
-    let q = getD (h .memory) (lay .cell) 0 in
-    let q′ = getD (g .memory) (lay .cell) 0 in
-    let cells : q′ ≡ q = lg sg (lay .cell) (lent-cell lay) ∙ now .state ∙ sym (lh sh (lay .cell) (lent-cell lay)) in
+    let cells : getD (g .memory) (lay .cell) 0 ≡ getD (h .memory) (lay .cell) 0 = lg sg (lay .cell) (lent-cell lay) ∙ now .state ∙ sym (lh sh (lay .cell) (lent-cell lay)) in
     let event : routine code (G .at) ≡ EVENT e = ap (routine code) (sym at) ∙ y .is in
     let valid : e < events = subst (Valid N) (y .is) (rt .valid (n .engine .at)) in
-    let i : lay .table + events * q + e ≡ lay .table + (events * q + e) = omega arith in
-    let i′ : lay .table + events * q′ + e ≡ lay .table + (events * q + e) = omega (arith, cells) in
-    let below : events * q + e < events * lay .states = omega (arith, m .below) in
-    let entries : getD (g .memory) (lay .table + events * q′ + e) 0 ≡ getD (h .memory) (lay .table + events * q + e) 0 =
-    ap (λ (k : ℕ). getD (g .memory) k 0) i′ ∙ guarded .table (events * q + e) below ∙ sym (ap (λ (k : ℕ). getD (h .memory) k 0) i ∙ m .guarded .table (events * q + e) below) in
+    let entry = same-entry lay pol (h .memory) (g .memory) e m guarded cells valid (ok .table) in
     let free : eventEffect e (length (g .log) - 2 * 0) (length (g .readings) - 0) ≡ Wait w = ap₂ (λ (k l : ℕ). eventEffect e (k - 2 * 0) (l - 0)) (sym logs) (sym readings) ∙ y .pauses in
-    let fit : fits lay (g .memory) ≡ true = rw (t .right, eq-eqb (length (g .memory)) (lay .size) sg) in
-    let top = right .room in
-    let pc : c .machine .pc ≡ addressOf lay (G .at) + 0 = a .next run in
     let inn : G .at < N = subst (λ (k : ℕ). k < N) at within in
-    let regs = tr .1 .agree .regs .machine in
-    let cell : lay .cell < length (g .memory) = omega (arith, sg, ok .cell) in
-    let inside : lay .table + events * q′ + e < length (g .memory) = omega (arith, sg, ok .table, below, i′) in
-    let some : getD (g .memory) (lay .table + events * q′ + e) 0 ≡ noArrow → ⊥ = λ k. y .some (sym entries ∙ k) in
-    let here = third-pauses lay code (g .readings) room s′ (G .at) e w (v .rewritten) top inn event pc run regs cell inside some free (g .budget - 3) 0 (c .begun) in
-    let to = third-pc lay code (g .readings) room s′ (G .at) e w (v .rewritten) top inn event pc run regs cell inside some free in
-    let one = one-begun lay code (g .readings) room s′ (G .at) e w (v .rewritten) top inn event pc run regs cell inside some free in
-    let s2 = third lay code (g .readings) room s′ (G .at) e w (v .rewritten) top inn event pc run regs cell inside some free in
-    let budget : g .budget ≡ suc (suc (suc (g .budget - 3))) = omega (arith, few) in
-    let mm = machine-left lay ws c g (machineEnded w 2 s2) (c .begun + begins lay (c .machine .pc) + begins lay (onward (c .machine .pc))) fit (ap (λ (k : ℕ). (machineFrom lay ws (g .readings) k 0 s′, begunFrom lay ws (g .readings) k (c .begun) s′)) budget ∙ here) in
-    let me = engine-left lay code n h′ (endedIn w 0 s) z there in
-    let stands : waitingAt lay ws (machineOf (s2 .regs) (s2 .pc) (s2 .status)) ≡ e ∷ [] = event-at lay pol ws N (routine code) right bs (tracked .read) (machineOf (s2 .regs) (s2 .pc) (s2 .status)) (G .at) 2 2 inn (lit< tt) to ∙ ap eventIn event in
-    record {
-      answers = ap (λ (r : MachineRan). endingNumber (r .outcome .answer .ending)) (mm .0) ∙ sym (ap (λ (r : Ran). r .outcome .answer .number) (me .0));
-      waiting = subst (λ (k : MachineCarried). Waiting lay ws (k .machine)) (sym (mm .1)) (record { running = run; event = e; third = stands });
-      begun = ap (λ (k : MachineCarried). k .begun) (mm .1) ∙ omega (arith, one);
-      machine = ap (λ (k : MachineCarried). k .consumed) (mm .1) ∙ append-nil (c .consumed);
-      counted = ap (λ (k : Carried). k .counted) (me .1) ∙ omega arith;
-      engine = ap (λ (k : Carried). k .consumed) (me .1) ∙ append-nil (n .consumed);
-    }
+    pause lay code room c n g h (G .at) e w (v .rewritten) (right .room) inn event (a .next run) run (tr .1 .agree .regs .machine) (omega (arith, sg, ok .cell)) (entry .0) (λ k. y .some (sym (entry .1) ∙ k)) free few
+    (rw (t .right, eq-eqb (length (g .memory)) (lay .size) sg)) (λ o pc. event-at lay pol ws N (routine code) right bs (tracked .read) o (G .at) 2 2 inn (lit< tt) pc ∙ ap eventIn event) runs z (wait .1)
 
 pub engine-waits : EngineWaits
 engine-waits lay pol code mem room gs es v x count run g h lg lh sg sh logs readings few p =

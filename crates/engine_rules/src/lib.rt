@@ -1,8 +1,6 @@
 // The types of request 5's engine, which runs guest words directly under the guest rule; its definitions and claims are in specs/.
 use names::Answer;
 use names::Status;
-ghost use mathlib.Core.Path.{_≡_};
-ghost use Rattle.engine_rules.specs.Engines.{engineFirst};
 
 // The engine's record: the guest's registers, the index of the next instruction, the status.
 pub struct Engine {
@@ -13,17 +11,6 @@ pub struct Engine {
 
 impl Engine {
     pub const REGISTERS: usize = 15;
-
-    // The record at first: zeros and running.
-    pub fn new() -> Engine
-        ensures { λ r. ⌜ r ≡ engineFirst ⌝ }
-    {
-        Engine {
-            regs: [0; Engine::REGISTERS],
-            at: 0,
-            status: Status::Running,
-        }
-    }
 }
 
 // What a run of the engine answers and the record that it leaves: a refusal's number and place, or the ending's number;
