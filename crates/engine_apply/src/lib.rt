@@ -29,7 +29,7 @@ fn put(regs: &mut [u32; Engine::REGISTERS], i: usize, x: u32)
 fn keep(layout: Layout, v: u32, memory: &mut [u32])
     ensures { λ _. ⌜ now (memory .exit) ≡ set (now (memory .entry)) (layout .cell) (entryAt layout (now (memory .entry)) v) ⌝ }
 {
-    let x = words_arith::peek(memory, engine_acts::entry(layout, v, memory));
+    let x = words_arith::peek(memory, engine_events::entry(layout, v, memory));
     words_arith::poke(memory, layout.cell as usize, x);
 }
 

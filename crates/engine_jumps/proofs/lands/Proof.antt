@@ -1,7 +1,7 @@
 use borrow.Author.Needs.{needs}
-use Rattle.engine_acts.proofs.Acting.{lands-is}
-use Rattle.engine_acts.proofs.lands.Statement.{statement}
-use Rattle.engine_acts.proofs.lands.Tie as tie
+use Rattle.engine_jumps.proofs.Landing.{lands-is}
+use Rattle.engine_jumps.proofs.lands.Statement.{statement}
+use Rattle.engine_jumps.proofs.lands.Tie as tie
 
 pub lands-spec : {M : Type 1} → statement M
 lands-spec =

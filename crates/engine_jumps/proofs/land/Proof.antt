@@ -1,7 +1,7 @@
 use borrow.Author.Needs.{needs}
-use Rattle.engine_acts.proofs.Acting.{land-goes, land-strays}
-use Rattle.engine_acts.proofs.land.Statement.{statement}
-use Rattle.engine_acts.proofs.land.Tie as tie
+use Rattle.engine_jumps.proofs.Landing.{land-goes, land-strays}
+use Rattle.engine_jumps.proofs.land.Statement.{statement}
+use Rattle.engine_jumps.proofs.land.Tie as tie
 
 pub land-spec : {M : Type 1} → statement M
 land-spec =

@@ -1,6 +1,6 @@
 use borrow.Author.Needs.{needs}
-use Rattle.engine_acts.proofs.branch.Statement.{statement}
-use Rattle.engine_acts.proofs.branch.Tie as tie
+use Rattle.engine_jumps.proofs.branch.Statement.{statement}
+use Rattle.engine_jumps.proofs.branch.Tie as tie
 
 pub branch-spec : {M : Type 1} → statement M
 branch-spec =

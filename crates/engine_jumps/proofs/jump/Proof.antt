@@ -1,7 +1,7 @@
 use mathlib.Core.Path.{_∙_}
 use borrow.Author.Needs.{needs}
-use Rattle.engine_acts.proofs.jump.Statement.{statement}
-use Rattle.engine_acts.proofs.jump.Tie as tie
+use Rattle.engine_jumps.proofs.jump.Statement.{statement}
+use Rattle.engine_jumps.proofs.jump.Tie as tie
 
 pub jump-spec : {M : Type 1} → statement M
 jump-spec =

@@ -1,6 +1,6 @@
 use borrow.Author.Needs.{needs}
-use Rattle.engine_acts.proofs.address.Statement.{statement}
-use Rattle.engine_acts.proofs.address.Tie as tie
+use Rattle.engine_fields.proofs.address.Statement.{statement}
+use Rattle.engine_fields.proofs.address.Tie as tie
 
 pub address-spec : {M : Type 1} → statement M
 address-spec =

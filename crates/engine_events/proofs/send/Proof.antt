@@ -1,7 +1,7 @@
 use borrow.Author.Needs.{needs}
-use Rattle.engine_acts.proofs.Acting.{faults, stops, sends}
-use Rattle.engine_acts.proofs.send.Statement.{statement}
-use Rattle.engine_acts.proofs.send.Tie as tie
+use Rattle.engine_events.proofs.Sending.{faults, stops, sends}
+use Rattle.engine_events.proofs.send.Statement.{statement}
+use Rattle.engine_events.proofs.send.Tie as tie
 
 pub send-spec : {M : Type 1} → statement M
 send-spec =

@@ -1,0 +1,42 @@
+// The fields of a word that was judged, and what the registers that they name hold.
+use engine_rules::Engine;
+use words::layout;
+ghost use mathlib.Core.Path.{_≡_};
+ghost use lib.ListN.{getD};
+ghost use Rattle.rules.specs.Layouts.{maskOf};
+ghost use Rattle.rules.specs.Words.{dOf, aOf, bOf, vOf};
+ghost use Rattle.engine_fields.specs.Named.{GuestFields};
+
+pub fn target(w: u64) -> usize
+    ensures { λ r. ⌜ r ≡ dOf w ⌝ }
+{
+    ((w >> 8) % 16) as usize
+}
+
+pub fn number(w: u64) -> u32
+    ensures { λ r. ⌜ r ≡ vOf w ⌝ }
+{
+    (w >> 32) as u32
+}
+
+pub fn left_of(w: u64, regs: &[u32; Engine::REGISTERS]) -> u32
+    requires { ⌜ GuestFields w ⌝ }
+    ensures { λ r. ⌜ r ≡ getD (now (regs .entry)) (aOf w) 0 ⌝ }
+{
+    regs[((w >> 12) % 16) as usize]
+}
+
+pub fn right_of(w: u64, regs: &[u32; Engine::REGISTERS]) -> u32
+    requires { ⌜ GuestFields w ⌝ }
+    ensures { λ r. ⌜ r ≡ getD (now (regs .entry)) (bOf w) 0 ⌝ }
+{
+    regs[((w >> 16) % 16) as usize]
+}
+
+// The cell of a LOAD or a STORE.
+pub fn address(w: u64, low: u32, high: u32, regs: &[u32; Engine::REGISTERS]) -> usize
+    requires { ⌜ GuestFields w ⌝ }
+    ensures { λ r. ⌜ r ≡ maskOf low high (getD (now (regs .entry)) (aOf w) 0) ⌝ }
+{
+    layout::mask(left_of(w, regs), low, high) as usize
+}
