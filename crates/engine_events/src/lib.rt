@@ -38,5 +38,5 @@ pub fn send(
     if words_arith::peek(memory, i) == PolicyNumbers::NO_ARROW {
         return Effect::End(Status::Stopped);
     }
-    machine_effects::event(v, free, left)
+    machine_events::event(v, free, left)
 }

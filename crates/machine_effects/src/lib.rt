@@ -1,9 +1,9 @@
 // What the word at pc would do: a pure decision, applied by the machine.
-use names::Bundle;
+use machine_events::event;
+use machine_events::look;
+use machine_landings::jump;
 use names::Command;
 use names::Effect;
-use names::Ending;
-use names::Layout;
 use names::Machine;
 use names::PolicyNumbers;
 use names::Status;
@@ -11,15 +11,15 @@ use words::arith;
 use words::command;
 ghost use mathlib.Core.Path.{_≡_};
 ghost use mathlib.Core.Bool.{cond};
-ghost use Prim.Native.Nat.{_+_, _*_, _<_};
+ghost use Prim.Native.Nat.{_<_};
 ghost use lib.ListN.{length, getD};
 ghost use lib.Dec.{ltb, eqb};
-ghost use Rattle.names.specs.declared.Status.the-variants.{Stopped, Faulted, Strayed};
+ghost use Rattle.names.specs.declared.Status.the-variants.{Stopped, Faulted};
 ghost use Rattle.names.specs.declared.Effect.the-variants.{Go, Put, Cell, End};
-ghost use Rattle.names.specs.Names.{registers, events, noArrow};
+ghost use Rattle.names.specs.Names.{registers, noArrow};
 ghost use Rattle.rules.specs.Commands.{commandOf, plainOf, holdsOf, fetchOf};
 ghost use Rattle.machine_effects.specs.Sounds.{Sized};
-ghost use Rattle.rules.specs.Machines.{onward, viewOf, landsAt, effectOf, eventEffect, ifRoom};
+ghost use Rattle.rules.specs.Machines.{onward, viewOf, effectOf};
 
 // The next pc is formed only in the arms that need it, which keeps a register free across the match.
 fn target(c: u64, x: u32, y: u32, to: u32, pc: u32) -> Effect
@@ -27,54 +27,6 @@ fn target(c: u64, x: u32, y: u32, to: u32, pc: u32) -> Effect
 {
     if arith::holds(c, x, y) {
         return Effect::Go(to);
-    }
-    Effect::Go(arith::add(pc, 1))
-}
-
-const LENGTH: u32 = Bundle::LENGTH as u32;
-
-const MOST: u32 = Bundle::MOST as u32;
-
-// Whether an address is B + 4j and bit j of the landing cells stands.
-pub fn lands(to: u32, base: u32, landings: u32, memory: &[u32]) -> bool
-    ensures { λ r. ⌜ r ≡ landsAt (now (memory .entry)) base landings to ⌝ }
-{
-    if to < base {
-        return false;
-    }
-    let off = to - base;
-    let j = off / LENGTH;
-    if off % LENGTH != 0 {
-        return false;
-    }
-    if j >= MOST {
-        return false;
-    }
-    let at = landings as usize + (j / Layout::CELL_BITS) as usize;
-    if at < memory.len() {
-        return (memory[at] >> (j % Layout::CELL_BITS)) % 2 == 1;
-    }
-    false
-}
-
-// A jump through a register: only to a landing.
-fn jump(
-    c: u64,
-    x: u32,
-    y: u32,
-    to: u32,
-    pc: u32,
-    base: u32,
-    landings: u32,
-    memory: &[u32],
-) -> Effect
-    ensures { λ r. ⌜ r ≡ cond (holdsOf c x y) (cond (landsAt (now (memory .entry)) base landings to) (Go to) (End Strayed)) (Go (onward pc)) ⌝ }
-{
-    if arith::holds(c, x, y) {
-        if lands(to, base, landings, memory) {
-            return Effect::Go(to);
-        }
-        return Effect::End(Status::Strayed);
     }
     Effect::Go(arith::add(pc, 1))
 }
@@ -99,23 +51,6 @@ fn store(at: u32, x: u32, memory: &[u32]) -> Effect
     Effect::End(Status::Faulted)
 }
 
-// The policy's entry for event v in the present state; the address is summed without wrap.
-fn look(d: usize, cell: u32, table: u32, v: u32, memory: &[u32]) -> Effect
-    ensures { λ r. ⌜ r ≡ cond (ltb cell (length (now (memory .entry)))) (cond (ltb (table + events * getD (now (memory .entry)) cell 0 + v) (length (now (memory .entry)))) (Put d (getD (now (memory .entry)) (table + events * getD (now (memory .entry)) cell 0 + v) 0)) (End Faulted)) (End Faulted) ⌝ }
-{
-    let i = cell as usize;
-    if i < memory.len() {
-        let at = table as usize
-            + PolicyNumbers::EVENTS as usize * (memory[i] as usize)
-            + v as usize;
-        if at < memory.len() {
-            return Effect::Put(d, memory[at]);
-        }
-        return Effect::End(Status::Faulted);
-    }
-    Effect::End(Status::Faulted)
-}
-
 fn stop_if(x: u32, pc: u32) -> Effect
     ensures { λ r. ⌜ r ≡ cond (eqb x noArrow) (End Stopped) (Go (onward pc)) ⌝ }
 {
@@ -123,29 +58,6 @@ fn stop_if(x: u32, pc: u32) -> Effect
         return Effect::End(Status::Stopped);
     }
     Effect::Go(arith::add(pc, 1))
-}
-
-// An event's effect, or the pause before it for want of two free log cells.
-fn in_room(free: usize, e: Effect) -> Effect
-    ensures { λ r. ⌜ r ≡ ifRoom free e ⌝ }
-{
-    if free < 2 {
-        return Effect::Wait(Ending::LogFull);
-    }
-    e
-}
-
-// An event, or the pause before it: a silent probe comes before a full log.
-pub fn event(v: u32, free: usize, left: usize) -> Effect
-    ensures { λ r. ⌜ r ≡ eventEffect v free left ⌝ }
-{
-    if v < PolicyNumbers::ORDERS {
-        return in_room(free, Effect::Order(v));
-    }
-    if left == 0 {
-        return Effect::Wait(Ending::Silent);
-    }
-    in_room(free, Effect::Probe(v))
 }
 
 // A register's number.

@@ -1,4 +1,4 @@
-use Rattle.machine_effects.proofs.Tests.{tests}
+use borrow.Author.Tests.{lt-ltb, le-ltb}
 use borrow.Author.Needs.{needs}
 use Rattle.machine_effects.proofs.load.Statement.{statement}
 use Rattle.machine_effects.proofs.load.Tie as tie
@@ -9,5 +9,5 @@ load-spec =
     (tie.spec
     (λ c. search needs)
     (λ c. search needs)
-    (λ c. search tests)
-    (λ c. search tests))
+    (λ c. search lt-ltb)
+    (λ c. search le-ltb))

@@ -1,6 +1,5 @@
-use borrow.Author.Tests.{ne-eqb}
+use borrow.Author.Tests.{eq-eqb, ne-eqb}
 use borrow.Author.Needs.{needs}
-use Rattle.machine_effects.proofs.Tests.{tests}
 use Rattle.machine_effects.proofs.stop_if.Statement.{statement}
 use Rattle.machine_effects.proofs.stop_if.Tie as tie
 
@@ -8,6 +7,6 @@ pub stop-if-spec : {M : Type 1} → statement M
 stop-if-spec =
     tie.close
     (tie.spec
-    (λ c. search tests)
+    (λ c. search eq-eqb)
     (λ c κs. search needs)
     (λ c. rw (ne-eqb _ _ (c .before .if1 .left), c .add .ensures)))

@@ -1,4 +1,4 @@
-use Rattle.machine_effects.proofs.Tests.{tests}
+use borrow.Author.Tests.{lt-ltb, le-ltb}
 use Rattle.machine_effects.proofs.store.Statement.{statement}
 use Rattle.machine_effects.proofs.store.Tie as tie
 
@@ -6,5 +6,5 @@ pub store-spec : {M : Type 1} → statement M
 store-spec =
     tie.close
     (tie.spec
-    (λ c. search tests)
-    (λ c. search tests))
+    (λ c. search lt-ltb)
+    (λ c. search le-ltb))

@@ -1,8 +1,8 @@
-use Rattle.machine_effects.proofs.Tests.{tests}
+use Rattle.machine_events.proofs.Tests.{tests}
 use native.Mathlib.Omega.{arith}
 use borrow.Author.Needs.{needs}
-use Rattle.machine_effects.proofs.look.Statement.{statement}
-use Rattle.machine_effects.proofs.look.Tie as tie
+use Rattle.machine_events.proofs.look.Statement.{statement}
+use Rattle.machine_events.proofs.look.Tie as tie
 
 pub look-spec : {M : Type 1} → statement M
 look-spec =

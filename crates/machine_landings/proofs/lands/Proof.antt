@@ -1,7 +1,7 @@
 use borrow.Author.Needs.{needs}
-use Rattle.machine_effects.proofs.Laws.{lands-below, lands-off, lands-high, lands-in, lands-out}
-use Rattle.machine_effects.proofs.lands.Statement.{statement}
-use Rattle.machine_effects.proofs.lands.Tie as tie
+use Rattle.machine_landings.proofs.Laws.{lands-below, lands-off, lands-high, lands-in, lands-out}
+use Rattle.machine_landings.proofs.lands.Statement.{statement}
+use Rattle.machine_landings.proofs.lands.Tie as tie
 
 pub lands-spec : {M : Type 1} → statement M
 lands-spec =

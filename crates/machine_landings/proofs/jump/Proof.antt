@@ -1,9 +1,9 @@
 use mathlib.Core.Path.{ap}
 use borrow.Author.Needs.{needs}
 use Rattle.names.specs.declared.Effect.the-variants.{Go}
-use Rattle.machine_effects.proofs.Laws.{jump-lands, jump-strays, jump-stays}
-use Rattle.machine_effects.proofs.jump.Statement.{statement}
-use Rattle.machine_effects.proofs.jump.Tie as tie
+use Rattle.machine_landings.proofs.Laws.{jump-lands, jump-strays, jump-stays}
+use Rattle.machine_landings.proofs.jump.Statement.{statement}
+use Rattle.machine_landings.proofs.jump.Tie as tie
 
 pub jump-spec : {M : Type 1} → statement M
 jump-spec =

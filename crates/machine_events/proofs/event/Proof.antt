@@ -1,6 +1,6 @@
-use Rattle.machine_effects.proofs.Tests.{tests}
-use Rattle.machine_effects.proofs.event.Statement.{statement}
-use Rattle.machine_effects.proofs.event.Tie as tie
+use Rattle.machine_events.proofs.Tests.{tests}
+use Rattle.machine_events.proofs.event.Statement.{statement}
+use Rattle.machine_events.proofs.event.Tie as tie
 
 pub event-spec : {M : Type 1} → statement M
 event-spec =
