@@ -13,7 +13,10 @@ use Rattle.rules.specs.Words.{kindOf, dOf, aOf, bOf, cOf, vOf}
 use Rattle.rules.specs.Commands.{wordOf}
 use Rattle.rules.specs.Bundles.{shapeOf, valid, readOff, isBundle}
 use Rattle.rules.proofs.Bools.{both}
-use Rattle.checker_shapes.specs.Sameness.{alone, plainWords, accessOf, landingOf, goifWords, eventWords, passesOf}
+use Rattle.checker_shapes_alone.specs.Alone.{alone, plainWords, landingOf, goifWords}
+use Rattle.checker_shapes_masked.specs.Masked.{accessOf}
+use Rattle.checker_shapes_looked.specs.Looked.{eventWords}
+use Rattle.checker_shapes.specs.Sameness.{passesOf}
 use Rattle.checker_shapes.proofs.Shapes.{plain-is, goif-is}
 
 -- no count of bundles is asked of LOAD and STORE

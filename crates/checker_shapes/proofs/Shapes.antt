@@ -1,16 +1,16 @@
--- Laws of the shapes, each of four words and the instruction whose bundle they can be.
+-- Laws of the shapes that begin with a command of the guest's: its word, tested, is that of the instruction read off.
 use mathlib.Core.Path.{_≡_, refl, sym, _∙_, ap, subst}
-use mathlib.Core.Bool.{Bool, true, false, _&&_, and-false}
-use Prim.Native.Nat.{ℕ, _+_, _-_, _%_, _^_, _≤_, _<_}
+use mathlib.Core.Bool.{Bool, true, _&&_}
+use Prim.Native.Nat.{ℕ, _+_, _-_, _^_, _≤_, _<_}
 use native.Mathlib.Omega.{arith}
 use lib.Dec.{ltb, leb, eqb}
-use borrow.Author.Tests.{lt-ltb, le-leb, eqb-true, eq-eqb, ne-eqb}
+use borrow.Author.Tests.{lt-ltb, le-leb, eqb-true, eq-eqb}
 use Rattle.names.specs.declared.Layout.{Layout}
 use Rattle.names.specs.declared.Fields.{Fields}
 use Rattle.names.specs.declared.Instr.{Instr}
-use Rattle.names.specs.declared.Instr.the-variants.{PLAIN, GOIF, GOX}
-use Rattle.names.specs.Names.{bundleLength, bundleShift, guestRegisters, hidden, topCondition, events, guest, command, plainStep}
-use Rattle.rules.specs.Words.{kindOf, dOf, aOf, bOf, cOf, vOf, zeroOf, fieldsOf, packOf, packFields}
+use Rattle.names.specs.declared.Instr.the-variants.{PLAIN, GOIF}
+use Rattle.names.specs.Names.{guestRegisters, topCondition, guest, command, plainStep}
+use Rattle.rules.specs.Words.{kindOf, dOf, aOf, bOf, cOf, vOf, zeroOf, fieldsOf, packFields}
 use Rattle.rules.specs.Commands.{limitsOf, isCommand, wordOf}
 use Rattle.rules.specs.Bundles.{addressOf, shapeOf, valid, isBundle}
 use Rattle.rules.proofs.Bools.{both}
@@ -19,63 +19,9 @@ use Rattle.rules.proofs.Facts.{Valid}
 use Rattle.rules.proofs.Conditions.{valid-is}
 use Rattle.rules.proofs.Packing.{InBits}
 use Rattle.rules.proofs.WordLaws.{bits-pack, pack-fields}
-use Rattle.words.specs.Packing.{cutWord}
 use Rattle.words.specs.Guests.{guestsOf}
-use Rattle.words.proofs.Laying.{uncut-word}
 use Rattle.words.proofs.Laws.{Within, command-in, command-from, bool-ext}
-use Rattle.checker_shapes.specs.Sameness.{plainWords, masksOf, loadOf, storeOf, accessOf, landingOf, landsOf, goifWords, eventWords}
-
--- packing cuts nothing off fields that fit
-pub uncut : (w k d a b c v : ℕ) → k < 2 ^ 8 → d < 2 ^ 4 → a < 2 ^ 4 → b < 2 ^ 4 → c < 2 ^ 4 → v < 2 ^ 32 → (p : ℕ) → p ≡ cutWord k d a b c v → eqb w p ≡ eqb w (packOf k d a b c v)
-uncut w k d a b c v hk hd ha hb hc hv p e = rw (e, uncut-word k d a b c v hk hd ha hb hc hv)
-
-pub plain-words : (w x y z : ℕ) (p q : Bool) → p ≡ isCommand w → q ≡ guestsOf w → (p && q && eqb x 0 && eqb y 0 && eqb z 0) ≡ plainWords w x y z
-plain-words w x y z p q ep eq = rw (ep, eq)
-
-pub goif-words : (l : Layout) (n w x y z v : ℕ) (p q s : Bool) → v ≡ vOf w → p ≡ isCommand w → q ≡ guestsOf w → s ≡ landsOf l n v → (p && q && s && eqb x 0 && eqb y 0 && eqb z 0) ≡ goifWords l n w x y z
-goif-words l n w x y z v p q s ev ep eq es = rw (ep, eq, es, ev)
-
-pub event-words : (w x y z v : ℕ) (p q s t : Bool) → v ≡ vOf w → p ≡ eqb w (packOf (command .look) hidden 0 0 0 v) → q ≡ eqb x (packOf (command .stopif) hidden 0 0 0 0) → s ≡ eqb y (packOf (command .event) 0 0 0 0 v) → t ≡ eqb z (packOf (command .keep) hidden 0 0 0 0)
-    → (ltb v events && p && q && s && t) ≡ eventWords w x y z
-event-words w x y z v p q s t ev ep eq es et = rw (ep, eq, es, et, ev)
-
--- ---- LOAD and STORE
-
-pub masks-is : (l : Layout) (w x a : ℕ) (p q : Bool) → a ≡ aOf w → p ≡ eqb w (packOf (command .andi) hidden a 0 0 (l .high)) → q ≡ eqb x (packOf (command .ori) hidden hidden 0 0 (l .low)) → (ltb a guestRegisters && p && q) ≡ masksOf l w x
-masks-is l w x a p q ea ep eq = rw (ep, eq, ea)
-
-pub loads-is : (y d : ℕ) (p : Bool) → d ≡ dOf y → p ≡ eqb y (packOf (command .load) d hidden 0 0 0) → (ltb d guestRegisters && p) ≡ loadOf y
-loads-is y d p ed ep = rw (ep, ed)
-
-pub stores-is : (y b : ℕ) (p : Bool) → b ≡ bOf y → p ≡ eqb y (packOf (command .store) 0 hidden b 0 0) → (ltb b guestRegisters && p) ≡ storeOf y
-stores-is y b p eb ep = rw (ep, eb)
-
--- the tests of three words, in another order
-load-order : (a p q d s t : Bool) → (a && p && q && (d && s) && t) ≡ (d && a && p && q && s && t)
-load-order a p q true s t = refl
-load-order a p q false s t = rw (and-false (a && p && q))
-
-store-order : (a p q b s t : Bool) → (a && p && q && (b && s) && t) ≡ (a && b && p && q && s && t)
-store-order true p q true s t = refl
-store-order true p q false s t = rw (and-false (p && q))
-store-order false p q b s t = refl
-
-module _ (l : Layout) (w x y z k : ℕ) (m r : Bool) (ek : k ≡ kindOf y) (em : m ≡ masksOf l w x) where
-  pub by-load : k ≡ command .load → r ≡ loadOf y → (m && r && eqb z 0) ≡ isBundle l 0 (accessOf w y) w x y z
-  unfolding isBundle valid shapeOf wordOf
-  by-load h er = rw (em, er, ← ek, h) (load-order (ltb (aOf w) guestRegisters) _ _ (ltb (dOf y) guestRegisters) _ _)
-
-  pub by-store : (k ≡ command .load → ⊥) → r ≡ storeOf y → (m && r && eqb z 0) ≡ isBundle l 0 (accessOf w y) w x y z
-  unfolding isBundle valid shapeOf wordOf
-  by-store h er = rw (em, er, ← ek, ne-eqb k (command .load) h) (store-order (ltb (aOf w) guestRegisters) _ _ (ltb (bOf y) guestRegisters) _ _)
-
--- ---- GOX: its second word holds the last address, formed from the one after it
-
-pub gox-is : (l : Layout) (n w x y z d a b c g : ℕ) → d ≡ aOf w → a ≡ aOf z → b ≡ bOf z → c ≡ cOf z → g ≡ addressOf l n → (p q s t : Bool) → p ≡ eqb w (packOf (command .shl) hidden d 0 0 bundleShift)
-    → q ≡ eqb x (packOf (command .andi) hidden hidden 0 0 (g - 1)) → s ≡ eqb y (packOf (command .ori) hidden hidden 0 0 (l .base)) → t ≡ eqb z (packOf (command .goxr) hidden a b c 0)
-    → (ltb d guestRegisters && ltb a guestRegisters && ltb b guestRegisters && leb c topCondition && p && q && s && t) ≡ isBundle l n (GOX (aOf w) (aOf z) (bOf z) (cOf z)) w x y z
-unfolding isBundle valid shapeOf wordOf
-gox-is l n w x y z d a b c g ed ea eb ec eg p q s t ep eq es et = rw (ep, eq, es, et, eg, ed, ea, eb, ec)
+use Rattle.checker_shapes_alone.specs.Alone.{landingOf, landsOf}
 
 -- ---- a command of the guest's registers, and a word packed from its fields
 
@@ -92,17 +38,6 @@ read-back w f h t =
     (ap fieldsOf e ∙ b .0, ap zeroOf e ∙ b .1)
 
 -- ---- GOIF
-
-module _ (l : Layout) (n v : ℕ) where
-  pub lands-below : v < l .base → false ≡ landsOf l n v
-  lands-below h = rw (ne-eqb v (addressOf l (landingOf l v)) (λ (e : v ≡ addressOf l (landingOf l v)). omega arith))
-
-  pub lands-is : l .base ≤ v → (eqb ((v - l .base) % bundleLength) 0 && ltb (landingOf l v) n) ≡ landsOf l n v
-  lands-is h =
-      ap (λ (t : Bool). t && ltb (landingOf l v) n)
-      (bool-ext (eqb ((v - l .base) % bundleLength) 0) (eqb v (addressOf l (landingOf l v)))
-      (λ t. let e = eqb-true ((v - l .base) % bundleLength) 0 t in eq-eqb v (addressOf l (landingOf l v)) (omega arith))
-      (λ t. let e = eqb-true v (addressOf l (landingOf l v)) t in eq-eqb ((v - l .base) % bundleLength) 0 (omega arith)))
 
 module _ (l : Layout) (n w : ℕ) (fits : w < 2 ^ 64) (k : kindOf w ≡ command .goif) where
   abbrev g : ℕ

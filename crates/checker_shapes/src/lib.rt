@@ -1,14 +1,12 @@
 // Whether four words are a bundle of one of the known shapes.
-mod shape;
-
+use checker_shapes_alone::goes_if;
+use checker_shapes_alone::halts;
+use checker_shapes_alone::plain;
+use checker_shapes_looked::sends;
+use checker_shapes_masked::accesses;
+use checker_shapes_turned::goes;
 use names::Command;
 use names::Layout;
-use shape::accesses;
-use shape::goes;
-use shape::goes_if;
-use shape::halts;
-use shape::plain;
-use shape::sends;
 use words::field;
 ghost use mathlib.Core.Path.{_≡_};
 ghost use Prim.Native.Nat.{_≤_, _<_, _^_};
