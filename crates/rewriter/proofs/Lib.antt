@@ -1,3 +1,2 @@
-pub mod Judged
 pub mod Filling
 pub mod Written

@@ -1,56 +1,22 @@
 // Rewriting a routine's words into bundles of commands: one pass judges, one writes.
-mod bundle;
-
-use bundle::bundle;
 use names::Answer;
 use names::Bundle;
 use names::Instr;
 use names::Layout;
 use names::Refusal;
-use words::count::base_right;
+use rewriter_answers::judge;
+use rewriter_bundles::bundle;
 use words::count::bundles;
 use words::guest::instruction;
-use words::guest::judge_all;
-use words::layout::right;
 ghost use mathlib.Core.Path.{_≡_};
 ghost use mathlib.Core.List.{[], _∷_};
 ghost use Prim.Native.Nat.{_+_, _*_, _≤_, _<_};
 ghost use lib.ListN.{length};
 ghost use lib.Seq.{sets};
-ghost use Rattle.names.specs.Names.{mostInstructions, bundleLength};
+ghost use Rattle.names.specs.Names.{bundleLength};
 ghost use Rattle.rules.specs.Words.{routine};
-ghost use Rattle.rules.specs.Bundles.{bundleOf, bundlesFrom, placeAnswer, rewriteAnswer, rewriteOutput};
+ghost use Rattle.rules.specs.Bundles.{bundleOf, bundlesFrom, rewriteAnswer, rewriteOutput};
 ghost use Rattle.rewriter.specs.Rewriting.{Ready};
-
-// The answer for n words that are right: the base, then the room for their commands.
-fn place(layout: Layout, n: usize, room: usize) -> Answer
-    requires { ⌜ n ≤ mostInstructions ⌝ }
-    ensures { λ r. ⌜ r ≡ placeAnswer layout n room ⌝ }
-{
-    let count = bundles(n as u32);
-    let based = base_right(layout, count);
-    let length = Bundle::LENGTH * count;
-    if !based {
-        return Answer::refused(Refusal::BAD_BASE);
-    }
-    if room < length {
-        return Answer::refused(Refusal::SMALL_OUTPUT);
-    }
-    Answer::taken(length)
-}
-
-fn judge(layout: Layout, words: &[u64], room: usize) -> Answer
-    ensures { λ r. ⌜ r ≡ rewriteAnswer layout (now (words .entry)) room ⌝ }
-{
-    if !right(layout) {
-        return Answer::refused(Refusal::BAD_LAYOUT);
-    }
-    let n = words.len();
-    if n > Instr::MOST {
-        return Answer::refused(Refusal::OVERSIZE);
-    }
-    judge_all(words, place(layout, n, room))
-}
 
 // Instruction h of a routine; those past its words are HALT.
 fn instruction_at(words: &[u64], h: usize) -> Instr

@@ -1,7 +1,7 @@
 use borrow.Author.Needs.{needs}
 use Rattle.words.proofs.Laying.{kind-fits, jump-fits, landing-fits, lay-halt, lay-plain, lay-load, lay-store, lay-goif, lay-gox, lay-event}
-use Rattle.rewriter.proofs.bundle.bundle.Statement.{statement}
-use Rattle.rewriter.proofs.bundle.bundle.Tie as tie
+use Rattle.rewriter_bundles.proofs.bundle.Statement.{statement}
+use Rattle.rewriter_bundles.proofs.bundle.Tie as tie
 
 pub bundle-spec : {M : Type 1} → statement M
 bundle-spec =

@@ -13,7 +13,7 @@ ghost use Rattle.words.specs.Packing.{Packable};
 const HIDDEN: u64 = Machine::HIDDEN as u64;
 
 // The four words of an instruction's bundle, among n.
-pub(crate) fn bundle(l: Layout, n: usize, i: Instr) -> Bundle
+pub fn bundle(l: Layout, n: usize, i: Instr) -> Bundle
     requires { ⌜ Packable l n i ⌝ }
     ensures { λ r. ⌜ r ≡ bundleOf l n i ⌝ }
 {

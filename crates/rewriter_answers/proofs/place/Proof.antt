@@ -1,9 +1,9 @@
 use mathlib.Core.Path.{_∙_}
 use borrow.Author.Tests.{not-true, not-false}
 use borrow.Author.Needs.{needs}
-use Rattle.rewriter.proofs.Judged.{length-fits, place-base, place-small, place-taken}
-use Rattle.rewriter.proofs.place.Statement.{statement}
-use Rattle.rewriter.proofs.place.Tie as tie
+use Rattle.rewriter_answers.proofs.Judged.{length-fits, place-base, place-small, place-taken}
+use Rattle.rewriter_answers.proofs.place.Statement.{statement}
+use Rattle.rewriter_answers.proofs.place.Tie as tie
 
 pub place-spec : {M : Type 1} → statement M
 place-spec =

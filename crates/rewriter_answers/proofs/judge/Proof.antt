@@ -1,9 +1,9 @@
 use mathlib.Core.Path.{_∙_}
 use borrow.Author.Tests.{not-true, not-false}
 use borrow.Author.Needs.{needs}
-use Rattle.rewriter.proofs.Judged.{bad-layout, oversize, judged}
-use Rattle.rewriter.proofs.judge.Statement.{statement}
-use Rattle.rewriter.proofs.judge.Tie as tie
+use Rattle.rewriter_answers.proofs.Judged.{bad-layout, oversize, judged}
+use Rattle.rewriter_answers.proofs.judge.Statement.{statement}
+use Rattle.rewriter_answers.proofs.judge.Tie as tie
 
 pub judge-spec : {M : Type 1} → statement M
 judge-spec =
