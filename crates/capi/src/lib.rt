@@ -16,9 +16,9 @@ ghost use Rattle.capi_rules.specs.Hosts.{checkFor, hostInstalled, installFor, h
 ghost use Rattle.policy_precedence.specs.Precedence.{makeOf, makeTable};
 ghost use Rattle.forward_rules.specs.Forward.{forwardAnswer, checkForwardAnswer};
 ghost use Rattle.policy_determinise.specs.Drawings.{drawingOf, determiniseOf, determiniseTable};
-ghost use Rattle.capi_loading.specs.Hosts.{yesOrNo};
+ghost use Rattle.capi_words.specs.Hosts.{yesOrNo};
 ghost use Rattle.capi_precedence.specs.Hosts.{precedenceTo};
-ghost use Rattle.capi_engine.specs.Records.{engineFor};
+ghost use Rattle.capi_engine_rules.specs.Records.{engineFor};
 ghost use Rattle.capi_determinise.specs.Numbers.{policyTo};
 ghost use Rattle.capi_merge.specs.Numbers.{hostMerged, mergeFor};
 
@@ -91,7 +91,7 @@ pub extern "C" fn hemdroas_check_forward(
 pub extern "C" fn hemdroas_word_right(states: u32, word: u32) -> u32
     ensures { λ r. ⌜ r ≡ yesOrNo (wordRight states word) ⌝ }
 {
-    capi_loading::word_right(states, word)
+    capi_words::word_right(states, word)
 }
 
 // Installs a policy.
@@ -108,7 +108,7 @@ pub extern "C" fn hemdroas_install(
 )
     ensures { λ _. ⌜ hostInstalled (now (answer .exit)) (now (machine .exit)) (now (memory .exit)) ≡ installFor (now (layout .entry)) (policyOf states start (now (table .entry)) (now (landings .entry))) (now (memory .entry)) ⌝ }
 {
-    capi_loading::install(
+    capi_installing::install(
         layout,
         states,
         start,

@@ -12,7 +12,7 @@ use Rattle.engine_rules.specs.declared.Engine.{Engine}
 use Rattle.engine_rules.specs.declared.EngineOutcome.{EngineOutcome}
 use Rattle.engine_rules.specs.Engines.{Ran, runOf}
 use Rattle.engine_rules.proofs.Isolation.{RunCounts, run-counts, run-place}
-use Rattle.capi_engine.specs.Records.{engineFrom, engineTo, answerTo, ranTo, engineFor}
+use Rattle.capi_engine_rules.specs.Records.{engineFrom, engineTo, answerTo, ranTo, engineFor}
 
 -- place, pairs and readings have 32 bits
 pub narrow : (l : Layout) (ws mem rd log mem′ log′ : List ℕ) (budget : ℕ) (m : Engine) (o : EngineOutcome) → ranOf o mem′ log′ ≡ runOf l ws m mem budget rd log → budget < 2 ^ 32

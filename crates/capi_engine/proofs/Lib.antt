@@ -1,3 +1,1 @@
 pub mod Hosting
-pub mod Calls
-pub mod Proved

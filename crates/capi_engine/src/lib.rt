@@ -12,7 +12,7 @@ ghost use Prim.Native.Nat.{_<_, _^_};
 ghost use Rattle.names.specs.Names.{guestRegisters};
 ghost use Rattle.capi_rules.specs.Numbers.{numbersAfter};
 ghost use Rattle.capi_rules.specs.Hosts.{hostRan};
-ghost use Rattle.capi_engine.specs.Records.{engineFrom, engineTo, engineFor};
+ghost use Rattle.capi_engine_rules.specs.Records.{engineFrom, engineTo, engineFor};
 
 // How many numbers a record and an answer have.
 pub const RECORD: usize = Engine::REGISTERS + BEHIND;

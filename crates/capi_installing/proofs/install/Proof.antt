@@ -3,10 +3,10 @@ use Rattle.names.specs.declared.Installed.{Installed}
 use lib.Dec.{lit<}
 use Rattle.rules.proofs.Counts.{install-bound}
 use Rattle.capi_answers.proofs.Places.{narrow}
-use Rattle.capi_loading.proofs.Hosting.{installed}
+use Rattle.capi_installing.proofs.Hosting.{installed}
 use borrow.Author.Needs.{needs}
-use Rattle.capi_loading.proofs.install.Statement.{statement}
-use Rattle.capi_loading.proofs.install.Tie as tie
+use Rattle.capi_installing.proofs.install.Statement.{statement}
+use Rattle.capi_installing.proofs.install.Tie as tie
 
 pub install-spec : {M : Type 1} → statement M
 install-spec =

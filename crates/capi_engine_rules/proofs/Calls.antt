@@ -22,8 +22,8 @@ use Rattle.engine_rules.specs.Engines.{engineOf, engineFirst, effectOn, withMem
 use Rattle.engine_rules.specs.Claims.{Carried, carriedOf, atFirst, runOn, afterTaken, afterRun, runAs, Lends}
 use Rattle.engine_rules.proofs.Runs.{engineLoop}
 use Rattle.engine_rules.proofs.Isolation.{engine-isolation}
-use Rattle.capi_engine.specs.Records.{engineTo, ranTo, engineFor}
-use Rattle.capi_engine.specs.Claims.{EngineBack, engineCall, Laid, installed, loaded, HostEngineIsolation}
+use Rattle.capi_engine_rules.specs.Records.{engineTo, ranTo, engineFor}
+use Rattle.capi_engine_rules.specs.Claims.{EngineBack, engineCall, Laid, installed, loaded, HostEngineIsolation}
 
 pub engine-back : EngineBack
 engine-back = comes-back guestRegisters engineOf (λ m. m .regs) (λ m. m .at) (λ m. m .status) (λ _. refl) (λ _ _ _. refl)

@@ -1,8 +1,8 @@
 use mathlib.Core.Path.{sym, _∙_, ap}
 use borrow.Author.Needs.{needs}
-use Rattle.capi_loading.specs.Hosts.{yesOrNo}
-use Rattle.capi_loading.proofs.word_right.Statement.{statement}
-use Rattle.capi_loading.proofs.word_right.Tie as tie
+use Rattle.capi_words.specs.Hosts.{yesOrNo}
+use Rattle.capi_words.proofs.word_right.Statement.{statement}
+use Rattle.capi_words.proofs.word_right.Tie as tie
 
 pub word-right-spec : {M : Type 1} → statement M
 word-right-spec =

@@ -11,7 +11,7 @@ use Rattle.capi_rules.specs.Hosts.{installFor, loadFor, HostRan}
 use Rattle.capi_rules.specs.Claims.{ComesBack, callsOf, number}
 use Rattle.engine_rules.specs.Engines.{engineFirst, refusalOf}
 use Rattle.engine_rules.specs.Claims.{carriedOf, Lends, allRuns, Isolated}
-use Rattle.capi_engine.specs.Records.{engineFrom, engineTo, ranTo, engineFor}
+use Rattle.capi_engine_rules.specs.Records.{engineFrom, engineTo, ranTo, engineFor}
 
 -- the engine's record, of fifteen registers, in numbers and back
 abbrev pub EngineBack : Type 0
