@@ -7,7 +7,6 @@ use Rattle.engine_rules.proofs.Moments.{engine-splits, engine-cuts}
 use Rattle.engine_rules.proofs.Paused.{engine-pauses}
 use Rattle.engine_rules.proofs.Waits.{engine-waits}
 use Rattle.engine_rules.proofs.Ordered.{engine-order, engine-refuses, engine-rewriter, engine-takes}
-use Rattle.engine_rules.proofs.Samples.{sample-holds}
 
 pub proved : Proved
 proved =
@@ -30,5 +29,4 @@ proved =
       engineCeilings = engine-ceilings;
       engineIsolation = engine-isolation;
       engineCell = engine-cell;
-      sampleHolds = sample-holds;
     }

@@ -18,9 +18,9 @@ use Rattle.rules.specs.Runs.{Given, eachRun, afterAll, Lent, begins, runOn as m
 use Rattle.rules.specs.Claims.{Stands, Waiting}
 use Rattle.samples.specs.Sample.{layout, policy, code, commands, memory, runs as machineRuns, pausedRun}
 use Rattle.samples.proofs.Samples.{free-set, sample-holds as machine-holds}
 use Rattle.engine_rules.specs.Engines.{sendOf, actOf, nextFor, movedOf, effectOn, refusalBy, runOf}
 use Rattle.engine_rules.specs.Claims.{runOn, afterTaken, afterRun, after, Served, Beside}
-use Rattle.engine_rules.specs.Sample.{left, runs, machineOne, engineOne, SampleHolds}
+use Rattle.engine_samples.specs.Sample.{left, runs, machineOne, engineOne, SampleHolds}
 
 served-with : (x y : ℕ) → Served layout policy code (memory x) (runs y)
 unfolding ones rightLayout rightPolicy rightLandings installAnswer inBox inTable inLandings protected installMemory landingsOf runOn afterTaken afterRun judgeOf judgeAt firstRefused refusalBy eachRun
