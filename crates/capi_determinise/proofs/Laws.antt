@@ -9,8 +9,8 @@ use lib.ListN.{length}
 use lib.Pow.{pow-mono}
 use borrow.Author.Tests.{ltb-false, lt-ltb, le-ltb}
 use Rattle.names.specs.Names.{mostStates}
-use Rattle.policy_exploration.specs.declared.Made.{Made}
-use Rattle.policy_exploration.proofs.Reach.{place-most}
+use Rattle.policy_exploration_rules.specs.declared.Made.{Made}
+use Rattle.policy_exploration_rules.proofs.Reach.{place-most}
 use Rattle.policy_determinise.specs.Drawings.{drawingOf, setAfter, drawingRight, determiniseOf, determiniseTable}
 use Rattle.policy_determinise.proofs.Runs.{fit-of}
 use Rattle.capi_determinise.specs.Numbers.{startsFrom, policyTo}

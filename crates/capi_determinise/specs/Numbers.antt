@@ -5,7 +5,7 @@ use mathlib.Core.List.{List}
 use lib.Dec.{ltb}
 use Rattle.names.specs.Names.{mostStates}
 use Rattle.capi_rules.specs.Numbers.{madeTo}
-use Rattle.policy_exploration.specs.declared.Made.{Made}
+use Rattle.policy_exploration_rules.specs.declared.Made.{Made}
 
 -- a map of starts that has a bit above 15 counts as none: 16 refuses both
 unfoldable pub startsFrom : ℕ → ℕ

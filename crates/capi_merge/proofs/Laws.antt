@@ -9,7 +9,7 @@ use lib.Seq.{sets, sets-eq}
 use Rattle.names.specs.Names.{orders}
 use Rattle.rules.specs.Policies.{Policy, policyOf}
 use Rattle.capi_rules.specs.Numbers.{answerTo}
-use Rattle.policy_exploration.proofs.Reach.{place-most}
+use Rattle.policy_exploration_rules.proofs.Reach.{place-most}
 use Rattle.policy_merge.specs.declared.Merged.{Merged}
 use Rattle.policy_merge.specs.declared.Side.{Side}
 use Rattle.policy_merge.specs.Pairs.{pairAfter, startPair, sideRight, mergeMade, withCeilings, mergeOf, mergeTable}

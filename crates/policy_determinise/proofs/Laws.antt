@@ -14,11 +14,11 @@ use borrow.Author.Tests.{lt-ltb, lt-leb, le-leb}
 use Rattle.names.specs.declared.Refusal.the-variants.{BadDrawing}
 use Rattle.names.specs.Names.{events, mostStates, refusal}
 use Rattle.policy_maps.specs.Maps.{bit}
-use Rattle.policy_exploration.specs.declared.Found.{Found}
-use Rattle.policy_exploration.specs.declared.Made.{Made}
-use Rattle.policy_exploration.specs.Reach.{madeWith}
-use Rattle.policy_exploration.specs.Founds.{Explored, writtenOf, writtenTable}
-use Rattle.policy_exploration.proofs.Explore.{written-made, written-table}
+use Rattle.policy_exploration_rules.specs.declared.Found.{Found}
+use Rattle.policy_exploration_rules.specs.declared.Made.{Made}
+use Rattle.policy_exploration_rules.specs.Reach.{madeWith}
+use Rattle.policy_exploration_rules.specs.Founds.{Explored, writtenOf, writtenTable}
+use Rattle.policy_exploration_rules.proofs.Explore.{written-made, written-table}
 use Rattle.policy_determinise.specs.Drawings.{Drawing, drawingOf, unionOf, setAfter, mapsRight, drawingRight, determiniseOf, determiniseTable}
 use Rattle.policy_determinise.proofs.Runs.{fit-of, arrows}
 

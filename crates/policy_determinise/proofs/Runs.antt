@@ -16,9 +16,9 @@ use Rattle.rules.specs.Policies.{statesRight, allowed}
 use Rattle.rules.proofs.Bools.{no, both, join, either, or-left, or-right}
 use Rattle.policy_maps.specs.Maps.{bit}
 use Rattle.policy_maps.proofs.Maps.{bit-or, bit-zero, bit-high}
-use Rattle.policy_exploration.specs.Reach.{nodeAfter}
-use Rattle.policy_exploration.specs.Claims.{Arrows}
-use Rattle.policy_exploration.proofs.Reach.{nodes-exact, taken-reaches, reach-right, allowed-reaches}
+use Rattle.policy_exploration_rules.specs.Reach.{nodeAfter}
+use Rattle.policy_exploration_rules.specs.Claims.{Arrows}
+use Rattle.policy_exploration_rules.proofs.Reach.{nodes-exact, taken-reaches, reach-right, allowed-reaches}
 use Rattle.policy_determinise.specs.Drawings.{Drawing, Fit, successors, unionOf, setAfter, mapsRight, drawingRight, madePolicy, determiniseOf, determiniseTable}
 use Rattle.policy_determinise.specs.Claims.{Makes, TakenMakes, MadeRight, Way, ends, goes, Followed, AllowedRuns, SetsAreEnds, SetsExact}
 

@@ -8,8 +8,8 @@ use Rattle.names.specs.declared.Layout.{Layout}
 use Rattle.names.specs.Names.{noArrow, answer}
 use Rattle.rules.specs.Policies.{allowed, rightPolicy}
 use Rattle.policy_maps.specs.Maps.{bit}
-use Rattle.policy_exploration.specs.Reach.{statesOf, few, madeWith, nodeAfter}
-use Rattle.policy_exploration.specs.Claims.{Exactly}
+use Rattle.policy_exploration_rules.specs.Reach.{statesOf, few, madeWith, nodeAfter}
+use Rattle.policy_exploration_rules.specs.Claims.{Exactly}
 use Rattle.policy_determinise.specs.Drawings.{Drawing, drawingOf, successors, setAfter, drawingRight, madePolicy, determiniseOf, determiniseTable}
 
 -- what is handed back and left with answer 0 is the policy of which the other claims speak

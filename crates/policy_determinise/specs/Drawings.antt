@@ -10,8 +10,8 @@ use Rattle.names.specs.declared.Refusal.the-variants.{BadDrawing}
 use Rattle.names.specs.Names.{events, mostStates, refusal, first}
 use Rattle.rules.specs.Policies.{Policy, statesRight}
 use Rattle.policy_maps.specs.Maps.{bit}
-use Rattle.policy_exploration.specs.Reach.{policyFrom, madeWith, reachOf, reachTable}
-use Rattle.policy_exploration.specs.declared.Made.{Made}
+use Rattle.policy_exploration_rules.specs.Reach.{policyFrom, madeWith, reachOf, reachTable}
+use Rattle.policy_exploration_rules.specs.declared.Made.{Made}
 
 -- the state count, the map of the starts, and 'entry 16 × s + n such a map of the successors of state s under event n'
 pub record Drawing : Type 0 where

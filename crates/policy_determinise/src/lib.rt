@@ -2,8 +2,8 @@
 use names::Layout;
 use names::PolicyNumbers;
 use names::Refusal;
-use policy_exploration::Found;
-use policy_exploration::Made;
+use policy_exploration_rules::Found;
+use policy_exploration_rules::Made;
 ghost use mathlib.Core.Path.{_≡_};
 ghost use mathlib.Core.Bool.{cond};
 ghost use Prim.Native.Nat.{_*_, _^_, _≤_, _<_};
@@ -11,7 +11,7 @@ ghost use lib.ListN.{length};
 ghost use lib.Dec.{ltb};
 ghost use Rattle.names.specs.Names.{events, mostStates};
 ghost use Rattle.policy_maps.specs.Maps.{bit};
-ghost use Rattle.policy_exploration.specs.Founds.{Explored};
+ghost use Rattle.policy_exploration_rules.specs.Founds.{Explored};
 ghost use Rattle.policy_determinise.specs.Drawings.{Fit, drawingOf, unionOf, setAfter, mapsRight, drawingRight, determiniseOf, determiniseTable};
 
 // The most states of a drawing.

@@ -7,9 +7,9 @@ use lib.ListN.{length, getD, take, drop, set}
 use lib.Seq.{drop-cons, length-take-le, getD-take, drop-length}
 use borrow.Author.Tests.{eq-eqb, ne-eqb, lt-ltb, le-ltb}
 use Rattle.names.specs.Names.{noArrow}
-use Rattle.policy_exploration.specs.Reach.{place}
-use Rattle.policy_exploration.specs.declared.Found.{Found}
-use Rattle.policy_exploration.specs.Founds.{Sized, listOf, foundWith}
+use Rattle.policy_exploration_rules.specs.Reach.{place}
+use Rattle.policy_exploration_rules.specs.declared.Found.{Found}
+use Rattle.policy_exploration_rules.specs.Founds.{Sized, listOf, foundWith}
 
 -- the place of a number, of which the first i are not it
 abbrev pub Sought : List ℕ → ℕ → ℕ → Type 0

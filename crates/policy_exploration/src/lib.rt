@@ -1,38 +1,16 @@
-// What can be reached: the nodes that events lead to from a start, numbered as first met, and the policy of their numbers.
-// A node is a number above 0; 0 is no node. The caller has a loop: it asks for the node whose arrow is next and says where that leads.
-use names::Answer;
-use names::Layout;
+// Exploring: the caller has a loop, in which it asks for the node whose arrow is next and says where that leads.
 use names::PolicyNumbers;
+use policy_exploration_rules::ARROWS;
+use policy_exploration_rules::EVENTS;
+use policy_exploration_rules::Found;
+use policy_exploration_rules::MOST;
+use policy_exploration_rules::NODES;
 ghost use mathlib.Core.Path.{_≡_};
 ghost use Prim.Native.Nat.{_+_, _*_, _/_, _≤_, _<_};
 ghost use lib.ListN.{length, getD, take};
 ghost use Rattle.names.specs.Names.{events, mostStates};
-ghost use Rattle.policy_exploration.specs.Reach.{place as placeOf};
-ghost use Rattle.policy_exploration.specs.Founds.{Sized, foundAt, foundWith, moreOf};
-
-// The most states of a policy.
-const MOST: usize = Layout::MOST_STATES as usize;
-
-// Events of one row.
-const EVENTS: usize = PolicyNumbers::EVENTS as usize;
-
-// Room for the nodes of a policy and one too many, and for the arrows of the nodes of a policy.
-const NODES: usize = MOST + 1;
-
-pub const ARROWS: usize = EVENTS * MOST;
-
-// The nodes found, with one place for the node that is too many, how many they are, and the numbers of those to which the arrows lead.
-pub struct Found {
-    pub nodes: [u16; NODES],
-    pub count: usize,
-    pub arrows: [u8; ARROWS],
-}
-
-// What making a policy answers: place is the bytes written; the policy's numbers.
-pub struct Made {
-    pub answer: Answer,
-    pub policy: PolicyNumbers,
-}
+ghost use Rattle.policy_exploration_rules.specs.Reach.{place as placeOf};
+ghost use Rattle.policy_exploration_rules.specs.Founds.{Sized, foundAt, foundWith, moreOf};
 
 // The start alone.
 pub fn begin(start: u16) -> Found

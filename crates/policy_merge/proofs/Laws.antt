@@ -11,11 +11,11 @@ use Rattle.names.specs.Names.{mostStates, events, orders, noArrow, refusal}
 use Rattle.rules.specs.Policies.{Policy, policyOf}
 use Rattle.rules.proofs.Bools as bools
 use Rattle.policy_maps.specs.Maps.{build}
-use Rattle.policy_exploration.specs.declared.Found.{Found}
-use Rattle.policy_exploration.specs.declared.Made.{Made}
-use Rattle.policy_exploration.specs.Reach.{madeWith}
-use Rattle.policy_exploration.specs.Founds.{Explored, writtenOf, writtenTable}
-use Rattle.policy_exploration.proofs.Explore.{written-made, written-table}
+use Rattle.policy_exploration_rules.specs.declared.Found.{Found}
+use Rattle.policy_exploration_rules.specs.declared.Made.{Made}
+use Rattle.policy_exploration_rules.specs.Reach.{madeWith}
+use Rattle.policy_exploration_rules.specs.Founds.{Explored, writtenOf, writtenTable}
+use Rattle.policy_exploration_rules.proofs.Explore.{written-made, written-table}
 use Rattle.policy_merge.specs.declared.Merged.{Merged}
 use Rattle.policy_merge.specs.Pairs.{pair, left, right, both, pairAfter, startPair, sideRight, smaller, mergeMade, withCeilings, mergeOf, mergeTable}
 use Rattle.policy_merge.proofs.Pairs.{side-of, start-pairs}

@@ -8,8 +8,8 @@ use Rattle.names.specs.declared.Answer.{Answer}
 use Rattle.names.specs.declared.Layout.{Layout}
 use Rattle.names.specs.Names.{orders, topWord, noArrow, answer}
 use Rattle.rules.specs.Policies.{Policy, policyOf, stateOver, allowed, statesRight, rightPolicy}
-use Rattle.policy_exploration.specs.Reach.{statesOf, few, nodeAfter}
-use Rattle.policy_exploration.specs.Claims.{Exactly}
+use Rattle.policy_exploration_rules.specs.Reach.{statesOf, few, nodeAfter}
+use Rattle.policy_exploration_rules.specs.Claims.{Exactly}
 use Rattle.policy_merge.specs.declared.Merged.{Merged}
 use Rattle.policy_merge.specs.Pairs.{pair, pairAfter, startPair, sideRight, mergedPolicy, smaller, mergeOf, mergeTable}
 

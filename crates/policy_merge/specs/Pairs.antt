@@ -9,8 +9,8 @@ use Rattle.names.specs.declared.Refusal.the-variants.{BadPolicy}
 use Rattle.names.specs.Names.{mostStates, events, orders, noArrow, refusal, ifTaken, first}
 use Rattle.rules.specs.Policies.{Policy, policyOf, lentPolicy, arrow, entriesRight, statesRight}
 use Rattle.policy_maps.specs.Maps.{build}
-use Rattle.policy_exploration.specs.Reach.{policyFrom, madeWith, reachOf, reachTable}
-use Rattle.policy_exploration.specs.declared.Made.{Made}
+use Rattle.policy_exploration_rules.specs.Reach.{policyFrom, madeWith, reachOf, reachTable}
+use Rattle.policy_exploration_rules.specs.declared.Made.{Made}
 use Rattle.policy_merge.specs.declared.Merged.{Merged}
 
 -- a lent table with its policy's numbers, and one with none, of which only the arrows are asked; merging knows no landings

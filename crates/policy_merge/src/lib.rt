@@ -3,14 +3,14 @@ use names::Answer;
 use names::Layout;
 use names::PolicyNumbers;
 use names::Refusal;
-use policy_exploration::Found;
-use policy_exploration::Made;
+use policy_exploration_rules::Found;
+use policy_exploration_rules::Made;
 use words_cells::index_of;
 ghost use mathlib.Core.Path.{_≡_};
 ghost use Prim.Native.Nat.{_+_, _*_, _^_, _<_, min};
 ghost use lib.ListN.{length, getD};
 ghost use Rattle.names.specs.Names.{events, noArrow};
-ghost use Rattle.policy_exploration.specs.Founds.{Explored};
+ghost use Rattle.policy_exploration_rules.specs.Founds.{Explored};
 ghost use Rattle.policy_merge.specs.Pairs.{sideOf, arrowsOf, pair as pairOf, both as bothOf, pairAfter, sideRight, smaller as smallerOf, mergeMade, withCeilings, mergeOf, mergeTable};
 
 // The most states of a policy.

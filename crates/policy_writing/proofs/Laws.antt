@@ -9,10 +9,10 @@ use borrow.Author.Tests.{lt-ltb, le-ltb, le-leb, lt-leb}
 use Rattle.names.specs.declared.Answer.{Answer}
 use Rattle.names.specs.declared.Refusal.the-variants.{SmallOutput, TooManyStates}
 use Rattle.names.specs.Names.{mostStates, events, answer, refusal}
-use Rattle.policy_exploration.specs.Reach.{madeWith}
-use Rattle.policy_exploration.specs.declared.Found.{Found}
-use Rattle.policy_exploration.specs.declared.Made.{Made}
-use Rattle.policy_exploration.specs.Founds.{Sized, foundAnswer, writtenOf, writtenTable}
+use Rattle.policy_exploration_rules.specs.Reach.{madeWith}
+use Rattle.policy_exploration_rules.specs.declared.Found.{Found}
+use Rattle.policy_exploration_rules.specs.declared.Made.{Made}
+use Rattle.policy_exploration_rules.specs.Founds.{Sized, foundAnswer, writtenOf, writtenTable}
 
 -- one more byte copied
 pub copy-more : (s t₀ t : List ℕ) (i r : ℕ) → t ≡ take i s ++ drop i t₀ → i < length s → i < length t₀ → r ≡ getD s i 0 → set t i r ≡ take (i + 1) s ++ drop (i + 1) t₀

@@ -3,16 +3,16 @@ use names::Answer;
 use names::Layout;
 use names::PolicyNumbers;
 use names::Refusal;
-use policy_exploration::ARROWS;
-use policy_exploration::Found;
-use policy_exploration::Made;
+use policy_exploration_rules::ARROWS;
+use policy_exploration_rules::Found;
+use policy_exploration_rules::Made;
 ghost use mathlib.Core.Path.{_≡_};
 ghost use mathlib.Core.List.{_++_};
 ghost use Prim.Native.Nat.{_*_, _≤_};
 ghost use lib.ListN.{length, take, drop};
 ghost use Rattle.names.specs.Names.{events, mostStates, answer};
-ghost use Rattle.policy_exploration.specs.Reach.{madeWith};
-ghost use Rattle.policy_exploration.specs.Founds.{Sized, writtenOf, writtenTable};
+ghost use Rattle.policy_exploration_rules.specs.Reach.{madeWith};
+ghost use Rattle.policy_exploration_rules.specs.Founds.{Sized, writtenOf, writtenTable};
 
 // The most states of a policy.
 const MOST: usize = Layout::MOST_STATES as usize;

@@ -3,8 +3,8 @@ use mathlib.Core.List.{[]}
 use native.Mathlib.Omega.{arith}
 use borrow.Author.Needs.{needs}
 use Rattle.names.specs.Names.{events, mostStates}
-use Rattle.policy_exploration.specs.Founds.{Holds}
-use Rattle.policy_exploration.proofs.Explore.{going, holds-start, holds-more, holds-done}
+use Rattle.policy_exploration_rules.specs.Founds.{Holds}
+use Rattle.policy_exploration_rules.proofs.Explore.{going, holds-start, holds-more, holds-done}
 use Rattle.rules.specs.Policies.{policyOf}
 use Rattle.policy_merge.specs.Pairs.{pairAfter}
 use Rattle.policy_merge.proofs.Pairs.{pairs}

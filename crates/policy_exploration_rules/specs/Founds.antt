@@ -9,9 +9,9 @@ use Rattle.names.specs.declared.Answer.{Answer}
 use Rattle.names.specs.declared.Refusal.the-variants.{TooManyStates}
 use Rattle.names.specs.Names.{mostStates, events, refusal, ifTaken, outputOf, roomFor, first}
 use Rattle.policy_maps.specs.Maps.{build}
-use Rattle.policy_exploration.specs.declared.Found.{Found}
-use Rattle.policy_exploration.specs.declared.Made.{Made}
-use Rattle.policy_exploration.specs.Reach.{known, nodeState, byteOf, met, nodes, madeWith}
+use Rattle.policy_exploration_rules.specs.declared.Found.{Found}
+use Rattle.policy_exploration_rules.specs.declared.Made.{Made}
+use Rattle.policy_exploration_rules.specs.Reach.{known, nodeState, byteOf, met, nodes, madeWith}
 
 -- room for one node too many
 abbrev pub capacity : ℕ

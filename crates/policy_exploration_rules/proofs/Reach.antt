@@ -12,9 +12,9 @@ use Rattle.names.specs.Names.{mostStates, events, noArrow}
 use Rattle.rules.specs.Policies.{arrow, allowedFrom, allowed, entryRight, rightPolicy}
 use Rattle.policy_maps.proofs.Maps.{length-build, build-at}
 use Rattle.policy_maps.proofs.Tables.{entries-build}
-use Rattle.policy_exploration.specs.Reach.{place, meet, target, met, nodes, nodeState, byteOf, statesOf, tableOf, policyFrom, few, reachAnswer, reachOf, reachTable, nodeAfter}
-use Rattle.policy_exploration.specs.Claims.{Arrows, Reached, Exactly, NodesExact, Makes, TakenReaches, ReachRight, AllowedReaches}
-use Rattle.policy_exploration.proofs.Places.{pigeons, place-at, place-of, place-append, place-new, Meets, none, again, anew, meets, meet-none, met-known, More, meet-more}
+use Rattle.policy_exploration_rules.specs.Reach.{place, meet, target, met, nodes, nodeState, byteOf, statesOf, tableOf, policyFrom, few, reachAnswer, reachOf, reachTable, nodeAfter}
+use Rattle.policy_exploration_rules.specs.Claims.{Arrows, Reached, Exactly, NodesExact, Makes, TakenReaches, ReachRight, AllowedReaches}
+use Rattle.policy_exploration_rules.proofs.Places.{pigeons, place-at, place-of, place-append, place-new, Meets, none, again, anew, meets, meet-none, met-known, More, meet-more}
 use Rattle.rules.proofs.Bools.{or-left, or-right}
 
 -- one event more

@@ -8,7 +8,7 @@ use lib.Dec.{eqb}
 use Rattle.names.specs.declared.Layout.{Layout}
 use Rattle.names.specs.Names.{mostStates, events}
 use Rattle.rules.specs.Policies.{allowed, rightPolicy}
-use Rattle.policy_exploration.specs.Reach.{met, nodes, statesOf, policyFrom, few, reachOf, reachTable, nodeAfter}
+use Rattle.policy_exploration_rules.specs.Reach.{met, nodes, statesOf, policyFrom, few, reachOf, reachTable, nodeAfter}
 
 pub record Arrows (next : ℕ → ℕ → ℕ) (q : ℕ) : Type 0 where
   pub none : (e : ℕ) → next 0 e ≡ 0

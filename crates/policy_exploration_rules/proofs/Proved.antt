@@ -1,6 +1,6 @@
 -- Every claim of this crate is proved.
-use Rattle.policy_exploration.specs.Proved.{Proved}
-use Rattle.policy_exploration.proofs.Reach.{nodes-exact, taken-reaches, reach-right, allowed-reaches}
+use Rattle.policy_exploration_rules.specs.Proved.{Proved}
+use Rattle.policy_exploration_rules.proofs.Reach.{nodes-exact, taken-reaches, reach-right, allowed-reaches}
 
 pub proved : Proved
 proved =

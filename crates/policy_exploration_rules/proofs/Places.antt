@@ -7,7 +7,7 @@ use native.Mathlib.Omega.{arith}
 use lib.Dec.{eqb}
 use lib.ListN.{length, getD, length-append}
 use borrow.Author.Tests.{ltb-true, ltb-false, eqb-true, eqb-false, eq-eqb}
-use Rattle.policy_exploration.specs.Reach.{place, known, meet}
+use Rattle.policy_exploration_rules.specs.Reach.{place, known, meet}
 
 pub place-le : (ns : List ℕ) (x : ℕ) → place ns x ≤ length ns
 place-le [] x = omega arith

@@ -13,12 +13,12 @@ use Rattle.rules.proofs.Bools.{both}
 use Rattle.policy_maps.specs.Maps.{build}
 use Rattle.policy_maps.proofs.Maps.{length-build}
 use Rattle.policy_maps.proofs.Tables.{fill-none, fill-more}
-use Rattle.policy_exploration.specs.declared.Found.{Found}
-use Rattle.policy_exploration.specs.Reach.{place, known, meet, target, met, nodes, nodeState, byteOf, statesOf, tableOf, reachAnswer, reachOf, reachTable}
-use Rattle.policy_exploration.specs.Founds.{Sized, foundAt, listOf, moreOf, foundWith, Holds, Explored, foundAnswer, writtenOf, writtenTable}
-use Rattle.policy_exploration.specs.Claims.{Arrows}
-use Rattle.policy_exploration.proofs.Places.{place-le, place-append, place-new, Meets, none, again, anew, meets, met-known}
-use Rattle.policy_exploration.proofs.Reach.{met-zero, met-suc, grows, rests}
+use Rattle.policy_exploration_rules.specs.declared.Found.{Found}
+use Rattle.policy_exploration_rules.specs.Reach.{place, known, meet, target, met, nodes, nodeState, byteOf, statesOf, tableOf, reachAnswer, reachOf, reachTable}
+use Rattle.policy_exploration_rules.specs.Founds.{Sized, foundAt, listOf, moreOf, foundWith, Holds, Explored, foundAnswer, writtenOf, writtenTable}
+use Rattle.policy_exploration_rules.specs.Claims.{Arrows}
+use Rattle.policy_exploration_rules.proofs.Places.{place-le, place-append, place-new, Meets, none, again, anew, meets, met-known}
+use Rattle.policy_exploration_rules.proofs.Reach.{met-zero, met-suc, grows, rests}
 
 -- a node's number does not change any more once it is met
 number-met : (ns : List ℕ) (x : ℕ) → nodeState ns x ≡ nodeState (meet ns x) x

@@ -10,7 +10,7 @@ use Rattle.names.specs.declared.Refusal.the-variants.{TooManyStates}
 use Rattle.names.specs.Names.{mostStates, events, noArrow, refusal, ifTaken, outputOf, roomFor, first}
 use Rattle.rules.specs.Policies.{Policy, policyOf}
 use Rattle.policy_maps.specs.Maps.{build}
-use Rattle.policy_exploration.specs.declared.Made.{Made}
+use Rattle.policy_exploration_rules.specs.declared.Made.{Made}
 
 -- the place at which a number first stands in a list; the list's length if it does not
 abbrev pub place : List ℕ → ℕ → ℕ
