@@ -13,7 +13,7 @@ ghost use Rattle.rules.specs.Bytes.{readAnswer, readOutput, writeAnswer, writeO
 ghost use Rattle.rules.specs.Bundles.{rewriteAnswer, rewriteOutput};
 ghost use Rattle.capi_rules.specs.Numbers.{layoutFrom, answerTo};
 ghost use Rattle.capi_rules.specs.Hosts.{checkFor, hostInstalled, installFor, hostLoaded, loadFor, hostRan, runFor, hostPreviewed, previewFor};
-ghost use Rattle.policy_precedence.specs.Precedence.{makeOf, makeTable};
+ghost use Rattle.policy_precedence_rules.specs.Precedence.{makeOf, makeTable};
 ghost use Rattle.forward_rules.specs.Forward.{forwardAnswer, checkForwardAnswer};
 ghost use Rattle.policy_determinise.specs.Drawings.{drawingOf, determiniseOf, determiniseTable};
 ghost use Rattle.capi_words.specs.Hosts.{yesOrNo};

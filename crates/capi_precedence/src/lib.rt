@@ -3,7 +3,7 @@ use capi_answers::MADE;
 use capi_answers::made_of;
 ghost use mathlib.Core.Path.{_≡_};
 ghost use lib.ListN.{length};
-ghost use Rattle.policy_precedence.specs.Precedence.{makeOf, makeTable};
+ghost use Rattle.policy_precedence_rules.specs.Precedence.{makeOf, makeTable};
 ghost use Rattle.capi_precedence.specs.Hosts.{precedenceTo};
 
 // Makes the policy of pairs of events, each first before its second.

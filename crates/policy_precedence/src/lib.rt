@@ -1,35 +1,23 @@
-// This before that: a policy from pairs of events, the first of which is to be recorded before the second.
+// This before that: the policy of pairs of events made, or refused.
 use names::Answer;
 use names::PolicyNumbers;
 use names::Refusal;
+use policy_precedence_arrows::arrow;
+use policy_precedence_nevers::full;
+use policy_precedence_nevers::stuck_all;
+use policy_precedence_rules::EVENTS;
+use policy_precedence_rules::MOST_NAMED;
+use policy_precedence_rules::Made;
 use words_cells::index_of;
 ghost use mathlib.Core.Path.{_≡_};
-ghost use mathlib.Core.Bool.{true, cond};
 ghost use mathlib.Core.List.{_++_};
-ghost use Prim.Native.Nat.{_+_, _-_, _*_, _^_, _≤_, _<_};
+ghost use Prim.Native.Nat.{_^_, _≤_};
 ghost use lib.ListN.{length, drop};
-ghost use lib.Bits.{bitAnd};
 ghost use lib.Dec.{eqb};
 ghost use lib.Count.{ones};
 ghost use Rattle.names.specs.Names.{events, answer};
 ghost use Rattle.policy_maps.specs.Maps.{mapWhere, build};
-ghost use Rattle.policy_precedence.specs.Precedence.{Fit, isNamed, known, mostNamed, pairsIn, pairsRight, statesOf, firstsIn, arrowOf, byteOf, tableBytes, stuck, onOf, fullOf, neverOf, madeWith, makeOf, makeTable};
-
-// The most events that a list of pairs may name.
-const MOST_NAMED: usize = 4;
-
-// Events of one row.
-const EVENTS: usize = PolicyNumbers::EVENTS as usize;
-
-// The mark of no arrow.
-const NO_ARROW: usize = PolicyNumbers::NO_ARROW as usize;
-
-// What making a policy answers: place is the bytes written; the policy's numbers; the map of the events that no allowed word holds.
-pub struct Made {
-    pub answer: Answer,
-    pub policy: PolicyNumbers,
-    pub never: u16,
-}
+ghost use Rattle.policy_precedence_rules.specs.Precedence.{Fit, isNamed, known, mostNamed, pairsRight, statesOf, byteOf, tableBytes, neverOf, madeWith, makeOf, makeTable};
 
 // Whether no event of the pairs is above 15.
 fn events_known(pairs: &[u8]) -> bool
@@ -64,45 +52,6 @@ fn names(pairs: &[u8]) -> usize
     map
 }
 
-// The bit of an event in a state: how many named events are smaller.
-fn place(names: usize, e: usize) -> usize
-    requires { ⌜ e < events ⌝ }
-    ensures { λ r. ⌜ (r ≡ ones (bitAnd names (2 ^ e - 1))) × (r ≤ e) ⌝ }
-{
-    usize::count_ones(names & ((1 << e) - 1)) as usize
-}
-
-// Whether all firsts of an event are recorded in a state.
-fn firsts_recorded(names: usize, pairs: &[u8], s: usize, e: usize) -> bool
-    requires { ⌜ Fit (now pairs) names ⌝ }
-    ensures { λ r. ⌜ r ≡ firstsIn (now (pairs .entry)) s e (pairsIn (now (pairs .entry))) ⌝ }
-{
-    let mut ok = true;
-    let mut i: usize = 0;
-    while i < pairs.len() / 2 {
-        ok = ok
-            & ((index_of(pairs[2 * i + 1]) != e)
-                | policy_maps::bit_set(s, place(names, index_of(pairs[2 * i]))));
-        i += 1;
-    }
-    ok
-}
-
-// The state after an event in a state, or no arrow.
-fn arrow(names: usize, pairs: &[u8], s: usize, e: usize) -> usize
-    requires { ⌜ Fit (now pairs) names × (s < statesOf (now pairs)) × (e < events) ⌝ }
-    ensures { λ r. ⌜ (r ≡ arrowOf (now (pairs .entry)) s e) × (r < 256) ⌝ }
-{
-    if !policy_maps::bit_set(names, e) {
-        return s;
-    }
-    if firsts_recorded(names, pairs, s, e) {
-        s | (1 << place(names, e))
-    } else {
-        NO_ARROW
-    }
-}
-
 // The table of as many bytes as the states have entries, from the table's start.
 fn fill(names: usize, pairs: &[u8], table: &mut [u8], bytes: usize)
     requires { ⌜ Fit (now pairs) names × (bytes ≡ tableBytes (now pairs)) × (bytes ≤ length (now table)) ⌝ }
@@ -113,55 +62,6 @@ fn fill(names: usize, pairs: &[u8], table: &mut [u8], bytes: usize)
         table[i] = arrow(names, pairs, i / EVENTS, i % EVENTS) as u8;
         i += 1;
     }
-}
-
-// On to the state after an event, if it has an arrow.
-fn on(names: usize, pairs: &[u8], s: usize, e: usize) -> usize
-    requires { ⌜ Fit (now pairs) names × (s < statesOf (now pairs)) × (e < events) ⌝ }
-    ensures { λ r. ⌜ r ≡ onOf (now (pairs .entry)) s e ⌝ }
-{
-    let next = arrow(names, pairs, s, e);
-    if next == NO_ARROW { s } else { next }
-}
-
-// The state in which every event is recorded that ever can be: a turn of all events for each that may be named.
-fn full(names: usize, pairs: &[u8]) -> usize
-    requires { ⌜ Fit (now pairs) names ⌝ }
-    ensures { λ r. ⌜ (r ≡ fullOf (now (pairs .entry))) × (r < statesOf (now (pairs .entry))) ⌝ }
-{
-    let mut s: usize = 0;
-    let mut i: usize = 0;
-    while i < MOST_NAMED * EVENTS {
-        s = on(names, pairs, s, i % EVENTS);
-        i += 1;
-    }
-    s
-}
-
-// The map of one event if it has no arrow in a state.
-fn stuck_one(names: usize, pairs: &[u8], s: usize, e: usize) -> usize
-    requires { ⌜ Fit (now pairs) names × (s < statesOf (now pairs)) × (e < events) ⌝ }
-    ensures { λ r. ⌜ r ≡ cond (stuck (now (pairs .entry)) s e) (2 ^ e) 0 ⌝ }
-{
-    if arrow(names, pairs, s, e) == NO_ARROW {
-        1 << e
-    } else {
-        0
-    }
-}
-
-// The map of the events that have no arrow in a state.
-fn stuck_all(names: usize, pairs: &[u8], s: usize) -> usize
-    requires { ⌜ Fit (now pairs) names × (s < statesOf (now pairs)) ⌝ }
-    ensures { λ r. ⌜ r ≡ mapWhere (stuck (now (pairs .entry)) s) events ⌝ }
-{
-    let mut map: usize = 0;
-    let mut e: usize = 0;
-    while e < EVENTS {
-        map = map + stuck_one(names, pairs, s, e);
-        e += 1;
-    }
-    map
 }
 
 // Whether 17 does not refuse the pairs.

@@ -6,9 +6,9 @@ use denote.Ref.{now}
 use borrow.Author.Needs.{needs}
 use lib.ListN.{length, drop}
 use Rattle.policy_maps.specs.Maps.{build}
-use Rattle.policy_precedence.specs.Precedence.{byteOf}
+use Rattle.policy_precedence_rules.specs.Precedence.{byteOf}
 use Rattle.policy_maps.proofs.Tables.{fill-none, fill-more, fill-done}
-use Rattle.policy_precedence.proofs.Laws.{row-below}
+use Rattle.policy_precedence_rules.proofs.Laws.{row-below}
 use Rattle.policy_precedence.proofs.fill.Statement.{statement}
 use Rattle.policy_precedence.proofs.fill.Tie as tie
 

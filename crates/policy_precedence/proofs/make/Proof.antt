@@ -2,7 +2,7 @@
 use denote.Ref.{now}
 use borrow.Author.Needs.{needs}
 use borrow.Author.Tests.{not-true, not-false}
-use Rattle.policy_precedence.proofs.Laws.{fit-of, few-ones, states-are, bytes-are, bytes-fit, no-pairs, no-room, makes}
+use Rattle.policy_precedence_rules.proofs.Laws.{fit-of, few-ones, states-are, bytes-are, bytes-fit, no-pairs, no-room, makes}
 use Rattle.policy_precedence.proofs.make.Statement.{statement}
 use Rattle.policy_precedence.proofs.make.Tie as tie
 

@@ -4,8 +4,8 @@ use borrow.Author.Needs.{needs}
 use lib.ListN.{length}
 use Rattle.names.specs.Names.{events}
 use Rattle.policy_maps.specs.Maps.{mapWhere}
-use Rattle.policy_precedence.specs.Precedence.{namedIn}
-use Rattle.policy_precedence.proofs.Laws.{names-none, names-more, names-done}
+use Rattle.policy_precedence_rules.specs.Precedence.{namedIn}
+use Rattle.policy_precedence_rules.proofs.Laws.{names-none, names-more, names-done}
 use Rattle.policy_precedence.proofs.names.Statement.{statement}
 use Rattle.policy_precedence.proofs.names.Tie as tie
 

@@ -15,11 +15,11 @@ use Rattle.names.specs.Names.{events}
 use Rattle.rules.specs.Policies.{allowedFrom, allowed}
 use Rattle.rules.proofs.Bools.{no, cases, both, either, join, or-left, or-right}
 use Rattle.policy_maps.specs.Maps.{mapWhere, bit}
-use Rattle.policy_precedence.specs.Precedence.{Fit, namedIn, isNamed, namedCount, pairsIn, firstAt, secondAt, place, statesOf, firstsIn, arrowOf, stuck, onOf, madePolicy}
-use Rattle.policy_precedence.specs.Claims.{Among, AreEvents, OrderLaws, AllowedInOrder}
+use Rattle.policy_precedence_rules.specs.Precedence.{Fit, namedIn, isNamed, namedCount, pairsIn, firstAt, secondAt, place, statesOf, firstsIn, arrowOf, stuck, onOf, madePolicy}
+use Rattle.policy_precedence_rules.specs.Claims.{Among, AreEvents, OrderLaws, AllowedInOrder}
 use Rattle.policy_maps.proofs.Maps.{every-at, every-all, some-at, count-less, bit-or, bit-same, bit-other, bit-zero}
-use Rattle.policy_precedence.proofs.Laws.{on-is, on-below, stuck-is}
-use Rattle.policy_precedence.proofs.Policies.{fit-right, arrow-is}
+use Rattle.policy_precedence_rules.proofs.Laws.{on-is, on-below, stuck-is}
+use Rattle.policy_precedence_rules.proofs.Policies.{fit-right, arrow-is}
 
 -- an event of the list is named
 pub is-named : (ps : List ℕ) (i : ℕ) → i < length ps → isNamed ps (getD ps i 0) ≡ true

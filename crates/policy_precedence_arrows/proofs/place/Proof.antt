@@ -1,7 +1,7 @@
 use borrow.Author.Needs.{needs}
-use Rattle.policy_precedence.proofs.Laws.{shifted-some, below-is, below-fits}
-use Rattle.policy_precedence.proofs.place.Statement.{statement}
-use Rattle.policy_precedence.proofs.place.Tie as tie
+use Rattle.policy_precedence_rules.proofs.Laws.{shifted-some, below-is, below-fits}
+use Rattle.policy_precedence_arrows.proofs.place.Statement.{statement}
+use Rattle.policy_precedence_arrows.proofs.place.Tie as tie
 
 pub place-spec : {M : Type 1} → statement M
 place-spec =

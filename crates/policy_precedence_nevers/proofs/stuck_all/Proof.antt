@@ -4,10 +4,10 @@ use denote.Ref.{now}
 use borrow.Author.Needs.{needs}
 use Rattle.names.specs.Names.{events}
 use Rattle.policy_maps.specs.Maps.{mapWhere}
-use Rattle.policy_precedence.specs.Precedence.{stuck}
-use Rattle.policy_precedence.proofs.Laws.{all-none, all-more, all-fits, all-done}
-use Rattle.policy_precedence.proofs.stuck_all.Statement.{statement}
-use Rattle.policy_precedence.proofs.stuck_all.Tie as tie
+use Rattle.policy_precedence_rules.specs.Precedence.{stuck}
+use Rattle.policy_precedence_rules.proofs.Laws.{all-none, all-more, all-fits, all-done}
+use Rattle.policy_precedence_nevers.proofs.stuck_all.Statement.{statement}
+use Rattle.policy_precedence_nevers.proofs.stuck_all.Tie as tie
 
 -- the events so far
 abbrev Inv-loop : tie.InvT-loop

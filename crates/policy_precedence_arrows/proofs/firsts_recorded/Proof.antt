@@ -3,10 +3,10 @@ use mathlib.Core.Path.{_≡_, sym}
 use denote.Ref.{now}
 use borrow.Author.Needs.{needs}
 use lib.ListN.{length}
-use Rattle.policy_precedence.specs.Precedence.{firstsIn}
-use Rattle.policy_precedence.proofs.Laws.{firsts-none, firsts-more, firsts-done, first-below, bit-below}
-use Rattle.policy_precedence.proofs.firsts_recorded.Statement.{statement}
-use Rattle.policy_precedence.proofs.firsts_recorded.Tie as tie
+use Rattle.policy_precedence_rules.specs.Precedence.{firstsIn}
+use Rattle.policy_precedence_rules.proofs.Laws.{firsts-none, firsts-more, firsts-done, first-below, bit-below}
+use Rattle.policy_precedence_arrows.proofs.firsts_recorded.Statement.{statement}
+use Rattle.policy_precedence_arrows.proofs.firsts_recorded.Tie as tie
 
 -- the pairs so far
 abbrev Inv-loop : tie.InvT-loop

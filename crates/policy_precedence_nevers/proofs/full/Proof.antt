@@ -3,10 +3,10 @@ use mathlib.Core.Path.{_≡_}
 use denote.Ref.{now}
 use borrow.Author.Needs.{needs}
 use Rattle.names.specs.Names.{events}
-use Rattle.policy_precedence.specs.Precedence.{mostNamed, turnsOf}
-use Rattle.policy_precedence.proofs.Laws.{turns-none, turns-more, turns-done, turned}
-use Rattle.policy_precedence.proofs.full.Statement.{statement}
-use Rattle.policy_precedence.proofs.full.Tie as tie
+use Rattle.policy_precedence_rules.specs.Precedence.{mostNamed, turnsOf}
+use Rattle.policy_precedence_rules.proofs.Laws.{turns-none, turns-more, turns-done, turned}
+use Rattle.policy_precedence_nevers.proofs.full.Statement.{statement}
+use Rattle.policy_precedence_nevers.proofs.full.Tie as tie
 
 -- the turns so far
 abbrev Inv-loop : tie.InvT-loop

@@ -15,12 +15,12 @@ use Rattle.names.specs.Names.{events, noArrow}
 use Rattle.rules.specs.Policies.{Policy, arrow, stateFrom, allowedFrom, allowed}
 use Rattle.rules.proofs.Bools.{no, cases, both, either, join, or-left, or-right}
 use Rattle.policy_maps.specs.Maps.{count, mapWhere, bit}
-use Rattle.policy_precedence.specs.Precedence.{Fit, mostNamed, isNamed, namedCount, pairsIn, firstAt, place, statesOf, firstsIn, arrowOf, stuck, onOf, turnsOf, fullOf, neverOf, madePolicy}
-use Rattle.policy_precedence.specs.Claims.{Unheard, NeverLaws, NeverAllowed}
+use Rattle.policy_precedence_rules.specs.Precedence.{Fit, mostNamed, isNamed, namedCount, pairsIn, firstAt, place, statesOf, firstsIn, arrowOf, stuck, onOf, turnsOf, fullOf, neverOf, madePolicy}
+use Rattle.policy_precedence_rules.specs.Claims.{Unheard, NeverLaws, NeverAllowed}
 use Rattle.policy_maps.proofs.Maps.{bit-or, bit-same, bit-zero, bit-map, bit-high, bit-kept, map-lt, count-le, count-sub-less}
-use Rattle.policy_precedence.proofs.Laws.{on-is, stuck-is, turns-below, place-less}
-use Rattle.policy_precedence.proofs.Policies.{fit-right, arrow-is, arrow-above}
-use Rattle.policy_precedence.proofs.Orders.{first-recorded, firsts-recorded, open-firsts, moves, moves-named, moves-unnamed, moves-below}
+use Rattle.policy_precedence_rules.proofs.Laws.{on-is, stuck-is, turns-below, place-less}
+use Rattle.policy_precedence_rules.proofs.Policies.{fit-right, arrow-is, arrow-above}
+use Rattle.policy_precedence_rules.proofs.Orders.{first-recorded, firsts-recorded, open-firsts, moves, moves-named, moves-unnamed, moves-below}
 
 -- every bit of a state is set in another
 Within : ℕ → ℕ → Type 0

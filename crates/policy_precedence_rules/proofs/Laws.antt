@@ -15,9 +15,9 @@ use Rattle.names.specs.declared.Refusal.the-variants.{SmallOutput, BadPair}
 use Rattle.names.specs.declared.Answer.{Answer}
 use Rattle.names.specs.Names.{events, noArrow, answer, refusal}
 use Rattle.rules.proofs.Bools.{both}
-use Rattle.policy_precedence.specs.declared.Made.{Made}
+use Rattle.policy_precedence_rules.specs.declared.Made.{Made}
 use Rattle.policy_maps.specs.Maps.{every, some, mapWhere, bit, build}
-use Rattle.policy_precedence.specs.Precedence.{Fit, namedIn, isNamed, knownIn, known, mostNamed, firstAt, pairsIn, place, firstsIn, statesOf, tableBytes, namedCount, arrowOf, byteOf, stuck, onOf, turnsOf, fullOf, neverOf, pairsRight, makeAnswer, madeWith, makeOf, makeTable}
+use Rattle.policy_precedence_rules.specs.Precedence.{Fit, namedIn, isNamed, knownIn, known, mostNamed, firstAt, pairsIn, place, firstsIn, statesOf, tableBytes, namedCount, arrowOf, byteOf, stuck, onOf, turnsOf, fullOf, neverOf, pairsRight, makeAnswer, madeWith, makeOf, makeTable}
 use Rattle.policy_maps.proofs.Maps.{every-at, map-or, map-one, map-none, map-low, map-ones, bit-map, count-less, map-lt, length-build}
 
 pub known-none : (ps : List ℕ) → knownIn ps 0 ≡ true

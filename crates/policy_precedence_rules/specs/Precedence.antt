@@ -11,7 +11,7 @@ use Rattle.names.specs.declared.Refusal.the-variants.{BadPair}
 use Rattle.names.specs.Names.{events, noArrow, refusal, ifTaken, outputOf, roomFor, first}
 use Rattle.rules.specs.Policies.{Policy, policyOf}
 use Rattle.policy_maps.specs.Maps.{every, some, count, mapWhere, bit, build}
-use Rattle.policy_precedence.specs.declared.Made.{Made}
+use Rattle.policy_precedence_rules.specs.declared.Made.{Made}
 
 -- 'more than four named events' are too many
 abbrev pub mostNamed : ℕ

@@ -1,7 +1,7 @@
 use borrow.Author.Needs.{needs}
-use Rattle.policy_precedence.proofs.Laws.{stuck-yes, stuck-no}
-use Rattle.policy_precedence.proofs.stuck_one.Statement.{statement}
-use Rattle.policy_precedence.proofs.stuck_one.Tie as tie
+use Rattle.policy_precedence_rules.proofs.Laws.{stuck-yes, stuck-no}
+use Rattle.policy_precedence_nevers.proofs.stuck_one.Statement.{statement}
+use Rattle.policy_precedence_nevers.proofs.stuck_one.Tie as tie
 
 pub stuck-one-spec : {M : Type 1} → statement M
 stuck-one-spec =

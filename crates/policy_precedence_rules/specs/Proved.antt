@@ -1,5 +1,5 @@
 -- Every claim of this crate, a field each: its one term is `proved`, in proofs/Proved.antt.
-use Rattle.policy_precedence.specs.Claims.{TakenMakes, MadeRight, AllowedInOrder, NeverAllowed, Worked}
+use Rattle.policy_precedence_rules.specs.Claims.{TakenMakes, MadeRight, AllowedInOrder, NeverAllowed, Worked}
 
 pub record Proved : Type 0 where
   pub takenMakes : TakenMakes

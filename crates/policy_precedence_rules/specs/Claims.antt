@@ -8,7 +8,7 @@ use Rattle.names.specs.declared.Layout.{Layout}
 use Rattle.names.specs.Names.{events, answer}
 use Rattle.rules.specs.Policies.{allowed, rightPolicy}
 use Rattle.policy_maps.specs.Maps.{bit}
-use Rattle.policy_precedence.specs.Precedence.{pairsIn, firstAt, secondAt, pairsRight, statesOf, tableOf, madePolicy, neverOf, makeAnswer, madeWith, makeOf, makeTable}
+use Rattle.policy_precedence_rules.specs.Precedence.{pairsIn, firstAt, secondAt, pairsRight, statesOf, tableOf, madePolicy, neverOf, makeAnswer, madeWith, makeOf, makeTable}
 
 -- what is handed back and left with answer 0 is the policy of which the other claims speak
 pub record Makes (ps table : List ℕ) : Type 0 where

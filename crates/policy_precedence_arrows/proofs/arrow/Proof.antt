@@ -1,9 +1,9 @@
 use denote.Ref.{now}
 use borrow.Author.Needs.{needs}
 use borrow.Author.Tests.{not-true, not-false}
-use Rattle.policy_precedence.proofs.Laws.{arrow-stays, arrow-goes, arrow-none}
-use Rattle.policy_precedence.proofs.arrow.Statement.{statement}
-use Rattle.policy_precedence.proofs.arrow.Tie as tie
+use Rattle.policy_precedence_rules.proofs.Laws.{arrow-stays, arrow-goes, arrow-none}
+use Rattle.policy_precedence_arrows.proofs.arrow.Statement.{statement}
+use Rattle.policy_precedence_arrows.proofs.arrow.Tie as tie
 
 bit-set-requires : tie.Need-bit-set-requires
 bit-set-requires c κs = search needs

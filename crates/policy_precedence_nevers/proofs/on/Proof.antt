@@ -1,7 +1,7 @@
 use borrow.Author.Needs.{needs}
-use Rattle.policy_precedence.proofs.Laws.{on-stays, on-goes}
-use Rattle.policy_precedence.proofs.on.Statement.{statement}
-use Rattle.policy_precedence.proofs.on.Tie as tie
+use Rattle.policy_precedence_rules.proofs.Laws.{on-stays, on-goes}
+use Rattle.policy_precedence_nevers.proofs.on.Statement.{statement}
+use Rattle.policy_precedence_nevers.proofs.on.Tie as tie
 
 pub on-spec : {M : Type 1} → statement M
 on-spec =

@@ -12,11 +12,11 @@ use borrow.Author.Tests.{eq-eqb, lt-ltb, le-ltb}
 use Rattle.names.specs.Names.{events, mostStates, noArrow}
 use Rattle.rules.specs.Policies.{Policy, arrow, entryRight, rightPolicy}
 use Rattle.policy_maps.specs.Maps.{mapWhere}
-use Rattle.policy_precedence.specs.Precedence.{Fit, isNamed, namedCount, statesOf, tableBytes, arrowOf, byteOf, stuck, tableOf, madePolicy, pairsRight, makeAnswer, makeOf, makeTable}
-use Rattle.policy_precedence.specs.Claims.{Makes, TakenMakes, MadeRight}
+use Rattle.policy_precedence_rules.specs.Precedence.{Fit, isNamed, namedCount, statesOf, tableBytes, arrowOf, byteOf, stuck, tableOf, madePolicy, pairsRight, makeAnswer, makeOf, makeTable}
+use Rattle.policy_precedence_rules.specs.Claims.{Makes, TakenMakes, MadeRight}
 use Rattle.policy_maps.proofs.Tables.{entries-build}
 use Rattle.policy_maps.proofs.Maps.{length-build, build-at}
-use Rattle.policy_precedence.proofs.Laws.{fit-of, states-most, on-below}
+use Rattle.policy_precedence_rules.proofs.Laws.{fit-of, states-most, on-below}
 use Rattle.rules.proofs.Bools.{or-left, or-right}
 
 pub fit-right : (ps : List ℕ) → pairsRight ps ≡ true → Fit ps (mapWhere (isNamed ps) events)
