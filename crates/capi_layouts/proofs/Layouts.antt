@@ -8,7 +8,7 @@ use lib.Seq.{sets, length-take-le}
 use Rattle.names.specs.declared.Layout.{Layout}
 use Rattle.names.specs.Names.{orders}
 use Rattle.names.specs.Records.{layoutOf}
-use Rattle.words_cells.proofs.Storing.{store-all}
+use Rattle.words_stores.proofs.Storing.{store-all}
 use Rattle.capi_rules.specs.Numbers.{numbersFrom, layoutFrom}
 use Rattle.capi_rules.proofs.Numbers.{spelt}
 

@@ -1,7 +1,7 @@
 // A layout made of a C host's numbers.
 use names::Layout;
 use names::PolicyNumbers;
-use words_cells::store_cells;
+use words_stores::store_cells;
 ghost use mathlib.Core.Path.{_≡_};
 ghost use Prim.Native.Nat.{_+_};
 ghost use lib.ListN.{length};

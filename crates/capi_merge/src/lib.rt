@@ -5,7 +5,7 @@ use capi_layouts::ceilings_from;
 use names::PolicyNumbers;
 use policy_merge::Merged;
 use policy_merge::Side;
-use words_cells::store_cells;
+use words_stores::store_cells;
 ghost use mathlib.Core.Path.{_≡_};
 ghost use Rattle.capi_merge.specs.Numbers.{sideFrom, mergedTo, hostMerged, mergeFor};
 

@@ -7,7 +7,7 @@ use borrow.Author.Tests.{lt-ltb, le-ltb}
 use lib.ListN.{length, getD, set, take, drop, length-append, length-set}
 use lib.Seq.{sets, length-sets, length-take-le, set-at}
 use Rattle.names.specs.declared.Status.{Status}
-use Rattle.words_cells.proofs.Storing.{store-front, store-all}
+use Rattle.words_stores.proofs.Storing.{store-front, store-all}
 use Rattle.capi_rules.specs.Numbers.{statuses, statusNumber, behind, recordTo, statusIn, numbersAfter}
 use Rattle.capi_rules.proofs.Numbers.{last-two}
 

@@ -3,7 +3,7 @@ use capi_statuses::STATUSES;
 use capi_statuses::status_number;
 use capi_statuses::status_of;
 use names::Status;
-use words_cells::store_cells;
+use words_stores::store_cells;
 ghost use mathlib.Core.Path.{_≡_};
 ghost use Prim.Native.Nat.{_+_};
 ghost use lib.ListN.{length, take};

@@ -5,7 +5,7 @@ use names::Instr;
 use names::One;
 use names::Refusal;
 use words_cells::index_of;
-use words_cells::store_words;
+use words_stores::store_words;
 ghost use mathlib.Core.Path.{_≡_};
 ghost use Prim.Native.Nat.{_≤_};
 ghost use lib.ListN.{length};

@@ -2,7 +2,7 @@
 use names::Layout;
 use names::Machine;
 use names::Outcome;
-use words_cells::store_cells;
+use words_stores::store_cells;
 ghost use mathlib.Core.Path.{_≡_};
 ghost use Rattle.rules.specs.Machines.{runOf};
 

@@ -16,7 +16,7 @@ use Rattle.rules.specs.Machines.{installAnswer, installMemory, installMachine, 
 use Rattle.names.specs.Records.{machineRefused}
 use Rattle.sandbox_rules.specs.Loading.{translateAnswer, loadAnswer, loadCommands, loadMemory, loadMachine, loadOf}
 use Rattle.sandbox_translating.specs.Translating.{Listed}
-use Rattle.words_cells.proofs.Storing.{store-front}
+use Rattle.words_stores.proofs.Storing.{store-front}
 use Rattle.rules.proofs.Refusals.{else-next, else-kept}
 
 module _ (lay : Layout) (pol : Policy) (s out mem : List ℕ) where

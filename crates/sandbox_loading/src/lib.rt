@@ -8,7 +8,7 @@ use names::Machine;
 use names::PolicyNumbers;
 use names::Refusal;
 use sandbox_translating::translate;
-use words_cells::store_words;
+use words_stores::store_words;
 ghost use Prim.Native.Nat.{_≤_};
 ghost use mathlib.Core.Path.{_≡_};
 ghost use lib.ListN.{length};

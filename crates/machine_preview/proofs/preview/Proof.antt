@@ -3,7 +3,7 @@ use mathlib.Core.Path.{sym, _∙_}
 use native.Mathlib.Omega.{arith}
 use lib.Seq.{length-take-le}
 use borrow.Author.Needs.{needs}
-use Rattle.words_cells.proofs.Storing.{store-all}
+use Rattle.words_stores.proofs.Storing.{store-all}
 use Rattle.machine_preview.proofs.Laws.{refused-long, ran-copy}
 use Rattle.machine_preview.proofs.preview.Statement.{statement}
 use Rattle.machine_preview.proofs.preview.Tie as tie

@@ -1,9 +1,9 @@
 use Prim.Native.Nat.{_-_}
 use lib.ListN.{length}
 use borrow.Author.Needs.{needs}
-use Rattle.words_cells.proofs.Storing.{Stored, store-none, store-more, store-done}
-use Rattle.words_cells.proofs.store_bytes.Statement.{statement}
-use Rattle.words_cells.proofs.store_bytes.Tie as tie
+use Rattle.words_stores.proofs.Storing.{Stored, store-none, store-more, store-done}
+use Rattle.words_stores.proofs.store_bytes.Statement.{statement}
+use Rattle.words_stores.proofs.store_bytes.Tie as tie
 
 abbrev Inv-loop : tie.InvT-loop
 Inv-loop cells₀ at bytes i₀ cells i = Stored cells₀ at bytes i cells
