@@ -26,7 +26,7 @@ pub fn load(
     ensures { λ _. ⌜ hostLoaded (now (answer .exit)) (now (machine .exit)) (now (commands .exit)) (now (memory .exit)) ≡ loadFor (now (layout .entry)) (policyOf states start (now (table .entry)) (now (landings .entry))) (now (bytes .entry)) (now (commands .entry)) (now (memory .entry)) ⌝ }
 {
     let policy = PolicyNumbers { states, start };
-    let loaded = sandbox_loading::load(
+    let loaded = sandbox::load(
         layout_of(layout),
         policy,
         table,

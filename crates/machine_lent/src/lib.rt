@@ -1,4 +1,4 @@
-// Runs of a record that is lent; a step is a run of budget 1. Their proofs walk the compiled code by hand, which is why they stand apart from the machine.
+// Runs of a record that is lent; a step is a run of budget 1. The proofs of the first two walk the compiled code by hand, which is why they stand apart from the machine.
 use names::Layout;
 use names::Machine;
 use names::Outcome;
@@ -7,8 +7,8 @@ ghost use mathlib.Core.Path.{_≡_};
 ghost use Rattle.rules.specs.Machines.{ranOf, runOf};
 ghost use Rattle.machine_lent.specs.Lent.{asOutcome};
 
-// A run: the record is copied out, run by value, and stored back whole.
-pub fn run(
+// A run of a lent record: it is copied out, run by value, and stored back whole.
+pub fn run_lent(
     layout: Layout,
     commands: &[u64],
     machine: &mut Machine,
@@ -24,8 +24,8 @@ pub fn run(
     out.answer
 }
 
-// A run by value through the lent form: the record stands in a local.
-pub fn run_lent(
+// A run by value: the record stands in a local, is lent to the run and handed back.
+pub fn run(
     layout: Layout,
     commands: &[u64],
     machine: Machine,
@@ -37,9 +37,23 @@ pub fn run_lent(
     ensures { λ r. ⌜ ranOf r (now (memory .exit)) (now (log .exit)) ≡ runOf layout (now (commands .entry)) machine (now (memory .entry)) budget (now (readings .entry)) (now (log .entry)) ⌝ }
 {
     let mut lent = machine;
-    let answer = run(layout, commands, &mut lent, memory, budget, readings, log);
+    let answer = run_lent(layout, commands, &mut lent, memory, budget, readings, log);
     Outcome {
         machine: lent,
         answer: answer,
     }
+}
+
+// One step of it, a run of budget 1.
+pub fn step(
+    layout: Layout,
+    commands: &[u64],
+    machine: Machine,
+    memory: &mut [u32],
+    readings: &[u32],
+    log: &mut [u32],
+) -> Outcome
+    ensures { λ r. ⌜ ranOf r (now (memory .exit)) (now (log .exit)) ≡ runOf layout (now (commands .entry)) machine (now (memory .entry)) 1 (now (readings .entry)) (now (log .entry)) ⌝ }
+{
+    run(layout, commands, machine, memory, 1, readings, log)
 }
