@@ -1,8 +1,8 @@
 // Policies drawn with several arrows: a deterministic policy of the sets of states that events lead to.
-use names::Layout;
-use names::PolicyNumbers;
 use names::Refusal;
+use policy_exploration_rules::EVENTS;
 use policy_exploration_rules::Found;
+use policy_exploration_rules::MOST;
 use policy_exploration_rules::Made;
 ghost use mathlib.Core.Path.{_≡_};
 ghost use mathlib.Core.Bool.{cond};
@@ -13,12 +13,6 @@ ghost use Rattle.names.specs.Names.{events, mostStates};
 ghost use Rattle.policy_maps.specs.Maps.{bit};
 ghost use Rattle.policy_exploration_rules.specs.Founds.{Explored};
 ghost use Rattle.policy_determinise.specs.Drawings.{Fit, drawingOf, unionOf, setAfter, mapsRight, drawingRight, determiniseOf, determiniseTable};
-
-// The most states of a drawing.
-const MOST: usize = Layout::MOST_STATES as usize;
-
-// Events of one row.
-const EVENTS: usize = PolicyNumbers::EVENTS as usize;
 
 // The successors of a state, if it is in the set.
 fn part(x: u16, k: usize, m: u16) -> u16

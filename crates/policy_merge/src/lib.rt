@@ -1,9 +1,10 @@
 // Two policies at once: the policy of the pairs of states that events lead to. A pair is held as 16 × s + t + 1, no pair as 0.
 use names::Answer;
-use names::Layout;
 use names::PolicyNumbers;
 use names::Refusal;
+use policy_exploration_rules::EVENTS;
 use policy_exploration_rules::Found;
+use policy_exploration_rules::MOST;
 use policy_exploration_rules::Made;
 use words_cells::index_of;
 ghost use mathlib.Core.Path.{_≡_};
@@ -12,12 +13,6 @@ ghost use lib.ListN.{length, getD};
 ghost use Rattle.names.specs.Names.{events, noArrow};
 ghost use Rattle.policy_exploration_rules.specs.Founds.{Explored};
 ghost use Rattle.policy_merge.specs.Pairs.{sideOf, arrowsOf, pair as pairOf, both as bothOf, pairAfter, sideRight, smaller as smallerOf, mergeMade, withCeilings, mergeOf, mergeTable};
-
-// The most states of a policy.
-const MOST: usize = Layout::MOST_STATES as usize;
-
-// Events of one row.
-const EVENTS: usize = PolicyNumbers::EVENTS as usize;
 
 // The mark of no arrow.
 const NO_ARROW: usize = PolicyNumbers::NO_ARROW as usize;

@@ -1,10 +1,11 @@
 // The policy of the nodes found, written: its numbers and its table, or a refusal.
 use names::Answer;
-use names::Layout;
 use names::PolicyNumbers;
 use names::Refusal;
 use policy_exploration_rules::ARROWS;
+use policy_exploration_rules::EVENTS;
 use policy_exploration_rules::Found;
+use policy_exploration_rules::MOST;
 use policy_exploration_rules::Made;
 ghost use mathlib.Core.Path.{_≡_};
 ghost use mathlib.Core.List.{_++_};
@@ -13,12 +14,6 @@ ghost use lib.ListN.{length, take, drop};
 ghost use Rattle.names.specs.Names.{events, mostStates, answer};
 ghost use Rattle.policy_exploration_rules.specs.Reach.{madeWith};
 ghost use Rattle.policy_exploration_rules.specs.Founds.{Sized, writtenOf, writtenTable};
-
-// The most states of a policy.
-const MOST: usize = Layout::MOST_STATES as usize;
-
-// Events of one row.
-const EVENTS: usize = PolicyNumbers::EVENTS as usize;
 
 // A refusal: all else is 0.
 pub fn refused(number: u8) -> Made
