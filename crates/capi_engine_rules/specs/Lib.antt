@@ -1,3 +1,4 @@
 pub mod Records
 pub mod Claims
+pub mod Sample
 pub mod Proved

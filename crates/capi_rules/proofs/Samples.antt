@@ -24,7 +24,7 @@ use Rattle.capi_rules.specs.Claims.{callsOf, installed, loaded}
 use Rattle.capi_rules.specs.Sample.{layout, bytes, left, SampleHolds}
 
 -- a store to a free cell
-free-set : (mem : List ℕ) (i x : ℕ) → (inBox (layoutFrom layout) i || protected (layoutFrom layout) i) ≡ false → Matches (layoutFrom layout) (set mem i x) mem
+pub free-set : (mem : List ℕ) (i x : ℕ) → (inBox (layoutFrom layout) i || protected (layoutFrom layout) i) ≡ false → Matches (layoutFrom layout) (set mem i x) mem
 free-set mem i x f j s = getD-set-other mem i j x 0 (λ e. no (sym f ∙ ap (λ (k : ℕ). inBox (layoutFrom layout) k || protected (layoutFrom layout) k) (sym e) ∙ s))
 
 pub sample-holds : SampleHolds
