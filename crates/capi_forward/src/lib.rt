@@ -18,5 +18,5 @@ pub fn forward(words: &[u64], answer: &mut [u32; ANSWER])
 pub fn check_forward(layout: &[u32; LAYOUT], commands: &[u64], answer: &mut [u32; ANSWER])
     ensures { λ _. ⌜ now (answer .exit) ≡ answerTo (checkForwardAnswer (layoutFrom (now (layout .entry))) (now (commands .entry))) ⌝ }
 {
-    *answer = answer_of(forward::check_forward(layout_of(layout), commands));
+    *answer = answer_of(forward_list::check_forward(layout_of(layout), commands));
 }

@@ -1,8 +1,9 @@
 -- What the two checks answer, law by law: which refusal comes first, and the lowest place.
-use mathlib.Core.Path.{_≡_, ap}
+use mathlib.Core.Path.{_≡_, sym, _∙_, ap}
 use mathlib.Core.Bool.{Bool, true, false, cond}
 use mathlib.Core.List.{List}
-use Prim.Native.Nat.{ℕ, suc, _+_, _/_, _<_, _≤_}
+use Prim.Native.Nat.{ℕ, suc, _+_, _-_, _/_, _<_, _≤_}
+use native.Mathlib.Omega.{arith}
 use borrow.Author.Tests.{lt-ltb, le-ltb}
 use lib.ListN.{length}
 use Rattle.names.specs.declared.Layout.{Layout}
@@ -24,6 +25,22 @@ module _ (is : ℕ → Instr) (h m : ℕ) where
   pub goes-past : forwardAt h (is h) ≡ true → forwardFrom is h (suc m) ≡ forwardFrom is (h + 1) m
   unfolding forwardFrom
   goes-past e = ap (λ (t : Bool). cond t (forwardFrom is (h + 1) m) (refusal NotForward h)) e
+
+-- ---- a walk over n instructions that stands at h, and whether instruction h is forward
+module _ (is : ℕ → Instr) (n h : ℕ) (a : Answer) (ea : a ≡ forwardFrom is h (n - h)) where
+  module _ (lt : h < n) (p : Bool) (ep : p ≡ forwardAt h (is h)) where
+    left : n - h ≡ suc (n - (h + 1))
+    left = omega arith
+
+    pub scan-more : p ≡ true → a ≡ forwardFrom is (h + 1) (n - (h + 1))
+    scan-more e = ea ∙ ap (forwardFrom is h) left ∙ goes-past is h _ (sym ep ∙ e)
+
+    pub scan-stop : p ≡ false → refusal NotForward h ≡ a
+    scan-stop e = sym (ea ∙ ap (forwardFrom is h) left ∙ breaks-here is h _ (sym ep ∙ e))
+
+  pub scan-done : n ≤ h → answer (numberOf Taken) 0 ≡ a
+  unfolding forwardFrom
+  scan-done l = let none : n - h ≡ 0 = omega arith in sym (ea ∙ rw none)
 
 -- ---- guest words: 5, the words' own refusals, the class
 module _ (ws : List ℕ) where
