@@ -1,15 +1,15 @@
 -- Laws of a guest word's first refusal.
-use mathlib.Core.Path.{_≡_, refl, sym, _∙_}
-use mathlib.Core.Bool.{Bool, true, false, _&&_, not}
+use mathlib.Core.Path.{_≡_, sym, _∙_}
+use mathlib.Core.Bool.{Bool, true, false, _&&_}
 use Prim.Native.Nat.{ℕ, _≤_, _<_, _^_}
 use native.Mathlib.Omega.{arith}
 use lib.Bits.{bitAnd}
 use lib.Dec.{ltb, eqb}
-use borrow.Author.Tests.{eq-eqb, ne-eqb, eqb-true, lt-ltb, ltb-true, ltb-false, not-true}
+use borrow.Author.Tests.{eq-eqb, ne-eqb, eqb-true, lt-ltb, ltb-true, ltb-false}
 use Rattle.names.specs.declared.Fields.{Fields}
-use Rattle.names.specs.declared.Refusal.the-variants.{Taken, BadLanding}
-use Rattle.names.specs.Names.{guestRegisters, topGuest, guest, topKind, numberOf}
-use Rattle.rules.specs.Words.{guestLimits, judgeOf, fieldsOf, kindOf, dOf, aOf, bOf, vOf, zeroOf, judgeWord, judgeAt}
+use Rattle.names.specs.declared.Refusal.the-variants.{Taken}
+use Rattle.names.specs.Names.{guestRegisters, topGuest, topKind, numberOf}
+use Rattle.rules.specs.Words.{guestLimits, judgeOf, fieldsOf, kindOf, dOf, aOf, bOf, zeroOf, judgeWord}
 use Rattle.rules.proofs.Bools.{both, join}
 use Rattle.rules.proofs.WordLaws.{good, judged, bounds}
 use Rattle.words_fields.specs.Strays.{strayOf}
@@ -64,27 +64,3 @@ module _ (w k : ℕ) (e : k ≡ kindOf w) where
 
 pub clean-judged : (w : ℕ) (r : Bool) → r ≡ eqb (judgeWord w) 0 → r ≡ true → numberOf Taken ≡ judgeWord w
 clean-judged w r f e = sym (eqb-true (judgeWord w) 0 (sym f ∙ e))
-
--- ---- the refusal of a word among n
-
-pub at-refused : (n w x : ℕ) → x ≡ judgeWord w → (x ≡ 0 → ⊥) → x ≡ judgeAt n w
-unfolding judgeAt
-at-refused n w x e h = rw (← e, ne-eqb x 0 h)
-
--- its kind, and where it leads if it is a GOIF
-module _ (n w k v : ℕ) (ek : k ≡ kindOf w) (ev : v ≡ vOf w) where
-  abbrev beyond : Bool
-  beyond = eqb k (guest .goif) && ltb n v
-
-  module _ (x : ℕ) (e : x ≡ judgeWord w) (z : x ≡ 0) where
-    pub at-landing : beyond ≡ true → numberOf BadLanding ≡ judgeAt n w
-    unfolding judgeAt
-    at-landing h = rw (← e, ← ek, ← ev, eq-eqb x 0 z, h)
-
-    pub at-taken : beyond ≡ false → numberOf Taken ≡ judgeAt n w
-    unfolding judgeAt
-    at-taken h = rw (← e, ← ek, ← ev, eq-eqb x 0 z, h)
-
-  -- a clean word, and no landing past the words
-  pub clean-at : (r : Bool) → r ≡ eqb (judgeWord w) 0 → (r && not beyond) ≡ true → numberOf Taken ≡ judgeAt n w
-  clean-at r f t = let u = both r (not beyond) t in at-taken 0 (clean-judged w r f (u .0)) refl (not-true beyond (u .1))

@@ -1,5 +1,4 @@
-// The first refusal of a guest word, alone and among others.
-use names::Answer;
+// The first refusal of a guest word.
 use names::Instr;
 use names::Refusal;
 use words_fields::field;
@@ -10,9 +9,8 @@ use words_refusals::judge;
 ghost use mathlib.Core.Path.{_≡_};
 ghost use Prim.Native.Nat.{_≤_};
 ghost use lib.Dec.{eqb};
-ghost use lib.ListN.{length};
 ghost use Rattle.names.specs.Names.{topKind};
-ghost use Rattle.rules.specs.Words.{guestLimits, judgeWord, judgeAt, firstRefused};
+ghost use Rattle.rules.specs.Words.{guestLimits, judgeWord};
 ghost use Rattle.words_fields.specs.Strays.{strayOf};
 
 // The bits that no instruction of a kind has: those of the fields that it lacks, and those above the bounds of c and v.
@@ -50,8 +48,8 @@ pub fn clean(w: u64) -> bool
     (w & stray_bits(k) == 0) & guests(w)
 }
 
-// The first refusal of a word by its fields. A call, for it is seldom needed.
-fn by_fields(w: u64) -> u8
+// The first refusal of a word by its fields, for callers that have tested `clean`. A call, for it is seldom needed.
+pub fn by_fields(w: u64) -> u8
     ensures { λ r. ⌜ r ≡ judgeWord w ⌝ }
 {
     judge(field::zero(w) > 0, fields(w))
@@ -64,38 +62,4 @@ pub fn judge_word(w: u64) -> u8
         return Refusal::TAKEN;
     }
     by_fields(w)
-}
-
-// The first refusal of a word among n instructions, 3, 2, 4 or 8, or 0.
-pub fn judge_at(n: usize, w: u64) -> u8
-    ensures { λ r. ⌜ r ≡ judgeAt n w ⌝ }
-{
-    let landing_bad = (field::kind(w) == Instr::KIND_GOIF) & ((n as u64) < field::v(w));
-    if clean(w) & !landing_bad {
-        return Refusal::TAKEN;
-    }
-    let number = by_fields(w);
-    if number != Refusal::TAKEN {
-        return number;
-    }
-    if landing_bad {
-        return Refusal::BAD_LANDING;
-    }
-    Refusal::TAKEN
-}
-
-// The first refusal among the words, or what is answered where there is none.
-pub fn judge_all(words: &[u64], taken: Answer) -> Answer
-    ensures { λ r. ⌜ r ≡ firstRefused (judgeAt (length (now (words .entry)))) (now (words .entry)) 0 taken ⌝ }
-{
-    let n = words.len();
-    let mut i: usize = 0;
-    while i < n {
-        let number = judge_at(n, words[i]);
-        if number != Refusal::TAKEN {
-            return Answer::refused_at(number, i);
-        }
-        i += 1;
-    }
-    taken
 }

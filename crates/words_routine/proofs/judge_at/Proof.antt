@@ -1,7 +1,7 @@
 use borrow.Author.Needs.{needs}
-use Rattle.words_guest.proofs.Judging.{clean-at, at-refused, at-landing, at-taken}
-use Rattle.words_guest.proofs.judge_at.Statement.{statement}
-use Rattle.words_guest.proofs.judge_at.Tie as tie
+use Rattle.words_routine.proofs.Judging.{clean-at, at-refused, at-landing, at-taken}
+use Rattle.words_routine.proofs.judge_at.Statement.{statement}
+use Rattle.words_routine.proofs.judge_at.Tie as tie
 
 pub judge-at-spec : {M : Type 1} → statement M
 judge-at-spec =

@@ -5,8 +5,8 @@ use lib.ListN.{length, drop}
 use borrow.Author.Needs.{needs}
 use Rattle.rules.specs.Words.{judgeAt, firstRefused}
 use Rattle.rules.proofs.Refusals.{refused-stop, refused-more, refused-done}
-use Rattle.words_guest.proofs.judge_all.Statement.{statement}
-use Rattle.words_guest.proofs.judge_all.Tie as tie
+use Rattle.words_routine.proofs.judge_all.Statement.{statement}
+use Rattle.words_routine.proofs.judge_all.Tie as tie
 
 abbrev Inv-loop : tie.InvT-loop
 Inv-loop words taken n i₀ i = (i ≤ length words) × (firstRefused (judgeAt (length words)) words 0 taken ≡ firstRefused (judgeAt (length words)) (drop i words) i taken)
