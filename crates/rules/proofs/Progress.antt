@@ -25,10 +25,10 @@ use Rattle.rules.specs.Commands.{fetchOf, holdsOf}
 use Rattle.rules.specs.Bundles.{at4, addressOf, positionOf, shapeOf}
 use Rattle.rules.specs.Machines.{State, Ran, View, regAt, ifCell, landsAt, ifLanding, ifRoom, entryOf, onward, effectOf, applyOf, seen, nextOf, stepOf, runFrom, startOf, runOf, fits, loopFrom}
 use Rattle.rules.specs.Guests.{Pair, Guest, rOf}
-use Rattle.rules.specs.Runs.{begins, begunFrom, runOn, afterTaken, afterRun, after}
-use Rattle.rules.specs.Claims.{Stands, Resumes, Progress}
+use Rattle.rules.specs.Runs.{Given, Carried, begins, begunFrom, runOn, afterTaken, afterRun, after}
+use Rattle.rules.specs.Claims.{Stands, Proceeds, Resumes, Progress}
 use Rattle.rules.proofs.Facts.{Right, Bundled}
-use Rattle.rules.proofs.Bools.{no, cases, cond-ind}
+use Rattle.rules.proofs.Bools.{no, cases, join, cond-ind}
 use Rattle.rules.proofs.Conditions.{layout-of}
 use Rattle.rules.proofs.Sim.{Mid, start, rest, load1, load2, store1, store2, gox1, gox2, gox3, event1, event2, event3, Sim, over, live, Known}
 use Rattle.rules.proofs.Track.{first-yes, first-no, fetched, tracks, step-known, enter}
@@ -300,17 +300,20 @@ module _ (lay : Layout) (pol : Policy) (ws : List ℕ) (n : ℕ) (is : ℕ → I
       let y = reach (3 - p) p h 0 b (b + begins lay (s .pc)) s (omega arith) lh refl w run pc (λ _. room) in
       record { j = y .j; few = omega (arith, y .few); stands = y .stands; begun = y .begun }
 
-pub resumes : Resumes
+-- and so does the run that is given that budget, where it is not refused
+proceeds : (lay : Layout) (ws : List ℕ) (c : Carried) (g : Given) (b : ℕ) → fits lay (g .memory) ≡ true → Came lay ws (g .readings) bundleLength 0 (c .begun) b (startOf (c .machine) (g .memory) (g .log)) → Proceeds lay ws c g b
 unfolding afterRun afterTaken runOn runOf
+proceeds lay ws c g b fit y = record { budget = y .j; few = y .few; stands = rw fit (y .stands); begun = rw fit (y .begun) }
+
+pub resumes : Resumes
 resumes lay pol ws mem gs v run g lent n =
     let t = list-tracked lay pol ws mem gs v in
     let c = after lay pol ws mem gs in
     let s = startOf (c .machine) (g .memory) (g .log) in
     let w = enter lay pol ws _ _ (t .right) (t .bundled) _ c g (n .memory) lent (t .last) in
     let k = tracks lay pol ws _ _ (t .right) (t .bundled) (c .records) (c .consumed) (g .readings) _ (c .begun) s w in
-    let y = from-here lay pol ws _ _ (t .right) (t .bundled) (c .records) (c .consumed) (g .readings) _ (c .begun) s _ (k .0) w run (omega (arith, n .log), omega (arith, n .readings)) (k .1 .sim) in
-    let fit : fits lay (g .memory) ≡ true = rw (layout-of lay ws (v .passed), eq-eqb (length (g .memory)) (lay .size) (n .memory)) in
-    record { budget = y .j; few = y .few; stands = rw fit (y .stands); begun = rw fit (y .begun) }
+    proceeds lay ws c g _ (join _ _ (layout-of lay ws (v .passed)) (eq-eqb (length (g .memory)) (lay .size) (n .memory)))
+    (from-here lay pol ws _ _ (t .right) (t .bundled) (c .records) (c .consumed) (g .readings) _ (c .begun) s _ (k .0) w run (omega (arith, n .log), omega (arith, n .readings)) (k .1 .sim))
 
 pub progress : Progress
 progress lay pol ws mem gs v x run g lent n =
