@@ -1,4 +1,4 @@
-// The types of request 5's engine, which runs guest words directly under the guest rule; its definitions and claims are in specs/.
+// The types of request 5's engine, which runs guest words directly under the guest rule; its definitions and claims are in specs/; no code.
 use names::Answer;
 use names::Status;
 

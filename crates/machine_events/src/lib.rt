@@ -1,4 +1,4 @@
-// What an event asks of policy, log and readings: the policy's entry for it, and whether there is room.
+// What an event asks of policy, log and readings: the policy's entry for it, two free cells in the log, and for a probe a reading.
 use names::Effect;
 use names::Ending;
 use names::PolicyNumbers;
