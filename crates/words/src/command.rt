@@ -1,4 +1,3 @@
 // Command words: whether a word is a command, and which.
 pub use words_command::command;
 pub use words_command::is_command;
-pub use words_command::is_of_kind;
