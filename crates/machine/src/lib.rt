@@ -1,4 +1,4 @@
-// The stepping machine: runs, the record by value; a step is a run of budget 1.
+// The stepping machine: a run, the record by value.
 use names::Layout;
 use names::Machine;
 use names::Outcome;

@@ -1,4 +1,4 @@
-// Runs of a record that is lent; a step is a run of budget 1. The proofs of the first two walk the compiled code by hand, which is why they stand apart from the machine.
+// A run of a record that is lent, and by value through it a run and a step, which is a run of budget 1. The proofs of the first two walk the compiled code by hand, which is why they stand apart from the machine.
 use names::Layout;
 use names::Machine;
 use names::Outcome;
