@@ -13,6 +13,7 @@ use names::Instr;
 use names::Layout;
 use names::Status;
 use words::arith;
+use words::field;
 ghost use mathlib.Core.Path.{_≡_};
 ghost use Prim.Native.Nat.{_+_};
 ghost use Rattle.rules.specs.Words.{instrOf, bundlesFor};
@@ -36,7 +37,7 @@ fn act(
     requires { ⌜ GuestFields w × (top + 1 ≡ bundlesFor n) ⌝ }
     ensures { λ r. ⌜ r ≡ actOf layout (bundlesFor n) (instrOf w) (viewOf (now (regs .entry)) at (now (memory .entry)) (layout .cell) (layout .table) (layout .base) (layout .landings) free left) ⌝ }
 {
-    match w % 256 {
+    match w % field::BYTE {
         Instr::KIND_HALT => Effect::End(Status::Ended),
         Instr::KIND_SET => Effect::Put(target(w), number(w)),
         Instr::KIND_MOVE => Effect::Put(target(w), left_of(w, regs)),
@@ -54,14 +55,14 @@ fn act(
             right_of(w, regs),
         ),
         Instr::KIND_GOIF => branch(
-            (w >> 20) % 16,
+            (w >> field::AT_C) % field::FOUR_BITS,
             left_of(w, regs),
             right_of(w, regs),
             number(w),
             at,
         ),
         Instr::KIND_GOX => jump(
-            (w >> 20) % 16,
+            (w >> field::AT_C) % field::FOUR_BITS,
             left_of(w, regs),
             right_of(w, regs),
             regs[target(w)],

@@ -1,5 +1,6 @@
 // The fields of a word that was judged, and what the registers that they name hold.
 use engine_rules::Engine;
+use words::field;
 use words::layout;
 ghost use mathlib.Core.Path.{_≡_};
 ghost use lib.ListN.{getD};
@@ -10,27 +11,27 @@ ghost use Rattle.engine_fields.specs.Named.{GuestFields};
 pub fn target(w: u64) -> usize
     ensures { λ r. ⌜ r ≡ dOf w ⌝ }
 {
-    ((w >> 8) % 16) as usize
+    ((w >> field::AT_D) % field::FOUR_BITS) as usize
 }
 
 pub fn number(w: u64) -> u32
     ensures { λ r. ⌜ r ≡ vOf w ⌝ }
 {
-    (w >> 32) as u32
+    (w >> field::AT_V) as u32
 }
 
 pub fn left_of(w: u64, regs: &[u32; Engine::REGISTERS]) -> u32
     requires { ⌜ GuestFields w ⌝ }
     ensures { λ r. ⌜ r ≡ getD (now (regs .entry)) (aOf w) 0 ⌝ }
 {
-    regs[((w >> 12) % 16) as usize]
+    regs[((w >> field::AT_A) % field::FOUR_BITS) as usize]
 }
 
 pub fn right_of(w: u64, regs: &[u32; Engine::REGISTERS]) -> u32
     requires { ⌜ GuestFields w ⌝ }
     ensures { λ r. ⌜ r ≡ getD (now (regs .entry)) (bOf w) 0 ⌝ }
 {
-    regs[((w >> 16) % 16) as usize]
+    regs[((w >> field::AT_B) % field::FOUR_BITS) as usize]
 }
 
 // The cell of a LOAD or a STORE.

@@ -5,6 +5,7 @@ use names::Bundle;
 use names::Command;
 use names::Layout;
 use names::Refusal;
+use words::field;
 ghost use mathlib.Core.Path.{_≡_};
 ghost use Prim.Native.Nat.{_/_};
 ghost use lib.ListN.{length};
@@ -19,8 +20,8 @@ const LENGTH: u64 = Bundle::LENGTH as u64;
 fn forward_word(l: Layout, h: usize, w: u64) -> bool
     ensures { λ r. ⌜ r ≡ forwardWord l h w ⌝ }
 {
-    let kind = w % 256;
-    let to = w >> 32;
+    let kind = w % field::BYTE;
+    let to = w >> field::AT_V;
     let base = l.base as u64;
     if kind != Command::GOIF {
         return kind != Command::SHL;
