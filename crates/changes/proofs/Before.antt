@@ -7,20 +7,20 @@ use native.Mathlib.Omega.{arith}
 use borrow.Author.Tests.{lt-ltb, ne-eqb}
 use lib.Dec.{eqb, lit<}
 use lib.ListN.{length, getD}
-use Rattle.names.specs.declared.Layout.{Layout}
-use Rattle.names.specs.declared.Answer.{Answer}
-use Rattle.names.specs.declared.Instr.{Instr}
-use Rattle.names.specs.declared.Instr.the-variants.{HALT, PLAIN, LOAD, STORE, GOIF, GOX, EVENT}
-use Rattle.names.specs.declared.Refusal.the-variants.{BadLayout, BadBundle, BadCount, BadBase}
-use Rattle.names.specs.Names.{bundleLength, bundleShift, hidden, guest, command, plainStep, numberOf, answer}
-use Rattle.rules.specs.Layouts.{rightLayout}
-use Rattle.rules.specs.Words.{kindOf, dOf, packOf}
-use Rattle.rules.specs.Commands.{wordOf}
-use Rattle.rules.specs.Bundles.{shapeWith, shapeOf, valid, bundleAt, baseRight, passesAt, checkFrom, countRight, checkAnswer}
-use Rattle.rules.proofs.Facts.{Valid}
-use Rattle.rules.proofs.Bools.{no, both, join, cond-ind, unless-ind}
-use Rattle.rules.proofs.Conditions.{passed-of, passed-placed, passed-valid, passed-word, passed-last, valid-is}
-use Rattle.rules.proofs.Passing.{is-valid, list-passes}
+use Rattle.types.specs.declared.Layout.{Layout}
+use Rattle.types.specs.declared.Answer.{Answer}
+use Rattle.types.specs.declared.Instr.{Instr}
+use Rattle.types.specs.declared.Instr.the-variants.{HALT, PLAIN, LOAD, STORE, GOIF, GOX, EVENT}
+use Rattle.types.specs.declared.Refusal.the-variants.{BadLayout, BadBundle, BadCount, BadBase}
+use Rattle.types.specs.Names.{bundleLength, bundleShift, hidden, guest, command, plainStep, numberOf, answer}
+use Rattle.spec.specs.Layouts.{rightLayout}
+use Rattle.spec.specs.Words.{kindOf, dOf, packOf}
+use Rattle.spec.specs.Commands.{wordOf}
+use Rattle.spec.specs.Bundles.{shapeWith, shapeOf, valid, bundleAt, baseRight, passesAt, checkFrom, countRight, checkAnswer}
+use Rattle.spec.proofs.Facts.{Valid}
+use Rattle.spec.proofs.Bools.{no, both, join, cond-ind, unless-ind}
+use Rattle.spec.proofs.Conditions.{passed-of, passed-placed, passed-valid, passed-word, passed-last, valid-is}
+use Rattle.spec.proofs.Passing.{is-valid, list-passes}
 use Rattle.changes.specs.Claims.{hiddenBefore, namesHidden, fieldsBelow, PassesWith, ListsBefore}
 
 -- ---- the first command of a bundle

@@ -8,16 +8,16 @@ use native.Mathlib.Omega.{arith}
 use lib.Dec.{lit<}
 use lib.ListN.{length, getD, take, drop}
 use lib.Seq.{getD-take, getD-drop}
-use Rattle.names.specs.declared.Layout.{Layout}
-use Rattle.names.specs.declared.Instr.{Instr}
-use Rattle.names.specs.declared.Instr.the-variants.{EVENT}
-use Rattle.names.specs.declared.Refusal.the-variants.{BadBundle}
-use Rattle.names.specs.Names.{bundleLength, numberOf, command}
-use Rattle.rules.specs.Words.{kindOf, vOf, packOf}
-use Rattle.rules.specs.Commands.{wordOf}
-use Rattle.rules.specs.Bundles.{shapeOf, readOff, bundleAt, shapedAt, passesAt, checkFrom, checkAnswer}
-use Rattle.rules.proofs.Bools.{no, cases, both}
-use Rattle.rules.proofs.Conditions.{bundle-parts}
+use Rattle.types.specs.declared.Layout.{Layout}
+use Rattle.types.specs.declared.Instr.{Instr}
+use Rattle.types.specs.declared.Instr.the-variants.{EVENT}
+use Rattle.types.specs.declared.Refusal.the-variants.{BadBundle}
+use Rattle.types.specs.Names.{bundleLength, numberOf, command}
+use Rattle.spec.specs.Words.{kindOf, vOf, packOf}
+use Rattle.spec.specs.Commands.{wordOf}
+use Rattle.spec.specs.Bundles.{shapeOf, readOff, bundleAt, shapedAt, passesAt, checkFrom, checkAnswer}
+use Rattle.spec.proofs.Bools.{no, cases, both}
+use Rattle.spec.proofs.Conditions.{bundle-parts}
 use Rattle.changes.specs.Claims.{oldEvent, OldRefused}
 
 -- a list with a bundle that does not pass is refused, there or before it

@@ -4,10 +4,10 @@ use mathlib.Core.Bool.{Bool, true, false, cond}
 use native.Mathlib.Omega.{arith}
 use borrow.Author.Tests.{ltb-true, ltb-false, eqb-true, lt-ltb, le-ltb, eq-eqb}
 use lib.Dec.{eqb, ltb}
-use Rattle.names.specs.declared.Effect.the-variants.{Order, Probe, Wait}
-use Rattle.names.specs.declared.Ending.the-variants.{LogFull, Silent}
-use Rattle.names.specs.Names.{orders}
-use Rattle.rules.specs.Machines.{effectOf}
+use Rattle.types.specs.declared.Effect.the-variants.{Order, Probe, Wait}
+use Rattle.types.specs.declared.Ending.the-variants.{LogFull, Silent}
+use Rattle.types.specs.Names.{orders}
+use Rattle.spec.specs.Machines.{effectOf}
 use Rattle.changes.specs.Claims.{SilentFirst}
 
 -- by the three tests, an order, no reading left and no free pair: either order of the pauses gives the same, unless the last two hold of a reading

@@ -7,20 +7,20 @@ use Prim.Native.Nat.{ℕ, zero, suc, _+_}
 use native.Mathlib.Omega.{arith}
 use borrow.Author.Tests.{ltb-true, ltb-false, eqb-true, eqb-false}
 use lib.Dec.{eqb, ltb}
-use Rattle.names.specs.declared.Layout.{Layout}
-use Rattle.names.specs.declared.Command.{Command}
-use Rattle.names.specs.declared.Command.the-variants.{Nop, Halt, Plain, Load, Store, GoIf, GoReg, Look, StopIf, Keep, Event, Stray}
-use Rattle.names.specs.declared.Effect.{Effect}
-use Rattle.names.specs.declared.Effect.the-variants.{Go, Put, Cell, Order, Probe, End, Wait}
-use Rattle.names.specs.declared.Status.{Status}
-use Rattle.names.specs.declared.Status.the-variants.{Running, Ended, Stopped, Faulted, Strayed}
-use Rattle.names.specs.declared.Ending.{Ending}
-use Rattle.names.specs.declared.Ending.the-variants.{Done, NoArrow, Fault, LogFull, Silent, Spent, NoLanding, Refused}
-use Rattle.names.specs.Names.{orders}
-use Rattle.rules.specs.Commands.{fetchOf}
-use Rattle.rules.specs.Machines.{View, effectOf, State, applyOf, seen, nextOf, Ran, ranOf, endingOf, endedIn, unlessOver, unlessWait, startOf, fits, runFrom, runOf, loopFrom}
-use Rattle.names.specs.Records.{outcomeOf}
-use Rattle.rules.proofs.Bools.{no}
+use Rattle.types.specs.declared.Layout.{Layout}
+use Rattle.types.specs.declared.Command.{Command}
+use Rattle.types.specs.declared.Command.the-variants.{Nop, Halt, Plain, Load, Store, GoIf, GoReg, Look, StopIf, Keep, Event, Stray}
+use Rattle.types.specs.declared.Effect.{Effect}
+use Rattle.types.specs.declared.Effect.the-variants.{Go, Put, Cell, Order, Probe, End, Wait}
+use Rattle.types.specs.declared.Status.{Status}
+use Rattle.types.specs.declared.Status.the-variants.{Running, Ended, Stopped, Faulted, Strayed}
+use Rattle.types.specs.declared.Ending.{Ending}
+use Rattle.types.specs.declared.Ending.the-variants.{Done, NoArrow, Fault, LogFull, Silent, Spent, NoLanding, Refused}
+use Rattle.types.specs.Names.{orders}
+use Rattle.spec.specs.Commands.{fetchOf}
+use Rattle.spec.specs.Machines.{View, effectOf, State, applyOf, seen, nextOf, Ran, ranOf, endingOf, endedIn, unlessOver, unlessWait, startOf, fits, runFrom, runOf, loopFrom}
+use Rattle.types.specs.Records.{outcomeOf}
+use Rattle.spec.proofs.Bools.{no}
 use Rattle.changes.specs.Claims.{BothPause, effectBefore, nextBefore, runFromBefore, runBefore, PausedBoth, RunLaws, SilentRuns}
 use Rattle.changes.proofs.Pauses.{silent-first}
 

@@ -5,22 +5,22 @@ use mathlib.Core.Bool.{Bool, true, false, _&&_, cond}
 use mathlib.Core.List.{List, [], _∷_}
 use lib.ListN.{length, getD, take, drop}
 use lib.Dec.{eqb, ltb}
-use Rattle.names.specs.declared.Layout.{Layout}
-use Rattle.names.specs.declared.Instr.{Instr}
-use Rattle.names.specs.declared.Instr.the-variants.{HALT, PLAIN, LOAD, STORE, GOIF, GOX, EVENT}
-use Rattle.names.specs.declared.Command.{Command}
-use Rattle.names.specs.declared.Command.the-variants.{Nop, Halt, Plain, Load, Store, GoIf, GoReg, Look, StopIf, Keep, Event, Stray}
-use Rattle.names.specs.declared.Effect.{Effect}
-use Rattle.names.specs.declared.Effect.the-variants.{Order, Probe, Wait}
-use Rattle.names.specs.declared.Ending.the-variants.{LogFull, Silent, Refused}
-use Rattle.names.specs.declared.Machine.{Machine}
-use Rattle.names.specs.declared.Refusal.the-variants.{BadLayout, BadBundle, BadCount, BadBase}
-use Rattle.names.specs.Names.{orders, bundleLength, hidden, numberOf, answer}
-use Rattle.rules.specs.Commands.{fetchOf, wordOf}
-use Rattle.rules.specs.Bundles.{shapeWith, valid, bundleAt, checkAnswer}
-use Rattle.rules.specs.Machines.{View, ifRoom, effectOf, State, applyOf, seen, Ran, ranOf, endedIn, leftIn, loopFrom, startOf, fits, runOf}
-use Rattle.names.specs.Records.{outcomeOf}
-use Rattle.rules.specs.Claims.{Placed}
+use Rattle.types.specs.declared.Layout.{Layout}
+use Rattle.types.specs.declared.Instr.{Instr}
+use Rattle.types.specs.declared.Instr.the-variants.{HALT, PLAIN, LOAD, STORE, GOIF, GOX, EVENT}
+use Rattle.types.specs.declared.Command.{Command}
+use Rattle.types.specs.declared.Command.the-variants.{Nop, Halt, Plain, Load, Store, GoIf, GoReg, Look, StopIf, Keep, Event, Stray}
+use Rattle.types.specs.declared.Effect.{Effect}
+use Rattle.types.specs.declared.Effect.the-variants.{Order, Probe, Wait}
+use Rattle.types.specs.declared.Ending.the-variants.{LogFull, Silent, Refused}
+use Rattle.types.specs.declared.Machine.{Machine}
+use Rattle.types.specs.declared.Refusal.the-variants.{BadLayout, BadBundle, BadCount, BadBase}
+use Rattle.types.specs.Names.{orders, bundleLength, hidden, numberOf, answer}
+use Rattle.spec.specs.Commands.{fetchOf, wordOf}
+use Rattle.spec.specs.Bundles.{shapeWith, valid, bundleAt, checkAnswer}
+use Rattle.spec.specs.Machines.{View, ifRoom, effectOf, State, applyOf, seen, Ran, ranOf, endedIn, leftIn, loopFrom, startOf, fits, runOf}
+use Rattle.types.specs.Records.{outcomeOf}
+use Rattle.spec.specs.Claims.{Placed}
 
 -- ---- [4]: which pause comes first
 

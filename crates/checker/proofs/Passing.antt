@@ -8,15 +8,15 @@ use lib.Count.{ones, ones-le}
 use lib.Dec.{ltb, eqb}
 use lib.ListN.{length, getD}
 use borrow.Author.Tests.{leb-true, eqb-true}
-use Rattle.names.specs.declared.Layout.{Layout}
-use Rattle.names.specs.declared.Answer.{Answer}
-use Rattle.names.specs.declared.Refusal.the-variants.{BadBase, BadBundle, BadCount, BadLayout, Taken}
-use Rattle.names.specs.Names.{mostBundles, mostCommands, bundleLength, baseBound, numberOf, answer, refusal}
-use Rattle.rules.specs.Layouts.{rightLayout}
-use Rattle.rules.specs.Words.{kindOf}
-use Rattle.rules.specs.Bundles.{addressOf, readOff, bundleAt, isBundle, shapedAt, passesAt, checkFrom, baseRight, countRight, checkAnswer}
-use Rattle.rules.proofs.Bools.{both}
-use Rattle.rules.proofs.Masks.{base-room as list-room}
+use Rattle.types.specs.declared.Layout.{Layout}
+use Rattle.types.specs.declared.Answer.{Answer}
+use Rattle.types.specs.declared.Refusal.the-variants.{BadBase, BadBundle, BadCount, BadLayout, Taken}
+use Rattle.types.specs.Names.{mostBundles, mostCommands, bundleLength, baseBound, numberOf, answer, refusal}
+use Rattle.spec.specs.Layouts.{rightLayout}
+use Rattle.spec.specs.Words.{kindOf}
+use Rattle.spec.specs.Bundles.{addressOf, readOff, bundleAt, isBundle, shapedAt, passesAt, checkFrom, baseRight, countRight, checkAnswer}
+use Rattle.spec.proofs.Bools.{both}
+use Rattle.spec.proofs.Masks.{base-room as list-room}
 
 -- ---- a bundle of the list
 

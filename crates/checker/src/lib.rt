@@ -1,16 +1,23 @@
 // The check of a list of commands: bundles of the known shapes, the last of them HALT. It takes lists of any producer.
-use names::Answer;
-use names::Bundle;
-use names::Layout;
-use names::Refusal;
+pub mod event;
+pub mod indirect_jump;
+pub mod masked_access;
+pub mod shapes;
+pub mod single;
+pub mod word;
+
+use types::Answer;
+use types::Bundle;
+use types::Layout;
+use types::Refusal;
 use words::count::base_right;
 use words::count::count_right;
-use words::layout::right;
+use words::memory::right;
 ghost use mathlib.Core.Path.{_≡_};
 ghost use Prim.Native.Nat.{_*_, _≤_, _<_, _^_};
 ghost use lib.ListN.{length};
-ghost use Rattle.names.specs.Names.{mostBundles, bundleLength};
-ghost use Rattle.rules.specs.Bundles.{addressOf, passesAt, checkFrom, checkAnswer};
+ghost use Rattle.types.specs.Names.{mostBundles, bundleLength};
+ghost use Rattle.spec.specs.Bundles.{addressOf, passesAt, checkFrom, checkAnswer};
 
 // Whether bundle h of n has a shape, and is a HALT if it is the last.
 fn passes(l: Layout, n: usize, commands: &[u64], h: usize) -> bool
@@ -18,7 +25,7 @@ fn passes(l: Layout, n: usize, commands: &[u64], h: usize) -> bool
     ensures { λ r. ⌜ r ≡ passesAt l n (now (commands .entry)) h ⌝ }
 {
     let at = Bundle::LENGTH * h;
-    checker_shapes::passes_words(
+    crate::shapes::passes_words(
         l,
         n,
         commands[at],

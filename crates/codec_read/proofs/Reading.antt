@@ -8,14 +8,14 @@ use native.Mathlib.Numerals.{add-one}
 use lib.ListN.{length, take, drop, set, length-drop}
 use lib.Seq.{sets as stores, sets-eq, length-sets, take-all, take-at, length-take-le}
 use borrow.Author.Tests.{eq-eqb, ne-eqb}
-use Rattle.names.specs.declared.Answer.{Answer}
-use Rattle.names.specs.declared.One.{One}
-use Rattle.names.specs.declared.One.the-variants.{Word, RefusedWith}
-use Rattle.names.specs.declared.Refusal.the-variants.{Taken, Trailing}
-use Rattle.names.specs.Names.{mostInstructions, numberOf, answer, refusal}
-use Rattle.rules.specs.Bytes.{oneOf, scanOf, wordsOf, countOf, wordsIn, readAnswer, readOutput}
-use Rattle.rules.proofs.Refusals.{output-kept, output-written}
-use Rattle.rules.proofs.Bytes.{one-read, read-scan, ReadOk, read-ok}
+use Rattle.types.specs.declared.Answer.{Answer}
+use Rattle.types.specs.declared.One.{One}
+use Rattle.types.specs.declared.One.the-variants.{Word, RefusedWith}
+use Rattle.types.specs.declared.Refusal.the-variants.{Taken, Trailing}
+use Rattle.types.specs.Names.{mostInstructions, numberOf, answer, refusal}
+use Rattle.spec.specs.Bytes.{oneOf, scanOf, wordsOf, countOf, wordsIn, readAnswer, readOutput}
+use Rattle.spec.proofs.Refusals.{output-kept, output-written}
+use Rattle.spec.proofs.Bytes.{one-read, read-scan, ReadOk, read-ok}
 
 -- ---- the loops
 

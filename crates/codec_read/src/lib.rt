@@ -1,17 +1,23 @@
 // A routine's bytes read into words.
-use codec_decode::read_one;
-use names::Answer;
-use names::Instr;
-use names::One;
-use names::Refusal;
-use words_cells::index_of;
-use words_stores::store_words;
+pub mod bytes;
+pub mod careful;
+pub mod decode;
+pub mod map;
+pub mod sure;
+
+use crate::decode::read_one;
+use buffers::cells::index_of;
+use buffers::stores::store_words;
+use types::Answer;
+use types::Instr;
+use types::One;
+use types::Refusal;
 ghost use mathlib.Core.Path.{_≡_};
 ghost use Prim.Native.Nat.{_≤_};
 ghost use lib.ListN.{length};
 ghost use lib.Seq.{sets as stores};
-ghost use Rattle.names.specs.Names.{mostInstructions};
-ghost use Rattle.rules.specs.Bytes.{scanOf, wordsOf, countOf, wordsIn, readAnswer, readOutput};
+ghost use Rattle.types.specs.Names.{mostInstructions};
+ghost use Rattle.spec.specs.Bytes.{scanOf, wordsOf, countOf, wordsIn, readAnswer, readOutput};
 
 // What n instructions from s on answer; their words are stored, up to the first that is refused.
 fn scan(s: &[u8], n: usize, words: &mut [u64]) -> Answer

@@ -8,15 +8,15 @@ use native.Mathlib.Numerals.{add-one}
 use borrow.Author.Tests.{lt-ltb, le-ltb}
 use lib.ListN.{length, getD, drop, set, length-set, length-append, drop-of-length-le}
 use lib.Seq.{sets as stores, length-sets, drop-cons}
-use Rattle.names.specs.declared.Answer.{Answer}
-use Rattle.names.specs.declared.Fields.{Fields}
-use Rattle.names.specs.declared.Refusal.the-variants.{SmallOutput, Taken}
-use Rattle.names.specs.Names.{mostInstructions, numberOf, answer, refusal, roomFor}
-use Rattle.rules.specs.Words.{fieldsOf, judgeWord, firstRefused}
-use Rattle.rules.specs.Bytes.{bitOf, mapOf, sizeOf, fieldsOut, oneOut, bytesOf, routineOf, writeAnswer, writeOutput}
-use Rattle.rules.proofs.Bytes.{length-fields, length-routine, WriteOk, write-ok}
-use Rattle.rules.proofs.Refusals.{refused-done, output-kept, output-written}
-use Rattle.codec_encode.proofs.Storing.{sets-append}
+use Rattle.types.specs.declared.Answer.{Answer}
+use Rattle.types.specs.declared.Fields.{Fields}
+use Rattle.types.specs.declared.Refusal.the-variants.{SmallOutput, Taken}
+use Rattle.types.specs.Names.{mostInstructions, numberOf, answer, refusal, roomFor}
+use Rattle.spec.specs.Words.{fieldsOf, judgeWord, firstRefused}
+use Rattle.spec.specs.Bytes.{bitOf, mapOf, sizeOf, fieldsOut, oneOut, bytesOf, routineOf, writeAnswer, writeOutput}
+use Rattle.spec.proofs.Bytes.{length-fields, length-routine, WriteOk, write-ok}
+use Rattle.spec.proofs.Refusals.{refused-done, output-kept, output-written}
+use Rattle.codec_write.proofs.encode.Storing.{sets-append}
 
 -- ---- how many bytes a word takes, counted by its map
 module _ (b r : ℕ) (h : b ≤ 1) where

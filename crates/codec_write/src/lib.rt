@@ -1,19 +1,21 @@
 // A routine's words written in bytes.
-use codec_encode::put_one;
-use codec_map::map_of;
-use codec_map::size_of;
-use names::Answer;
-use names::Instr;
-use names::Refusal;
-use words::guest::fields;
+pub mod encode;
+
+use crate::encode::put_one;
+use codec_read::map::map_of;
+use codec_read::map::size_of;
+use types::Answer;
+use types::Instr;
+use types::Refusal;
+use words::fields::fields;
 use words::guest::judge_word;
 ghost use mathlib.Core.Path.{_≡_};
 ghost use Prim.Native.Nat.{_+_, _≤_};
 ghost use lib.ListN.{length};
 ghost use lib.Seq.{sets as stores};
-ghost use Rattle.names.specs.Names.{mostInstructions, roomFor};
-ghost use Rattle.rules.specs.Words.{judgeWord, firstRefused};
-ghost use Rattle.rules.specs.Bytes.{oneOut, bytesOf, routineOf, writeAnswer, writeOutput};
+ghost use Rattle.types.specs.Names.{mostInstructions, roomFor};
+ghost use Rattle.spec.specs.Words.{judgeWord, firstRefused};
+ghost use Rattle.spec.specs.Bytes.{oneOut, bytesOf, routineOf, writeAnswer, writeOutput};
 
 // How many bytes a word takes.
 fn weight_word(w: u64) -> usize

@@ -1,21 +1,24 @@
 // The engine of request 5: it runs guest words directly under the guest rule.
-use engine_loop::turns;
-use engine_rules::Engine;
-use engine_rules::EngineOutcome;
-use machine_points::Point;
-use names::Answer;
-use names::Ending;
-use names::Layout;
-use names::Refusal;
-use names::Status;
+pub mod judge;
+pub mod run_loop;
+
+use crate::run_loop::turns;
+use engine_spec::Engine;
+use engine_spec::EngineOutcome;
+use machine_step::points::Point;
+use types::Answer;
+use types::Ending;
+use types::Layout;
+use types::Refusal;
+use types::Status;
 use words::count;
 ghost use mathlib.Core.Path.{_≡_};
 ghost use Prim.Native.Nat.{_+_, _≤_};
-ghost use Rattle.names.specs.declared.Status.the-variants.{Running};
-ghost use Rattle.names.specs.Names.{mostInstructions};
-ghost use Rattle.rules.specs.Words.{bundlesFor};
-ghost use Rattle.rules.specs.Machines.{stateOf, ranOf};
-ghost use Rattle.engine_rules.specs.Engines.{engineOf, Clean, Judged, outcomeOf, endAnswer, runFrom, startOf, runOf};
+ghost use Rattle.types.specs.declared.Status.the-variants.{Running};
+ghost use Rattle.types.specs.Names.{mostInstructions};
+ghost use Rattle.spec.specs.Words.{bundlesFor};
+ghost use Rattle.spec.specs.Machines.{stateOf, ranOf};
+ghost use Rattle.engine_spec.specs.Engines.{engineOf, Clean, Judged, outcomeOf, endAnswer, runFrom, startOf, runOf};
 
 // ---- what a run answers
 
@@ -24,7 +27,7 @@ fn end_answer(ending: Ending) -> Answer
     ensures { λ r. ⌜ r ≡ endAnswer ending ⌝ }
 {
     Answer {
-        number: machine_endings::number(ending),
+        number: machine_step::endings::number(ending),
         place: 0,
     }
 }
@@ -106,7 +109,7 @@ fn run_on(
     }
     EngineOutcome {
         engine,
-        answer: end_answer(machine_endings::of(status)),
+        answer: end_answer(machine_step::endings::of(status)),
         steps: 0,
         pairs: 0,
         used: 0,
@@ -125,7 +128,7 @@ pub fn run(
 ) -> EngineOutcome
     ensures { λ r. ⌜ ranOf r (now (memory .exit)) (now (log .exit)) ≡ runOf layout (now (words .entry)) engine (now (memory .entry)) budget (now (readings .entry)) (now (log .entry)) ⌝ }
 {
-    let answer = engine_judge::judge(layout, words, memory.len());
+    let answer = crate::judge::judge(layout, words, memory.len());
     let refused = answer.number;
     if refused == Refusal::TAKEN {
         return run_on(layout, words, engine, memory, budget, readings, log);

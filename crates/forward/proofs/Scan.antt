@@ -5,14 +5,14 @@ use mathlib.Core.List.{List}
 use Prim.Native.Nat.{ℕ, _+_, _-_, _<_, _≤_}
 use lib.Dec.{ltb}
 use lib.ListN.{length, getD}
-use Rattle.names.specs.declared.Answer.{Answer}
-use Rattle.names.specs.declared.Instr.{Instr}
-use Rattle.names.specs.declared.Instr.the-variants.{GOIF}
-use Rattle.names.specs.declared.Refusal.the-variants.{Taken, Oversize, NotForward}
-use Rattle.names.specs.Names.{mostInstructions, numberOf, answer, refusal}
-use Rattle.rules.specs.Words.{judgeAt, firstRefused, instrOf, routine}
-use Rattle.forward_rules.specs.Forward.{forwardAt, forwardFrom, forwardAnswer}
-use Rattle.forward_rules.proofs.Laws.{scan-more, scan-stop, scan-done, judged, words-long, words-refused, words-taken}
+use Rattle.types.specs.declared.Answer.{Answer}
+use Rattle.types.specs.declared.Instr.{Instr}
+use Rattle.types.specs.declared.Instr.the-variants.{GOIF}
+use Rattle.types.specs.declared.Refusal.the-variants.{Taken, Oversize, NotForward}
+use Rattle.types.specs.Names.{mostInstructions, numberOf, answer, refusal}
+use Rattle.spec.specs.Words.{judgeAt, firstRefused, instrOf, routine}
+use Rattle.forward_spec.specs.Forward.{forwardAt, forwardFrom, forwardAnswer}
+use Rattle.forward_spec.proofs.Laws.{scan-more, scan-stop, scan-done, judged, words-long, words-refused, words-taken}
 
 -- a jump, by its instruction
 pub jump-at : (h a b c v : ℕ) (i : Instr) → i ≡ GOIF a b c v → ltb h v ≡ forwardAt h i

@@ -1,14 +1,16 @@
 // The check of guest words for the class of routines that always finish: no GOX, and every GOIF goes to a higher
 // instruction than its own.
-use names::Answer;
-use names::Instr;
-use names::Refusal;
-use words::guest::instruction;
-use words::guest::judge_all;
+pub mod list;
+
+use types::Answer;
+use types::Instr;
+use types::Refusal;
+use words::fields::instruction;
+use words::routine::judge_all;
 ghost use mathlib.Core.Path.{_≡_};
 ghost use lib.ListN.{length};
-ghost use Rattle.rules.specs.Words.{routine};
-ghost use Rattle.forward_rules.specs.Forward.{forwardAt, forwardFrom, forwardAnswer};
+ghost use Rattle.spec.specs.Words.{routine};
+ghost use Rattle.forward_spec.specs.Forward.{forwardAt, forwardFrom, forwardAnswer};
 
 // Whether instruction h is forward.
 fn forward_at(h: usize, i: Instr) -> bool

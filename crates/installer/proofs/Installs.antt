@@ -7,22 +7,22 @@ use native.Mathlib.Omega.{arith}
 use lib.ListN.{length, set}
 use lib.Seq.{sets}
 use borrow.Author.Tests.{eqb-true}
-use Rattle.names.specs.declared.Layout.{Layout}
-use Rattle.names.specs.declared.Answer.{Answer}
-use Rattle.names.specs.declared.Installed.{Installed}
-use Rattle.names.specs.declared.Machine.{Machine}
-use Rattle.names.specs.declared.Refusal.{Refusal}
-use Rattle.names.specs.declared.Refusal.the-variants.{Taken, BadLayout, BadPolicy, BadLandings}
-use Rattle.names.specs.Names.{numberOf, answer, refusal}
-use Rattle.rules.specs.Layouts.{rightLayout}
-use Rattle.rules.specs.Policies.{Policy, policyOf, rightPolicy}
-use Rattle.rules.specs.Landings.{rightLandings, landingsOf}
-use Rattle.rules.specs.Machines.{fits, installAnswer, installMachine, installMemory, installOf}
-use Rattle.names.specs.Records.{machineAt, machineRefused}
-use Rattle.rules.proofs.Bools.{both}
-use Rattle.rules.proofs.Layouts.{LayoutFacts, layout-facts}
-use Rattle.rules.proofs.Landings.{length-landings}
-use Rattle.rules.proofs.Conditions.{policy-facts}
+use Rattle.types.specs.declared.Layout.{Layout}
+use Rattle.types.specs.declared.Answer.{Answer}
+use Rattle.types.specs.declared.Installed.{Installed}
+use Rattle.types.specs.declared.Machine.{Machine}
+use Rattle.types.specs.declared.Refusal.{Refusal}
+use Rattle.types.specs.declared.Refusal.the-variants.{Taken, BadLayout, BadPolicy, BadLandings}
+use Rattle.types.specs.Names.{numberOf, answer, refusal}
+use Rattle.spec.specs.Layouts.{rightLayout}
+use Rattle.spec.specs.Policies.{Policy, policyOf, rightPolicy}
+use Rattle.spec.specs.Landings.{rightLandings, landingsOf}
+use Rattle.spec.specs.Machines.{fits, installAnswer, installMachine, installMemory, installOf}
+use Rattle.types.specs.Records.{machineAt, machineRefused}
+use Rattle.spec.proofs.Bools.{both}
+use Rattle.spec.proofs.Layouts.{LayoutFacts, layout-facts}
+use Rattle.spec.proofs.Landings.{length-landings}
+use Rattle.spec.proofs.Conditions.{policy-facts}
 
 -- what installing answers and leaves: refused 7, refused 10, refused 14, taken
 abbrev pub refusedWith : Refusal → Installed

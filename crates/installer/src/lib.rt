@@ -1,24 +1,28 @@
 // Installing a policy and a list of landings: its start state, its table and their bits into the machine's memory, and a fresh record.
-use installer_landings::landing_cells;
-use installer_landings::landings_right;
-use installer_tables::entries_right;
-pub use installer_words::word_right;
-use names::Answer;
-use names::Installed;
-use names::Layout;
-use names::Machine;
-use names::PolicyNumbers;
-use names::Refusal;
-use words::layout::fits;
-use words_cells::poke;
-use words_stores::store_bytes;
-use words_stores::store_cells;
+pub mod landings;
+pub mod table;
+pub mod table_words;
+
+use crate::landings::landing_cells;
+use crate::landings::landings_right;
+use crate::table::entries_right;
+pub use crate::table_words::word_right;
+use buffers::cells::poke;
+use buffers::stores::store_bytes;
+use buffers::stores::store_cells;
+use types::Answer;
+use types::Installed;
+use types::Layout;
+use types::Machine;
+use types::PolicyNumbers;
+use types::Refusal;
+use words::memory::fits;
 ghost use mathlib.Core.Path.{_≡_};
 ghost use mathlib.Core.List.{[]};
-ghost use Rattle.names.specs.Names.{answer};
-ghost use Rattle.rules.specs.Policies.{lentPolicy, rightPolicy};
-ghost use Rattle.rules.specs.Machines.{installOf, installMemory};
-ghost use Rattle.names.specs.Records.{machineRefused};
+ghost use Rattle.types.specs.Names.{answer};
+ghost use Rattle.spec.specs.Policies.{lentPolicy, rightPolicy};
+ghost use Rattle.spec.specs.Machines.{installOf, installMemory};
+ghost use Rattle.types.specs.Records.{machineRefused};
 
 // Whether a policy can be installed under a layout: 10's four conditions.
 fn policy_right(layout: Layout, policy: PolicyNumbers, table: &[u8]) -> bool

@@ -1,6 +1,6 @@
 // Lines of numbers on standard output, which the programs share.
 use libc::STDOUT_FILENO;
-use names::Answer;
+use types::Answer;
 
 pub fn write(text: &[u8]) {
     io::write_all(STDOUT_FILENO, text);

@@ -1,10 +1,13 @@
 // The stepping machine: a run, the record by value.
-use names::Layout;
-use names::Machine;
-use names::Outcome;
-use words::layout::fits;
+pub mod answers;
+pub mod run_loop;
+
+use types::Layout;
+use types::Machine;
+use types::Outcome;
+use words::memory::fits;
 ghost use mathlib.Core.Path.{_≡_};
-ghost use Rattle.rules.specs.Machines.{ranOf, runOf};
+ghost use Rattle.spec.specs.Machines.{ranOf, runOf};
 
 // A run, the record by value.
 pub fn run_value(
@@ -21,5 +24,5 @@ pub fn run_value(
     if !fits(layout, memory.len()) {
         return Outcome::refused(machine);
     }
-    machine_loop::run_on(layout, commands, machine, memory, budget, readings, log)
+    crate::run_loop::run_on(layout, commands, machine, memory, budget, readings, log)
 }

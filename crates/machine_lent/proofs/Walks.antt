@@ -7,13 +7,13 @@ use mir.Val.{Val, vint}
 use denote.Ref.{RefT}
 use denote.Slice.{sliceVal}
 use denote.Struct.Laws as LL
-use Rattle.names.specs.declared.Layout.{Layout}
-use Rattle.names.specs.declared.Machine.{Machine}
-use Rattle.rules.specs.Machines.{Ran, runOf}
-use Rattle.names.proofs.Layout as L
-use Rattle.names.proofs.Layout.Laws as L′
-use Rattle.names.proofs.Machine as T
-use Rattle.names.proofs.Machine.Laws as T′
+use Rattle.types.specs.declared.Layout.{Layout}
+use Rattle.types.specs.declared.Machine.{Machine}
+use Rattle.spec.specs.Machines.{Ran, runOf}
+use Rattle.types.proofs.Layout as L
+use Rattle.types.proofs.Layout.Laws as L′
+use Rattle.types.proofs.Machine as T
+use Rattle.types.proofs.Machine.Laws as T′
 
 -- machine values: of a layout, a record and a slice
 abbrev pub lay : Layout → Val

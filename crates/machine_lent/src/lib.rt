@@ -1,10 +1,10 @@
 // A run of a record that is lent, and by value through it a run and a step, which is a run of budget 1. The proofs of the first two walk the compiled code by hand, which is why they stand apart from the machine.
-use names::Layout;
-use names::Machine;
-use names::Outcome;
-use names::RunAnswer;
+use types::Layout;
+use types::Machine;
+use types::Outcome;
+use types::RunAnswer;
 ghost use mathlib.Core.Path.{_≡_};
-ghost use Rattle.rules.specs.Machines.{ranOf, runOf};
+ghost use Rattle.spec.specs.Machines.{ranOf, runOf};
 ghost use Rattle.machine_lent.specs.Lent.{asOutcome};
 
 // A run of a lent record: it is copied out, run by value, and stored back whole.

@@ -7,16 +7,16 @@ use mathlib.Core.Logic.{⊎-elim}
 use native.Mathlib.Omega.{arith}
 use lib.ListN.{length}
 use borrow.Author.Tests.{eqb-true}
-use Rattle.names.specs.declared.Layout.{Layout}
-use Rattle.names.specs.declared.Machine.{Machine}
-use Rattle.names.specs.declared.Outcome.{Outcome}
-use Rattle.names.specs.declared.Ending.the-variants.{Refused}
-use Rattle.names.specs.Names.{mostCells}
-use Rattle.rules.specs.Layouts.{rightLayout}
-use Rattle.rules.specs.Machines.{fits, Ran, ranOf, runOf}
-use Rattle.names.specs.Records.{outcomeOf}
-use Rattle.rules.proofs.Bools.{both, cases}
-use Rattle.rules.proofs.Layouts.{layout-facts}
+use Rattle.types.specs.declared.Layout.{Layout}
+use Rattle.types.specs.declared.Machine.{Machine}
+use Rattle.types.specs.declared.Outcome.{Outcome}
+use Rattle.types.specs.declared.Ending.the-variants.{Refused}
+use Rattle.types.specs.Names.{mostCells}
+use Rattle.spec.specs.Layouts.{rightLayout}
+use Rattle.spec.specs.Machines.{fits, Ran, ranOf, runOf}
+use Rattle.types.specs.Records.{outcomeOf}
+use Rattle.spec.proofs.Bools.{both, cases}
+use Rattle.spec.proofs.Layouts.{layout-facts}
 
 -- a memory that fits a layout has no more cells than a layout may
 within : (lay : Layout) (mem : List ℕ) → fits lay mem ≡ true → length mem ≤ mostCells

@@ -1,10 +1,10 @@
 // A look ahead: what a run would answer and log, before it touches memory and record.
-use names::Layout;
-use names::Machine;
-use names::Outcome;
-use words_stores::store_cells;
+use buffers::stores::store_cells;
+use types::Layout;
+use types::Machine;
+use types::Outcome;
 ghost use mathlib.Core.Path.{_≡_};
-ghost use Rattle.rules.specs.Machines.{runOf};
+ghost use Rattle.spec.specs.Machines.{runOf};
 
 // A preview: outcome and log of a run on a copy of memory and record. A memory with more cells than any layout's has no room in the copy, and is refused as that run would be.
 pub fn preview(

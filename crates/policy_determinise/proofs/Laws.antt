@@ -11,14 +11,14 @@ use lib.ListN.{length, getD, drop}
 use lib.Pow.{pow-lt}
 use lib.Seq.{drop-cons, drop-length}
 use borrow.Author.Tests.{lt-ltb, lt-leb, le-leb}
-use Rattle.names.specs.declared.Refusal.the-variants.{BadDrawing}
-use Rattle.names.specs.Names.{events, mostStates, refusal}
-use Rattle.policy_maps.specs.Maps.{bit}
-use Rattle.policy_exploration_rules.specs.declared.Found.{Found}
-use Rattle.policy_exploration_rules.specs.declared.Made.{Made}
-use Rattle.policy_exploration_rules.specs.Reach.{madeWith}
-use Rattle.policy_exploration_rules.specs.Founds.{Explored, writtenOf, writtenTable}
-use Rattle.policy_exploration_rules.proofs.Explore.{written-made, written-table}
+use Rattle.types.specs.declared.Refusal.the-variants.{BadDrawing}
+use Rattle.types.specs.Names.{events, mostStates, refusal}
+use Rattle.policy_spec.specs.maps.Maps.{bit}
+use Rattle.policy_spec.specs.declared.reachability.Found.{Found}
+use Rattle.policy_spec.specs.declared.reachability.Made.{Made}
+use Rattle.policy_spec.specs.reachability.Reach.{madeWith}
+use Rattle.policy_spec.specs.reachability.Founds.{Explored, writtenOf, writtenTable}
+use Rattle.policy_spec.proofs.reachability.Explore.{written-made, written-table}
 use Rattle.policy_determinise.specs.Drawings.{Drawing, drawingOf, unionOf, setAfter, mapsRight, drawingRight, determiniseOf, determiniseTable}
 use Rattle.policy_determinise.proofs.Runs.{fit-of, arrows}
 

@@ -11,14 +11,14 @@ use lib.Pow.{pow-pos, shr-shr}
 use lib.Bits.{bitOr, or-lt}
 use lib.ListN.{length, getD}
 use borrow.Author.Tests.{ltb-true, ltb-false, eqb-true, eqb-false, leb-true, le-ltb, ne-eqb, not-true}
-use Rattle.names.specs.Names.{events}
-use Rattle.rules.specs.Policies.{statesRight, allowed}
-use Rattle.rules.proofs.Bools.{no, both, join, either, or-left, or-right}
-use Rattle.policy_maps.specs.Maps.{bit}
-use Rattle.policy_maps.proofs.Maps.{bit-or, bit-zero, bit-high}
-use Rattle.policy_exploration_rules.specs.Reach.{nodeAfter}
-use Rattle.policy_exploration_rules.specs.Claims.{Arrows}
-use Rattle.policy_exploration_rules.proofs.Reach.{nodes-exact, taken-reaches, reach-right, allowed-reaches}
+use Rattle.types.specs.Names.{events}
+use Rattle.spec.specs.Policies.{statesRight, allowed}
+use Rattle.spec.proofs.Bools.{no, both, join, either, or-left, or-right}
+use Rattle.policy_spec.specs.maps.Maps.{bit}
+use Rattle.policy_spec.proofs.maps.Maps.{bit-or, bit-zero, bit-high}
+use Rattle.policy_spec.specs.reachability.Reach.{nodeAfter}
+use Rattle.policy_spec.specs.reachability.Claims.{Arrows}
+use Rattle.policy_spec.proofs.reachability.Reach.{nodes-exact, taken-reaches, reach-right, allowed-reaches}
 use Rattle.policy_determinise.specs.Drawings.{Drawing, Fit, successors, unionOf, setAfter, mapsRight, drawingRight, madePolicy, determiniseOf, determiniseTable}
 use Rattle.policy_determinise.specs.Claims.{Makes, TakenMakes, MadeRight, Way, ends, goes, Followed, AllowedRuns, SetsAreEnds, SetsExact}
 

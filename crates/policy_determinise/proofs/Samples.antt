@@ -1,7 +1,7 @@
 -- The worked samples, by computation.
 use mathlib.Core.Path.{refl}
-use Rattle.policy_maps.specs.Maps.{bit, build}
-use Rattle.policy_exploration_rules.specs.Reach.{meet, met, tableOf, reachAnswer, reachOf}
+use Rattle.policy_spec.specs.maps.Maps.{bit, build}
+use Rattle.policy_spec.specs.reachability.Reach.{meet, met, tableOf, reachAnswer, reachOf}
 use Rattle.policy_determinise.specs.Drawings.{unionOf, drawingRight, determiniseOf}
 use Rattle.policy_determinise.specs.Claims.{Worked}
 

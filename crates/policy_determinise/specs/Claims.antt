@@ -4,12 +4,12 @@ use mathlib.Core.Path.{_≡_}
 use mathlib.Core.Bool.{true}
 use mathlib.Core.List.{List, [], _∷_, _++_}
 use lib.ListN.{length, take, replicate}
-use Rattle.names.specs.declared.Layout.{Layout}
-use Rattle.names.specs.Names.{noArrow, answer}
-use Rattle.rules.specs.Policies.{allowed, rightPolicy}
-use Rattle.policy_maps.specs.Maps.{bit}
-use Rattle.policy_exploration_rules.specs.Reach.{statesOf, few, madeWith, nodeAfter}
-use Rattle.policy_exploration_rules.specs.Claims.{Exactly}
+use Rattle.types.specs.declared.Layout.{Layout}
+use Rattle.types.specs.Names.{noArrow, answer}
+use Rattle.spec.specs.Policies.{allowed, rightPolicy}
+use Rattle.policy_spec.specs.maps.Maps.{bit}
+use Rattle.policy_spec.specs.reachability.Reach.{statesOf, few, madeWith, nodeAfter}
+use Rattle.policy_spec.specs.reachability.Claims.{Exactly}
 use Rattle.policy_determinise.specs.Drawings.{Drawing, drawingOf, successors, setAfter, drawingRight, madePolicy, determiniseOf, determiniseTable}
 
 -- what is handed back and left with answer 0 is the policy of which the other claims speak

@@ -6,12 +6,12 @@ use mathlib.Core.List.{List, [], _∷_}
 use lib.ListN.{length, getD}
 use lib.Dec.{eqb, ltb}
 use lib.Bits.{bitOr}
-use Rattle.names.specs.declared.Refusal.the-variants.{BadDrawing}
-use Rattle.names.specs.Names.{events, mostStates, refusal, first}
-use Rattle.rules.specs.Policies.{Policy, statesRight}
-use Rattle.policy_maps.specs.Maps.{bit}
-use Rattle.policy_exploration_rules.specs.Reach.{policyFrom, madeWith, reachOf, reachTable}
-use Rattle.policy_exploration_rules.specs.declared.Made.{Made}
+use Rattle.types.specs.declared.Refusal.the-variants.{BadDrawing}
+use Rattle.types.specs.Names.{events, mostStates, refusal, first}
+use Rattle.spec.specs.Policies.{Policy, statesRight}
+use Rattle.policy_spec.specs.maps.Maps.{bit}
+use Rattle.policy_spec.specs.reachability.Reach.{policyFrom, madeWith, reachOf, reachTable}
+use Rattle.policy_spec.specs.declared.reachability.Made.{Made}
 
 -- the state count, the map of the starts, and 'entry 16 × s + n such a map of the successors of state s under event n'
 pub record Drawing : Type 0 where

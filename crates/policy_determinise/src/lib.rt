@@ -1,17 +1,17 @@
 // Policies drawn with several arrows: a deterministic policy of the sets of states that events lead to.
-use names::Refusal;
-use policy_exploration_rules::EVENTS;
-use policy_exploration_rules::Found;
-use policy_exploration_rules::MOST;
-use policy_exploration_rules::Made;
+use policy_spec::reachability::EVENTS;
+use policy_spec::reachability::Found;
+use policy_spec::reachability::MOST;
+use policy_spec::reachability::Made;
+use types::Refusal;
 ghost use mathlib.Core.Path.{_≡_};
 ghost use mathlib.Core.Bool.{cond};
 ghost use Prim.Native.Nat.{_*_, _^_, _≤_, _<_};
 ghost use lib.ListN.{length};
 ghost use lib.Dec.{ltb};
-ghost use Rattle.names.specs.Names.{events, mostStates};
-ghost use Rattle.policy_maps.specs.Maps.{bit};
-ghost use Rattle.policy_exploration_rules.specs.Founds.{Explored};
+ghost use Rattle.types.specs.Names.{events, mostStates};
+ghost use Rattle.policy_spec.specs.maps.Maps.{bit};
+ghost use Rattle.policy_spec.specs.reachability.Founds.{Explored};
 ghost use Rattle.policy_determinise.specs.Drawings.{Fit, drawingOf, unionOf, setAfter, mapsRight, drawingRight, determiniseOf, determiniseTable};
 
 // The successors of a state, if it is in the set.
@@ -19,7 +19,7 @@ fn part(x: u16, k: usize, m: u16) -> u16
     requires { ⌜ k < mostStates ⌝ }
     ensures { λ r. ⌜ r ≡ cond (bit x k) m 0 ⌝ }
 {
-    if policy_maps::bit_set(x as usize, k) {
+    if policy_bits::bit_set(x as usize, k) {
         m
     } else {
         0
@@ -83,16 +83,16 @@ fn explore(states: usize, starts: u16, arrows: &[u16]) -> Found
     requires { ⌜ Fit (drawingOf states starts (now arrows)) ⌝ }
     ensures { λ r. ⌜ Explored (setAfter (drawingOf states starts (now (arrows .entry)))) starts r ⌝ }
 {
-    let mut found = policy_exploration::begin(starts);
+    let mut found = policy_reachability::begin(starts);
     let mut k: usize = 0;
-    while policy_exploration::more(found, k) {
-        found = policy_exploration::step(
+    while policy_reachability::more(found, k) {
+        found = policy_reachability::step(
             found,
             k,
             next(
                 states,
                 arrows,
-                policy_exploration::node(found, k),
+                policy_reachability::node(found, k),
                 k % EVENTS,
             ),
         );
@@ -109,7 +109,7 @@ pub fn determinise(states: u32, starts: u16, arrows: &[u16], table: &mut [u8]) -
 {
     let count = states as usize;
     if !right(count, starts, arrows) {
-        return policy_writing::refused(Refusal::BAD_DRAWING);
+        return policy_reachability::writing::refused(Refusal::BAD_DRAWING);
     }
-    policy_writing::write(explore(count, starts, arrows), table)
+    policy_reachability::writing::write(explore(count, starts, arrows), table)
 }

@@ -6,16 +6,16 @@ use mathlib.Core.List.{List, [], _∷_, _++_}
 use native.Mathlib.Omega.{arith}
 use lib.ListN.{length, getD, drop, replicate, List·getD-eq-default}
 use borrow.Author.Tests.{eq-eqb, ne-eqb, lt-ltb}
-use Rattle.names.specs.declared.Refusal.the-variants.{BadPolicy}
-use Rattle.names.specs.Names.{mostStates, events, orders, noArrow, refusal}
-use Rattle.rules.specs.Policies.{Policy, policyOf}
-use Rattle.rules.proofs.Bools as bools
-use Rattle.policy_maps.specs.Maps.{build}
-use Rattle.policy_exploration_rules.specs.declared.Found.{Found}
-use Rattle.policy_exploration_rules.specs.declared.Made.{Made}
-use Rattle.policy_exploration_rules.specs.Reach.{madeWith}
-use Rattle.policy_exploration_rules.specs.Founds.{Explored, writtenOf, writtenTable}
-use Rattle.policy_exploration_rules.proofs.Explore.{written-made, written-table}
+use Rattle.types.specs.declared.Refusal.the-variants.{BadPolicy}
+use Rattle.types.specs.Names.{mostStates, events, orders, noArrow, refusal}
+use Rattle.spec.specs.Policies.{Policy, policyOf}
+use Rattle.spec.proofs.Bools as bools
+use Rattle.policy_spec.specs.maps.Maps.{build}
+use Rattle.policy_spec.specs.declared.reachability.Found.{Found}
+use Rattle.policy_spec.specs.declared.reachability.Made.{Made}
+use Rattle.policy_spec.specs.reachability.Reach.{madeWith}
+use Rattle.policy_spec.specs.reachability.Founds.{Explored, writtenOf, writtenTable}
+use Rattle.policy_spec.proofs.reachability.Explore.{written-made, written-table}
 use Rattle.policy_merge.specs.declared.Merged.{Merged}
 use Rattle.policy_merge.specs.Pairs.{pair, left, right, both, pairAfter, startPair, sideRight, smaller, mergeMade, withCeilings, mergeOf, mergeTable}
 use Rattle.policy_merge.proofs.Pairs.{side-of, start-pairs}

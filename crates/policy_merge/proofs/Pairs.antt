@@ -8,13 +8,13 @@ use native.Mathlib.Omega.{arith}
 use lib.Dec.{eqb, leb, ltb}
 use lib.ListN.{length, getD}
 use borrow.Author.Tests.{ltb-true, eqb-true, eqb-false, leb-true, ne-eqb, eq-eqb, le-ltb}
-use Rattle.names.specs.Names.{mostStates, events, orders, noArrow}
-use Rattle.rules.specs.Policies.{Policy, arrow, allowedFrom, allowed, stateFrom, statesRight, entryRight, entriesRight, rightPolicy}
-use Rattle.rules.proofs.Bools as bools
-use Rattle.policy_maps.proofs.Maps.{build-at}
-use Rattle.policy_exploration_rules.specs.Reach.{nodeAfter, reachOf}
-use Rattle.policy_exploration_rules.specs.Claims.{Arrows}
-use Rattle.policy_exploration_rules.proofs.Reach.{nodes-exact, taken-reaches, reach-right, allowed-reaches, after-none}
+use Rattle.types.specs.Names.{mostStates, events, orders, noArrow}
+use Rattle.spec.specs.Policies.{Policy, arrow, allowedFrom, allowed, stateFrom, statesRight, entryRight, entriesRight, rightPolicy}
+use Rattle.spec.proofs.Bools as bools
+use Rattle.policy_spec.proofs.maps.Maps.{build-at}
+use Rattle.policy_spec.specs.reachability.Reach.{nodeAfter, reachOf}
+use Rattle.policy_spec.specs.reachability.Claims.{Arrows}
+use Rattle.policy_spec.proofs.reachability.Reach.{nodes-exact, taken-reaches, reach-right, allowed-reaches, after-none}
 use Rattle.policy_merge.specs.Pairs.{pair, left, right, both, pairAfter, startPair, sideRight, withCeilings, mergeMade, mergeOf, mergeTable}
 use Rattle.policy_merge.specs.Claims.{Merges, TakenMerges, MergedRight, CeilingsOfBoth, SideInstalls, AllowedByBoth, PairsAreStates, PairsExact}
 

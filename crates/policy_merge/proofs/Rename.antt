@@ -6,10 +6,10 @@ use mathlib.Core.List.{List, [], _∷_, _++_, map}
 use lib.Dec.{eqb}
 use lib.ListN.{length, getD, length-map}
 use borrow.Author.Tests.{eqb-true, eqb-false, eq-eqb, ne-eqb}
-use Rattle.names.specs.Names.{mostStates, events, noArrow}
-use Rattle.policy_maps.specs.Maps.{build}
-use Rattle.policy_exploration_rules.specs.Reach.{place, known, meet, target, met, nodes, nodeState, byteOf, statesOf, tableOf}
-use Rattle.policy_exploration_rules.proofs.Places.{Meets, none, again, anew, meets}
+use Rattle.types.specs.Names.{mostStates, events, noArrow}
+use Rattle.policy_spec.specs.maps.Maps.{build}
+use Rattle.policy_spec.specs.reachability.Reach.{place, known, meet, target, met, nodes, nodeState, byteOf, statesOf, tableOf}
+use Rattle.policy_spec.proofs.reachability.Places.{Meets, none, again, anew, meets}
 
 -- name renames the nodes of f from q, which are all in P, to those of g
 pub record Renames (f g : ℕ → ℕ → ℕ) (q : ℕ) (name : ℕ → ℕ) (P : ℕ → Type 0) : Type 0 where

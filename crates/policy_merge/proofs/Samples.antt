@@ -1,7 +1,7 @@
 -- The worked samples, by computation.
 use mathlib.Core.Path.{refl}
-use Rattle.policy_maps.specs.Maps.{build}
-use Rattle.policy_exploration_rules.specs.Reach.{meet, met, tableOf, reachAnswer, reachOf}
+use Rattle.policy_spec.specs.maps.Maps.{build}
+use Rattle.policy_spec.specs.reachability.Reach.{meet, met, tableOf, reachAnswer, reachOf}
 use Rattle.policy_merge.specs.Pairs.{both, pairAfter, sideRight, mergeMade, withCeilings, mergeOf}
 use Rattle.policy_merge.specs.Claims.{Worked}
 

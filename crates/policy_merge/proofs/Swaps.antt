@@ -8,10 +8,10 @@ use native.Mathlib.Omega.{arith}
 use lib.Dec.{eqb}
 use lib.ListN.{getD}
 use borrow.Author.Tests.{eqb-true, eqb-false, ne-eqb}
-use Rattle.names.specs.Names.{mostStates, orders, noArrow}
-use Rattle.rules.specs.Policies.{Policy, arrow}
-use Rattle.policy_maps.specs.Maps.{build}
-use Rattle.policy_exploration_rules.specs.Reach.{statesOf, tableOf, reachAnswer, reachOf, reachTable}
+use Rattle.types.specs.Names.{mostStates, orders, noArrow}
+use Rattle.spec.specs.Policies.{Policy, arrow}
+use Rattle.policy_spec.specs.maps.Maps.{build}
+use Rattle.policy_spec.specs.reachability.Reach.{statesOf, tableOf, reachAnswer, reachOf, reachTable}
 use Rattle.policy_merge.proofs.Rename.{Renames, states-name, table-name}
 use Rattle.policy_merge.specs.Pairs.{pair, left, right, both, pairAfter, startPair, sideRight, smaller, mergeMade, mergeOf, mergeTable}
 use Rattle.policy_merge.specs.Claims.{Swapped, SwapSame}

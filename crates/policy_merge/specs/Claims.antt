@@ -4,12 +4,12 @@ use mathlib.Core.Path.{_≡_}
 use mathlib.Core.Bool.{true, _&&_, cond}
 use mathlib.Core.List.{List, [], _∷_, _++_}
 use lib.ListN.{length, getD, take, replicate}
-use Rattle.names.specs.declared.Answer.{Answer}
-use Rattle.names.specs.declared.Layout.{Layout}
-use Rattle.names.specs.Names.{orders, topWord, noArrow, answer}
-use Rattle.rules.specs.Policies.{Policy, policyOf, stateOver, allowed, statesRight, rightPolicy}
-use Rattle.policy_exploration_rules.specs.Reach.{statesOf, few, nodeAfter}
-use Rattle.policy_exploration_rules.specs.Claims.{Exactly}
+use Rattle.types.specs.declared.Answer.{Answer}
+use Rattle.types.specs.declared.Layout.{Layout}
+use Rattle.types.specs.Names.{orders, topWord, noArrow, answer}
+use Rattle.spec.specs.Policies.{Policy, policyOf, stateOver, allowed, statesRight, rightPolicy}
+use Rattle.policy_spec.specs.reachability.Reach.{statesOf, few, nodeAfter}
+use Rattle.policy_spec.specs.reachability.Claims.{Exactly}
 use Rattle.policy_merge.specs.declared.Merged.{Merged}
 use Rattle.policy_merge.specs.Pairs.{pair, pairAfter, startPair, sideRight, mergedPolicy, smaller, mergeOf, mergeTable}
 

@@ -4,13 +4,13 @@ use mathlib.Core.Bool.{Bool, _&&_, _||_, not, cond}
 use mathlib.Core.List.{List, [], _∷_}
 use lib.ListN.{length, getD, replicate}
 use lib.Dec.{eqb, ltb}
-use Rattle.names.specs.declared.PolicyNumbers.{PolicyNumbers}
-use Rattle.names.specs.declared.Refusal.the-variants.{BadPolicy}
-use Rattle.names.specs.Names.{mostStates, events, orders, noArrow, refusal, ifTaken, first}
-use Rattle.rules.specs.Policies.{Policy, policyOf, lentPolicy, arrow, entriesRight, statesRight}
-use Rattle.policy_maps.specs.Maps.{build}
-use Rattle.policy_exploration_rules.specs.Reach.{policyFrom, madeWith, reachOf, reachTable}
-use Rattle.policy_exploration_rules.specs.declared.Made.{Made}
+use Rattle.types.specs.declared.PolicyNumbers.{PolicyNumbers}
+use Rattle.types.specs.declared.Refusal.the-variants.{BadPolicy}
+use Rattle.types.specs.Names.{mostStates, events, orders, noArrow, refusal, ifTaken, first}
+use Rattle.spec.specs.Policies.{Policy, policyOf, lentPolicy, arrow, entriesRight, statesRight}
+use Rattle.policy_spec.specs.maps.Maps.{build}
+use Rattle.policy_spec.specs.reachability.Reach.{policyFrom, madeWith, reachOf, reachTable}
+use Rattle.policy_spec.specs.declared.reachability.Made.{Made}
 use Rattle.policy_merge.specs.declared.Merged.{Merged}
 
 -- a lent table with its policy's numbers, and one with none, of which only the arrows are asked; merging knows no landings

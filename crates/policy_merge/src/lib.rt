@@ -1,17 +1,17 @@
 // Two policies at once: the policy of the pairs of states that events lead to. A pair is held as 16 × s + t + 1, no pair as 0.
-use names::Answer;
-use names::PolicyNumbers;
-use names::Refusal;
-use policy_exploration_rules::EVENTS;
-use policy_exploration_rules::Found;
-use policy_exploration_rules::MOST;
-use policy_exploration_rules::Made;
-use words_cells::index_of;
+use buffers::cells::index_of;
+use policy_spec::reachability::EVENTS;
+use policy_spec::reachability::Found;
+use policy_spec::reachability::MOST;
+use policy_spec::reachability::Made;
+use types::Answer;
+use types::PolicyNumbers;
+use types::Refusal;
 ghost use mathlib.Core.Path.{_≡_};
 ghost use Prim.Native.Nat.{_+_, _*_, _^_, _<_, min};
 ghost use lib.ListN.{length, getD};
-ghost use Rattle.names.specs.Names.{events, noArrow};
-ghost use Rattle.policy_exploration_rules.specs.Founds.{Explored};
+ghost use Rattle.types.specs.Names.{events, noArrow};
+ghost use Rattle.policy_spec.specs.reachability.Founds.{Explored};
 ghost use Rattle.policy_merge.specs.Pairs.{sideOf, arrowsOf, pair as pairOf, both as bothOf, pairAfter, sideRight, smaller as smallerOf, mergeMade, withCeilings, mergeOf, mergeTable};
 
 // The mark of no arrow.
@@ -38,8 +38,8 @@ fn side_right(policy: PolicyNumbers, table: &[u8]) -> bool
     ensures { λ r. ⌜ r ≡ sideRight (sideOf policy (now (table .entry))) ⌝ }
 {
     let states = policy.states;
-    let known = installer_words::states_right(states);
-    let entries = installer_tables::entries_right(states, table);
+    let known = installer::table_words::states_right(states);
+    let entries = installer::table::entries_right(states, table);
     known & (table.len() == EVENTS * states as usize) & (policy.start < states) & entries
 }
 
@@ -95,13 +95,13 @@ fn explore(left: &[u8], right: &[u8], start: u16) -> Found
     requires { ⌜ 0 < start ⌝ }
     ensures { λ r. ⌜ Explored (pairAfter (arrowsOf (now (left .entry))) (arrowsOf (now (right .entry)))) start r ⌝ }
 {
-    let mut found = policy_exploration::begin(start);
+    let mut found = policy_reachability::begin(start);
     let mut k: usize = 0;
-    while policy_exploration::more(found, k) {
-        found = policy_exploration::step(
+    while policy_reachability::more(found, k) {
+        found = policy_reachability::step(
             found,
             k,
-            next(left, right, policy_exploration::node(found, k), k % EVENTS),
+            next(left, right, policy_reachability::node(found, k), k % EVENTS),
         );
         k += 1;
     }
@@ -154,10 +154,10 @@ fn made_of(a: PolicyNumbers, left: &[u8], b: PolicyNumbers, right: &[u8], table:
 {
     let ok = side_right(a, left) & side_right(b, right);
     if !ok {
-        return policy_writing::refused(Refusal::BAD_POLICY);
+        return policy_reachability::writing::refused(Refusal::BAD_POLICY);
     }
     let start = pair(a.start as usize, b.start as usize);
-    policy_writing::write(explore(left, right, start), table)
+    policy_reachability::writing::write(explore(left, right, start), table)
 }
 
 // Merges two policies, `left` the table of one and `right` that of the other: the table from the start of the one lent, the state count

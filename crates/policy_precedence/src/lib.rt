@@ -1,23 +1,26 @@
 // This before that: the policy of pairs of events made, or refused.
-use names::Answer;
-use names::PolicyNumbers;
-use names::Refusal;
-use policy_precedence_arrows::arrow;
-use policy_precedence_nevers::full;
-use policy_precedence_nevers::stuck_all;
-use policy_precedence_rules::EVENTS;
-use policy_precedence_rules::MOST_NAMED;
-use policy_precedence_rules::Made;
-use words_cells::index_of;
+pub mod arrows;
+pub mod nevers;
+
+use crate::arrows::arrow;
+use crate::nevers::full;
+use crate::nevers::stuck_all;
+use buffers::cells::index_of;
+use policy_spec::precedence::EVENTS;
+use policy_spec::precedence::MOST_NAMED;
+use policy_spec::precedence::Made;
+use types::Answer;
+use types::PolicyNumbers;
+use types::Refusal;
 ghost use mathlib.Core.Path.{_≡_};
 ghost use mathlib.Core.List.{_++_};
 ghost use Prim.Native.Nat.{_^_, _≤_};
 ghost use lib.ListN.{length, drop};
 ghost use lib.Dec.{eqb};
 ghost use lib.Count.{ones};
-ghost use Rattle.names.specs.Names.{events, answer};
-ghost use Rattle.policy_maps.specs.Maps.{mapWhere, build};
-ghost use Rattle.policy_precedence_rules.specs.Precedence.{Fit, isNamed, known, mostNamed, pairsRight, statesOf, byteOf, tableBytes, neverOf, madeWith, makeOf, makeTable};
+ghost use Rattle.types.specs.Names.{events, answer};
+ghost use Rattle.policy_spec.specs.maps.Maps.{mapWhere, build};
+ghost use Rattle.policy_spec.specs.precedence.Precedence.{Fit, isNamed, known, mostNamed, pairsRight, statesOf, byteOf, tableBytes, neverOf, madeWith, makeOf, makeTable};
 
 // Whether no event of the pairs is above 15.
 fn events_known(pairs: &[u8]) -> bool

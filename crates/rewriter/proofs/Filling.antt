@@ -7,13 +7,13 @@ use native.Mathlib.Nat.{sub-zero}
 use native.Mathlib.Numerals.{add-one, towards-suc}
 use lib.ListN.{length, getD, set, List·getD-eq-default}
 use lib.Seq.{sets, length-sets}
-use Rattle.names.specs.declared.Layout.{Layout}
-use Rattle.names.specs.declared.Instr.{Instr}
-use Rattle.names.specs.declared.Instr.the-variants.{HALT}
-use Rattle.names.specs.declared.Bundle.{Bundle}
-use Rattle.names.specs.Names.{bundleLength}
-use Rattle.rules.specs.Words.{instrOf, routine}
-use Rattle.rules.specs.Bundles.{bundleOf, bundlesFrom}
+use Rattle.types.specs.declared.Layout.{Layout}
+use Rattle.types.specs.declared.Instr.{Instr}
+use Rattle.types.specs.declared.Instr.the-variants.{HALT}
+use Rattle.types.specs.declared.Bundle.{Bundle}
+use Rattle.types.specs.Names.{bundleLength}
+use Rattle.spec.specs.Words.{instrOf, routine}
+use Rattle.spec.specs.Bundles.{bundleOf, bundlesFrom}
 use Rattle.words.specs.Packing.{Packable}
 use Rattle.rewriter.specs.Rewriting.{Ready}
 

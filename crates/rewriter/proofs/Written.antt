@@ -8,20 +8,20 @@ use lib.Dec.{ltb}
 use lib.ListN.{length}
 use lib.Seq.{sets}
 use borrow.Author.Tests.{lt-ltb, le-leb, ltb-false, eqb-true}
-use Rattle.names.specs.declared.Layout.{Layout}
-use Rattle.names.specs.declared.Instr.{Instr}
-use Rattle.names.specs.declared.Instr.the-variants.{HALT, PLAIN, LOAD, STORE, GOIF, GOX, EVENT}
-use Rattle.names.specs.declared.Answer.{Answer}
-use Rattle.names.specs.Names.{mostInstructions}
-use Rattle.rules.specs.Layouts.{rightLayout}
-use Rattle.rules.specs.Words.{judgeAt, routine, bundlesFor}
-use Rattle.rules.specs.Bundles.{bundlesFrom, baseRight, commandCount, commandsOf, placeAnswer, rewriteAnswer, rewriteOutput, valid}
-use Rattle.rules.proofs.Facts.{Valid}
-use Rattle.rules.proofs.Bools.{cond-ind, unless-ind}
-use Rattle.rules.proofs.Refusals.{taken-then, output-kept, output-written}
-use Rattle.rules.proofs.Layouts.{layout-facts}
-use Rattle.rules.proofs.Masks.{base-room}
-use Rattle.rules.proofs.Conditions.{Taken, taken-of, size-laws, count-most, routine-valid, routine-length}
+use Rattle.types.specs.declared.Layout.{Layout}
+use Rattle.types.specs.declared.Instr.{Instr}
+use Rattle.types.specs.declared.Instr.the-variants.{HALT, PLAIN, LOAD, STORE, GOIF, GOX, EVENT}
+use Rattle.types.specs.declared.Answer.{Answer}
+use Rattle.types.specs.Names.{mostInstructions}
+use Rattle.spec.specs.Layouts.{rightLayout}
+use Rattle.spec.specs.Words.{judgeAt, routine, bundlesFor}
+use Rattle.spec.specs.Bundles.{bundlesFrom, baseRight, commandCount, commandsOf, placeAnswer, rewriteAnswer, rewriteOutput, valid}
+use Rattle.spec.proofs.Facts.{Valid}
+use Rattle.spec.proofs.Bools.{cond-ind, unless-ind}
+use Rattle.spec.proofs.Refusals.{taken-then, output-kept, output-written}
+use Rattle.spec.proofs.Layouts.{layout-facts}
+use Rattle.spec.proofs.Masks.{base-room}
+use Rattle.spec.proofs.Conditions.{Taken, taken-of, size-laws, count-most, routine-valid, routine-length}
 use Rattle.rewriter.specs.Rewriting.{Ready}
 
 -- facts of an instruction as the test of it

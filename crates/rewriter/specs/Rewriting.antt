@@ -3,10 +3,10 @@ use Prim.Native.Nat.{ℕ, _*_, _^_, _<_, _≤_}
 use mathlib.Core.Path.{_≡_}
 use mathlib.Core.Bool.{true}
 use mathlib.Core.List.{List}
-use Rattle.names.specs.declared.Layout.{Layout}
-use Rattle.names.specs.Names.{mostBundles, bundleLength}
-use Rattle.rules.specs.Words.{routine}
-use Rattle.rules.specs.Bundles.{addressOf, valid}
+use Rattle.types.specs.declared.Layout.{Layout}
+use Rattle.types.specs.Names.{mostBundles, bundleLength}
+use Rattle.spec.specs.Words.{routine}
+use Rattle.spec.specs.Bundles.{addressOf, valid}
 
 -- n bundles that end at 2 ^ 32 or before it, room for them, and each instruction valid among them
 pub record Ready (l : Layout) (n : ℕ) (ws : List ℕ) (room : ℕ) : Type 0 where

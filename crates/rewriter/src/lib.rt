@@ -1,21 +1,24 @@
 // Rewriting a routine's words into bundles of commands: one pass judges, one writes.
-use names::Answer;
-use names::Bundle;
-use names::Instr;
-use names::Layout;
-use names::Refusal;
-use rewriter_answers::judge;
-use rewriter_bundles::bundle;
+pub mod answers;
+pub mod bundles;
+
+use crate::answers::judge;
+use crate::bundles::bundle;
+use types::Answer;
+use types::Bundle;
+use types::Instr;
+use types::Layout;
+use types::Refusal;
 use words::count::bundles;
-use words::guest::instruction;
+use words::fields::instruction;
 ghost use mathlib.Core.Path.{_≡_};
 ghost use mathlib.Core.List.{[], _∷_};
 ghost use Prim.Native.Nat.{_+_, _*_, _≤_, _<_};
 ghost use lib.ListN.{length};
 ghost use lib.Seq.{sets};
-ghost use Rattle.names.specs.Names.{bundleLength};
-ghost use Rattle.rules.specs.Words.{routine};
-ghost use Rattle.rules.specs.Bundles.{bundleOf, bundlesFrom, rewriteAnswer, rewriteOutput};
+ghost use Rattle.types.specs.Names.{bundleLength};
+ghost use Rattle.spec.specs.Words.{routine};
+ghost use Rattle.spec.specs.Bundles.{bundleOf, bundlesFrom, rewriteAnswer, rewriteOutput};
 ghost use Rattle.rewriter.specs.Rewriting.{Ready};
 
 // Instruction h of a routine; those past its words are HALT.

@@ -7,21 +7,21 @@ use native.Mathlib.Omega.{arith}
 use lib.Count.{ones, leadingZeros}
 use lib.ListN.{set, replicate}
 use lib.Seq.{getD-set-other}
-use Rattle.names.specs.declared.Status.the-variants.{Running, Stopped}
-use Rattle.names.specs.Names.{topGuest}
-use Rattle.rules.specs.Layouts.{rightLayout, inBox, inTable, inLandings, protected}
-use Rattle.rules.specs.Policies.{rightPolicy}
-use Rattle.rules.specs.Landings.{rightLandings, bitsFrom, landingsOf}
-use Rattle.rules.specs.Words.{instrOf, routine, bundlesFor}
-use Rattle.rules.specs.Commands.{isCommand, commandOf, wordOf, fetchOf, plainOf}
-use Rattle.rules.specs.Bundles.{shapeOf, valid, readOff, bundleAt, isBundle, shapedAt, passesAt, checkFrom, checkAnswer}
-use Rattle.rules.specs.Machines.{installAnswer, installMemory, installMachine, effectOf, applyOf, runOf, loopFrom}
-use Rattle.rules.specs.Guests.{pairOf, Guest, guestOf, sentOf, doOf, guestStep, guestAfter, guestStart}
-use Rattle.rules.specs.Runs.{Each, eachRun, afterAll, begins, runOn, afterTaken, afterRun, Matches, Served, allRuns}
-use Rattle.rules.specs.Claims.{Alike, Same}
+use Rattle.types.specs.declared.Status.the-variants.{Running, Stopped}
+use Rattle.types.specs.Names.{topGuest}
+use Rattle.spec.specs.Layouts.{rightLayout, inBox, inTable, inLandings, protected}
+use Rattle.spec.specs.Policies.{rightPolicy}
+use Rattle.spec.specs.Landings.{rightLandings, bitsFrom, landingsOf}
+use Rattle.spec.specs.Words.{instrOf, routine, bundlesFor}
+use Rattle.spec.specs.Commands.{isCommand, commandOf, wordOf, fetchOf, plainOf}
+use Rattle.spec.specs.Bundles.{shapeOf, valid, readOff, bundleAt, isBundle, shapedAt, passesAt, checkFrom, checkAnswer}
+use Rattle.spec.specs.Machines.{installAnswer, installMemory, installMachine, effectOf, applyOf, runOf, loopFrom}
+use Rattle.spec.specs.Guests.{pairOf, Guest, guestOf, sentOf, doOf, guestStep, guestAfter, guestStart}
+use Rattle.spec.specs.Runs.{Each, eachRun, afterAll, begins, runOn, afterTaken, afterRun, Matches, Served, allRuns}
+use Rattle.spec.specs.Claims.{Alike, Same}
 use Rattle.samples.specs.Sample.{layout, policy, code, commands, memory, left, runs, SampleHolds}
-use Rattle.rules.proofs.Bools.{no}
-use Rattle.rules.proofs.Isolation.{isolation}
+use Rattle.spec.proofs.Bools.{no}
+use Rattle.spec.proofs.Isolation.{isolation}
 
 -- a store to a free cell
 pub free-set : (mem : List ℕ) (i x : ℕ) → (inBox layout i || protected layout i) ≡ false → Matches layout (set mem i x) mem

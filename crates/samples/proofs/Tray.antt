@@ -1,14 +1,14 @@
 -- The sample tray's rows hold, by computation.
 use mathlib.Core.Path.{refl}
 use lib.Count.{ones, leadingZeros}
-use Rattle.rules.specs.Layouts.{rightLayout}
-use Rattle.rules.specs.Policies.{rightPolicy}
-use Rattle.rules.specs.Landings.{rightLandings, bitsFrom, landingsOf, marked}
-use Rattle.rules.specs.Words.{judgeOf, judgeAt, firstRefused, instrOf, routine, bundlesFor}
-use Rattle.rules.specs.Bytes.{byteAt, quadAt, fieldsAt, oneFields, oneMap, oneOf, scanOf, readAnswer, byteOut, quadOut, regsOut, fieldsOut, bytesOf, routineOf, writeAnswer, writeOutput}
-use Rattle.rules.specs.Commands.{isCommand, commandOf, wordOf, fetchOf, plainOf}
-use Rattle.rules.specs.Bundles.{shapeOf, placeAnswer, rewriteAnswer, valid, readOff, bundleAt, isBundle, shapedAt, passesAt, checkFrom, checkAnswer}
-use Rattle.rules.specs.Machines.{installAnswer, installMemory, landsAt, effectOf, applyOf, runOf, loopFrom}
+use Rattle.spec.specs.Layouts.{rightLayout}
+use Rattle.spec.specs.Policies.{rightPolicy}
+use Rattle.spec.specs.Landings.{rightLandings, bitsFrom, landingsOf, marked}
+use Rattle.spec.specs.Words.{judgeOf, judgeAt, firstRefused, instrOf, routine, bundlesFor}
+use Rattle.spec.specs.Bytes.{byteAt, quadAt, fieldsAt, oneFields, oneMap, oneOf, scanOf, readAnswer, byteOut, quadOut, regsOut, fieldsOut, bytesOf, routineOf, writeAnswer, writeOutput}
+use Rattle.spec.specs.Commands.{isCommand, commandOf, wordOf, fetchOf, plainOf}
+use Rattle.spec.specs.Bundles.{shapeOf, placeAnswer, rewriteAnswer, valid, readOff, bundleAt, isBundle, shapedAt, passesAt, checkFrom, checkAnswer}
+use Rattle.spec.specs.Machines.{installAnswer, installMemory, landsAt, effectOf, applyOf, runOf, loopFrom}
 use Rattle.samples.specs.Tray.{TrayHolds}
 
 pub tray-holds : TrayHolds

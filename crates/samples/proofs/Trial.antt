@@ -1,16 +1,16 @@
 -- The trial's output, by computation.
 use mathlib.Core.Path.{refl}
 use lib.Count.{ones, leadingZeros}
-use Rattle.rules.specs.Layouts.{rightLayout}
-use Rattle.rules.specs.Policies.{rightPolicy}
-use Rattle.rules.specs.Landings.{rightLandings, landingsOf}
-use Rattle.rules.specs.Words.{judgeOf, judgeAt, firstRefused, instrOf, routine, bundlesFor}
-use Rattle.rules.specs.Bytes.{byteAt, quadAt, fieldsAt, oneFields, oneMap, oneOf, scanOf, wordsOf, readAnswer}
-use Rattle.rules.specs.Commands.{isCommand, commandOf, wordOf, fetchOf, plainOf}
-use Rattle.rules.specs.Bundles.{shapeOf, placeAnswer, rewriteAnswer, valid, readOff, bundleAt, isBundle, shapedAt, passesAt, checkFrom, checkAnswer}
-use Rattle.rules.specs.Machines.{installAnswer, installMemory, installMachine, effectOf, applyOf, runOf, loopFrom}
-use Rattle.rules.specs.Runs.{runOn, eachRun}
-use Rattle.sandbox_rules.specs.Loading.{translateAnswer, loadAnswer, loadCommands, loadMemory, loadMachine}
+use Rattle.spec.specs.Layouts.{rightLayout}
+use Rattle.spec.specs.Policies.{rightPolicy}
+use Rattle.spec.specs.Landings.{rightLandings, landingsOf}
+use Rattle.spec.specs.Words.{judgeOf, judgeAt, firstRefused, instrOf, routine, bundlesFor}
+use Rattle.spec.specs.Bytes.{byteAt, quadAt, fieldsAt, oneFields, oneMap, oneOf, scanOf, wordsOf, readAnswer}
+use Rattle.spec.specs.Commands.{isCommand, commandOf, wordOf, fetchOf, plainOf}
+use Rattle.spec.specs.Bundles.{shapeOf, placeAnswer, rewriteAnswer, valid, readOff, bundleAt, isBundle, shapedAt, passesAt, checkFrom, checkAnswer}
+use Rattle.spec.specs.Machines.{installAnswer, installMemory, installMachine, effectOf, applyOf, runOf, loopFrom}
+use Rattle.spec.specs.Runs.{runOn, eachRun}
+use Rattle.sandbox_spec.specs.Loading.{translateAnswer, loadAnswer, loadCommands, loadMemory, loadMachine}
 use Rattle.samples.specs.Trial.{TrialHolds}
 
 pub trial-holds : TrialHolds

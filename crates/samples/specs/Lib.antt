@@ -2,3 +2,4 @@ pub mod Tray
 pub mod Sample
 pub mod Trial
 pub mod Proved
+pub mod engine

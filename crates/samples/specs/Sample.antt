@@ -4,19 +4,19 @@ use Prim.Native.Nat.{ℕ}
 use mathlib.Core.Path.{_≡_}
 use mathlib.Core.List.{List, [], _∷_, _++_, map}
 use lib.ListN.{getD, set, replicate}
-use Rattle.names.specs.declared.Layout.{Layout}
-use Rattle.names.specs.declared.Ending.the-variants.{NoArrow, LogFull, Spent, Refused}
-use Rattle.names.specs.declared.RunAnswer.{RunAnswer}
-use Rattle.names.specs.declared.Outcome.{Outcome}
-use Rattle.names.specs.Names.{guest}
-use Rattle.names.specs.Records.{layoutOf, runAnswer}
-use Rattle.rules.specs.Policies.{Policy, policyOf}
-use Rattle.rules.specs.Words.{packOf, routine}
-use Rattle.rules.specs.Bundles.{commandsOf}
-use Rattle.rules.specs.Machines.{installMemory}
-use Rattle.rules.specs.Guests.{pairOf, guestAfter, guestStart}
-use Rattle.rules.specs.Runs.{Given, Each, atFirst, afterRun, Run, recordedIn, Matches, Served, allRuns, after, pendingAt}
-use Rattle.rules.specs.Claims.{Alike, Same, Waiting}
+use Rattle.types.specs.declared.Layout.{Layout}
+use Rattle.types.specs.declared.Ending.the-variants.{NoArrow, LogFull, Spent, Refused}
+use Rattle.types.specs.declared.RunAnswer.{RunAnswer}
+use Rattle.types.specs.declared.Outcome.{Outcome}
+use Rattle.types.specs.Names.{guest}
+use Rattle.types.specs.Records.{layoutOf, runAnswer}
+use Rattle.spec.specs.Policies.{Policy, policyOf}
+use Rattle.spec.specs.Words.{packOf, routine}
+use Rattle.spec.specs.Bundles.{commandsOf}
+use Rattle.spec.specs.Machines.{installMemory}
+use Rattle.spec.specs.Guests.{pairOf, guestAfter, guestStart}
+use Rattle.spec.specs.Runs.{Given, Each, atFirst, afterRun, Run, recordedIn, Matches, Served, allRuns, after, pendingAt}
+use Rattle.spec.specs.Claims.{Alike, Same, Waiting}
 use Rattle.samples.specs.Tray.{noLimits}
 
 abbrev pub layout : Layout

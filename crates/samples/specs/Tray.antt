@@ -5,19 +5,19 @@ use mathlib.Core.Bool.{Bool, true, false, _&&_, Bool·beq}
 use mathlib.Core.List.{List, [], _∷_}
 use lib.ListN.{length, set, replicate}
 use lib.Dec.{eqb}
-use Rattle.names.specs.declared.Layout.{Layout}
-use Rattle.names.specs.declared.Answer.{Answer}
-use Rattle.names.specs.declared.Outcome.{Outcome}
-use Rattle.names.specs.declared.Status.the-variants.{Running}
-use Rattle.names.specs.Names.{mostInstructions, bundleLength, registers, events, orders, topWord, guest, command, endingNumber}
-use Rattle.rules.specs.Layouts.{rightLayout, maskOf}
-use Rattle.names.specs.Records.{layoutOf, machineOf}
-use Rattle.rules.specs.Policies.{policyOf}
-use Rattle.rules.specs.Words.{packOf, bundlesFor}
-use Rattle.rules.specs.Bytes.{readAnswer, writeOutput}
-use Rattle.rules.specs.Commands.{plainOf, holdsOf}
-use Rattle.rules.specs.Bundles.{rewriteAnswer, checkAnswer, commandsOf}
-use Rattle.rules.specs.Machines.{installMemory, runOf}
+use Rattle.types.specs.declared.Layout.{Layout}
+use Rattle.types.specs.declared.Answer.{Answer}
+use Rattle.types.specs.declared.Outcome.{Outcome}
+use Rattle.types.specs.declared.Status.the-variants.{Running}
+use Rattle.types.specs.Names.{mostInstructions, bundleLength, registers, events, orders, topWord, guest, command, endingNumber}
+use Rattle.spec.specs.Layouts.{rightLayout, maskOf}
+use Rattle.types.specs.Records.{layoutOf, machineOf}
+use Rattle.spec.specs.Policies.{policyOf}
+use Rattle.spec.specs.Words.{packOf, bundlesFor}
+use Rattle.spec.specs.Bytes.{readAnswer, writeOutput}
+use Rattle.spec.specs.Commands.{plainOf, holdsOf}
+use Rattle.spec.specs.Bundles.{rewriteAnswer, checkAnswer, commandsOf}
+use Rattle.spec.specs.Machines.{installMemory, runOf}
 
 pub data Row : Type 0 where
   masks : (sl sh e r : ℕ) → Row  -- address e masks to r

@@ -3,13 +3,13 @@ use Prim.Native.Nat.{ℕ, zero, suc}
 use mathlib.Core.Path.{_≡_}
 use mathlib.Core.List.{List, [], _∷_}
 use lib.ListN.{getD, take, replicate}
-use Rattle.names.specs.Names.{mostBundles, mostCommands, answer, endingNumber}
-use Rattle.rules.specs.Policies.{Policy, policyOf}
-use Rattle.rules.specs.Machines.{Ran}
-use Rattle.rules.specs.Guests.{pairOf}
-use Rattle.rules.specs.Runs.{Given, pairsOf, Lends, runOn}
-use Rattle.sandbox_rules.specs.Loading.{loadAnswer, loadCommands, loadMemory}
-use Rattle.sandbox_rules.specs.Claims.{loadedAt}
+use Rattle.types.specs.Names.{mostBundles, mostCommands, answer, endingNumber}
+use Rattle.spec.specs.Policies.{Policy, policyOf}
+use Rattle.spec.specs.Machines.{Ran}
+use Rattle.spec.specs.Guests.{pairOf}
+use Rattle.spec.specs.Runs.{Given, pairsOf, Lends, runOn}
+use Rattle.sandbox_spec.specs.Loading.{loadAnswer, loadCommands, loadMemory}
+use Rattle.sandbox_spec.specs.Claims.{loadedAt}
 use Rattle.samples.specs.Sample.{layout, policy as samplePolicy}
 
 -- the numbers from x on, n of them

@@ -8,20 +8,20 @@ use native.Mathlib.Nat.{mod-eq-of-lt}
 use borrow.Author.Tests.{ne-eqb}
 use lib.Dec.{ltb}
 use lib.ListN.{length, getD, set, length-set}
-use Rattle.names.specs.declared.Layout.{Layout}
-use Rattle.names.specs.declared.Status.{Status}
-use Rattle.names.specs.declared.Status.the-variants.{Running, Ended, Stopped, Faulted, Strayed}
-use Rattle.names.specs.declared.Instr.{Instr}
-use Rattle.names.specs.declared.Instr.the-variants.{HALT, PLAIN, LOAD, STORE, GOIF, GOX, EVENT}
-use Rattle.names.specs.Names.{orders, noArrow}
-use Rattle.rules.specs.Layouts.{maskOf, limited, inBox}
-use Rattle.rules.specs.Policies.{Policy, arrow, stateOver}
-use Rattle.rules.specs.Landings.{listed}
-use Rattle.rules.specs.Commands.{plainOf, holdsOf}
-use Rattle.rules.specs.Machines.{unlessOver}
-use Rattle.rules.specs.Guests.{Pair, pairOf, snoc, Guest, rOf, boxIndex, guestOn, landOf, sentOf, doOf, guestStep, guestAfter}
-use Rattle.rules.specs.Runs.{eventsOf}
-use Rattle.rules.proofs.Sim.{box-alike, events-snoc, state-more}
+use Rattle.types.specs.declared.Layout.{Layout}
+use Rattle.types.specs.declared.Status.{Status}
+use Rattle.types.specs.declared.Status.the-variants.{Running, Ended, Stopped, Faulted, Strayed}
+use Rattle.types.specs.declared.Instr.{Instr}
+use Rattle.types.specs.declared.Instr.the-variants.{HALT, PLAIN, LOAD, STORE, GOIF, GOX, EVENT}
+use Rattle.types.specs.Names.{orders, noArrow}
+use Rattle.spec.specs.Layouts.{maskOf, limited, inBox}
+use Rattle.spec.specs.Policies.{Policy, arrow, stateOver}
+use Rattle.spec.specs.Landings.{listed}
+use Rattle.spec.specs.Commands.{plainOf, holdsOf}
+use Rattle.spec.specs.Machines.{unlessOver}
+use Rattle.spec.specs.Guests.{Pair, pairOf, snoc, Guest, rOf, boxIndex, guestOn, landOf, sentOf, doOf, guestStep, guestAfter}
+use Rattle.spec.specs.Runs.{eventsOf}
+use Rattle.spec.proofs.Sim.{box-alike, events-snoc, state-more}
 use Rattle.transparency.specs.Raw.{Raw, rReg, rawOn, rawSent, rawDo, rawStep, rawAfter, Behaves, BehavesFor}
 
 -- the raw run beside the guest

@@ -6,19 +6,19 @@ use native.Mathlib.Omega.{arith}
 use lib.Count.{ones, leadingZeros}
 use lib.Dec.{lit<, lit≤}
 use lib.ListN.{getD}
-use Rattle.names.specs.declared.Status.the-variants.{Running, Ended}
-use Rattle.rules.specs.Layouts.{rightLayout, inBox}
-use Rattle.rules.specs.Policies.{rightPolicy}
-use Rattle.rules.specs.Landings.{rightLandings, bitsFrom, landingsOf, marked}
-use Rattle.rules.specs.Words.{judgeOf, judgeAt, firstRefused, instrOf, routine, bundlesFor}
-use Rattle.rules.specs.Commands.{isCommand, commandOf, wordOf, fetchOf, plainOf}
-use Rattle.rules.specs.Bundles.{shapeOf, valid, readOff, bundleAt, isBundle, shapedAt, passesAt, checkFrom, checkAnswer, placeAnswer, rewriteAnswer}
-use Rattle.rules.specs.Machines.{landsAt, installAnswer, installMemory, installMachine, effectOf, applyOf, runOf, loopFrom}
-use Rattle.rules.specs.Runs.{Given, begins, runOn, afterTaken, afterRun, after, Served, eachRun, afterAll}
-use Rattle.rules.specs.Claims.{Waiting}
+use Rattle.types.specs.declared.Status.the-variants.{Running, Ended}
+use Rattle.spec.specs.Layouts.{rightLayout, inBox}
+use Rattle.spec.specs.Policies.{rightPolicy}
+use Rattle.spec.specs.Landings.{rightLandings, bitsFrom, landingsOf, marked}
+use Rattle.spec.specs.Words.{judgeOf, judgeAt, firstRefused, instrOf, routine, bundlesFor}
+use Rattle.spec.specs.Commands.{isCommand, commandOf, wordOf, fetchOf, plainOf}
+use Rattle.spec.specs.Bundles.{shapeOf, valid, readOff, bundleAt, isBundle, shapedAt, passesAt, checkFrom, checkAnswer, placeAnswer, rewriteAnswer}
+use Rattle.spec.specs.Machines.{landsAt, installAnswer, installMemory, installMachine, effectOf, applyOf, runOf, loopFrom}
+use Rattle.spec.specs.Runs.{Given, begins, runOn, afterTaken, afterRun, after, Served, eachRun, afterAll}
+use Rattle.spec.specs.Claims.{Waiting}
 use Rattle.samples.specs.Sample.{layout}
-use Rattle.engine_rules.specs.Engines.{sendOf, actOf, nextFor, movedOf, effectOn, refusalOf, refusalBy, runOf as engineRunOf}
-use Rattle.engine_rules.specs.Claims.{runOn as engineOn, afterTaken as engineTaken, afterRun as engineRun, after as engineAfter}
+use Rattle.engine_spec.specs.Engines.{sendOf, actOf, nextFor, movedOf, effectOn, refusalOf, refusalBy, runOf as engineRunOf}
+use Rattle.engine_spec.specs.Claims.{runOn as engineOn, afterTaken as engineTaken, afterRun as engineRun, after as engineAfter}
 use Rattle.transparency.specs.Raw.{rawSent, rawDo, rawStep, rawAfter, Behaves}
 use Rattle.transparency.specs.Claims.{Begins, Behaved}
 use Rattle.transparency.specs.Sample.{policy, code, commands, memory, readings, run, pausedRun, rawAt, SampleHolds}

@@ -9,30 +9,30 @@ use borrow.Author.Tests.{eq-eqb, eqb-true}
 use lib.Dec.{eqb}
 use lib.ListN.{length, getD, drop, length-take, length-drop}
 use lib.Seq.{getD-take, getD-drop, getD-set-other}
-use Rattle.names.specs.declared.Layout.{Layout}
-use Rattle.names.specs.declared.Status.{Status}
-use Rattle.rules.specs.Landings.{landingsOf}
-use Rattle.rules.specs.Layouts.{span, rightLayout, inBox}
-use Rattle.rules.specs.Policies.{Policy}
-use Rattle.rules.specs.Words.{routine, bundlesFor}
-use Rattle.rules.specs.Bundles.{commandsOf}
-use Rattle.rules.specs.Machines.{installMemory, installAnswer}
-use Rattle.rules.specs.Guests.{Pair, Guest, guestAfter, guestStart, boxOf}
-use Rattle.rules.specs.Runs.{Given, after}
-use Rattle.rules.specs.Claims.{AgreesAt, guestFor}
-use Rattle.rules.proofs.Bools.{both}
-use Rattle.rules.proofs.Facts.{Laid}
-use Rattle.rules.proofs.Conditions.{fits-of, laid-of, policy-facts, sets-beside}
-use Rattle.rules.proofs.Landings.{length-landings}
-use Rattle.rules.proofs.Layouts.{LayoutFacts, layout-facts, in-box}
-use Rattle.rules.proofs.Masks.{masks}
-use Rattle.rules.proofs.Isolation.{guest-rule}
-use Rattle.rules.proofs.Pauses.{pause-rule}
-use Rattle.rules.proofs.Progress.{progress}
-use Rattle.engine_rules.specs.Claims.{after as engineAfter}
-use Rattle.engine_rules.specs.Engines.{refusalBy}
-use Rattle.engine_rules.proofs.Rule.{engine-rule, same-guest}
-use Rattle.engine_rules.proofs.Together.{run-counts-one}
+use Rattle.types.specs.declared.Layout.{Layout}
+use Rattle.types.specs.declared.Status.{Status}
+use Rattle.spec.specs.Landings.{landingsOf}
+use Rattle.spec.specs.Layouts.{span, rightLayout, inBox}
+use Rattle.spec.specs.Policies.{Policy}
+use Rattle.spec.specs.Words.{routine, bundlesFor}
+use Rattle.spec.specs.Bundles.{commandsOf}
+use Rattle.spec.specs.Machines.{installMemory, installAnswer}
+use Rattle.spec.specs.Guests.{Pair, Guest, guestAfter, guestStart, boxOf}
+use Rattle.spec.specs.Runs.{Given, after}
+use Rattle.spec.specs.Claims.{AgreesAt, guestFor}
+use Rattle.spec.proofs.Bools.{both}
+use Rattle.spec.proofs.Facts.{Laid}
+use Rattle.spec.proofs.Conditions.{fits-of, laid-of, policy-facts, sets-beside}
+use Rattle.spec.proofs.Landings.{length-landings}
+use Rattle.spec.proofs.Layouts.{LayoutFacts, layout-facts, in-box}
+use Rattle.spec.proofs.Masks.{masks}
+use Rattle.spec.proofs.Isolation.{guest-rule}
+use Rattle.spec.proofs.Pauses.{pause-rule}
+use Rattle.spec.proofs.Progress.{progress}
+use Rattle.engine_spec.specs.Claims.{after as engineAfter}
+use Rattle.engine_spec.specs.Engines.{refusalBy}
+use Rattle.engine_spec.proofs.Rule.{engine-rule, same-guest}
+use Rattle.engine_spec.proofs.Together.{run-counts-one}
 use Rattle.transparency.specs.Raw.{rawStart, rawRun}
 use Rattle.transparency.specs.Claims.{Behaved, AsRaw, Caged, MachineAsRaw, Undisturbed, EngineUndisturbed, UndisturbedPaused, UndisturbedNext, EngineUndisturbedNext}
 use Rattle.transparency.proofs.Like.{Like, after-like}

@@ -4,18 +4,18 @@ use mathlib.Core.Path.{_≡_}
 use mathlib.Core.Bool.{true}
 use mathlib.Core.List.{List}
 use lib.ListN.{length, getD, take}
-use Rattle.names.specs.declared.Layout.{Layout}
-use Rattle.names.specs.declared.Status.{Status}
-use Rattle.names.specs.declared.Status.the-variants.{Running}
-use Rattle.names.specs.Names.{guestRegisters}
-use Rattle.rules.specs.Layouts.{inBox}
-use Rattle.rules.specs.Policies.{Policy}
-use Rattle.rules.specs.Words.{routine, bundlesFor}
-use Rattle.rules.specs.Bundles.{rewriteAnswer, commandsOf}
-use Rattle.rules.specs.Guests.{Pair}
-use Rattle.rules.specs.Runs.{Given, Carried, Lent, Served, after}
-use Rattle.rules.specs.Claims.{Stands, Waiting, Proceeds, givenFor, Enough}
-use Rattle.engine_rules.specs.Claims.{Served as EngineServed, after as engineAfter, afterRun as engineRun}
+use Rattle.types.specs.declared.Layout.{Layout}
+use Rattle.types.specs.declared.Status.{Status}
+use Rattle.types.specs.declared.Status.the-variants.{Running}
+use Rattle.types.specs.Names.{guestRegisters}
+use Rattle.spec.specs.Layouts.{inBox}
+use Rattle.spec.specs.Policies.{Policy}
+use Rattle.spec.specs.Words.{routine, bundlesFor}
+use Rattle.spec.specs.Bundles.{rewriteAnswer, commandsOf}
+use Rattle.spec.specs.Guests.{Pair}
+use Rattle.spec.specs.Runs.{Given, Carried, Lent, Served, after}
+use Rattle.spec.specs.Claims.{Stands, Waiting, Proceeds, givenFor, Enough}
+use Rattle.engine_spec.specs.Claims.{Served as EngineServed, after as engineAfter, afterRun as engineRun}
 use Rattle.transparency.specs.Raw.{Raw, rawStart, rawRun, BehavesFor}
 
 -- a raw memory that has the sandbox, with the same cells in it

@@ -5,20 +5,20 @@ use mathlib.Core.Bool.{true, cond}
 use mathlib.Core.List.{List, []}
 use lib.ListN.{getD, set, replicate}
 use lib.Dec.{ltb}
-use Rattle.names.specs.declared.Layout.{Layout}
-use Rattle.names.specs.declared.Status.{Status}
-use Rattle.names.specs.declared.Status.the-variants.{Running, Ended}
-use Rattle.names.specs.declared.Instr.{Instr}
-use Rattle.names.specs.declared.Instr.the-variants.{HALT, PLAIN, LOAD, STORE, GOIF, GOX, EVENT}
-use Rattle.names.specs.Names.{guestRegisters, orders, noArrow, plainStep}
-use Rattle.rules.specs.Layouts.{limited, inBox}
-use Rattle.rules.specs.Policies.{Policy, arrow, stateOver}
-use Rattle.rules.specs.Landings.{listed}
-use Rattle.rules.specs.Words.{routine}
-use Rattle.rules.specs.Commands.{plainOf, holdsOf}
-use Rattle.rules.specs.Machines.{unlessOver}
-use Rattle.rules.specs.Guests.{Pair, pairOf, snoc}
-use Rattle.rules.specs.Runs.{eventsOf}
+use Rattle.types.specs.declared.Layout.{Layout}
+use Rattle.types.specs.declared.Status.{Status}
+use Rattle.types.specs.declared.Status.the-variants.{Running, Ended}
+use Rattle.types.specs.declared.Instr.{Instr}
+use Rattle.types.specs.declared.Instr.the-variants.{HALT, PLAIN, LOAD, STORE, GOIF, GOX, EVENT}
+use Rattle.types.specs.Names.{guestRegisters, orders, noArrow, plainStep}
+use Rattle.spec.specs.Layouts.{limited, inBox}
+use Rattle.spec.specs.Policies.{Policy, arrow, stateOver}
+use Rattle.spec.specs.Landings.{listed}
+use Rattle.spec.specs.Words.{routine}
+use Rattle.spec.specs.Commands.{plainOf, holdsOf}
+use Rattle.spec.specs.Machines.{unlessOver}
+use Rattle.spec.specs.Guests.{Pair, pairOf, snoc}
+use Rattle.spec.specs.Runs.{eventsOf}
 
 -- ---- the raw run
 

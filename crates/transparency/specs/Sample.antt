@@ -3,16 +3,16 @@ use Prim.Native.Nat.{ℕ}
 use mathlib.Core.Path.{_≡_}
 use mathlib.Core.List.{List, [], _∷_, _++_}
 use lib.ListN.{replicate}
-use Rattle.names.specs.declared.Status.the-variants.{Ended}
-use Rattle.rules.specs.Policies.{Policy, policyOf}
-use Rattle.rules.specs.Words.{packOf}
-use Rattle.rules.specs.Bundles.{commandsOf}
-use Rattle.rules.specs.Machines.{installMemory}
-use Rattle.rules.specs.Guests.{pairOf}
-use Rattle.rules.specs.Runs.{Given, after}
-use Rattle.rules.specs.Claims.{Waiting}
+use Rattle.types.specs.declared.Status.the-variants.{Ended}
+use Rattle.spec.specs.Policies.{Policy, policyOf}
+use Rattle.spec.specs.Words.{packOf}
+use Rattle.spec.specs.Bundles.{commandsOf}
+use Rattle.spec.specs.Machines.{installMemory}
+use Rattle.spec.specs.Guests.{pairOf}
+use Rattle.spec.specs.Runs.{Given, after}
+use Rattle.spec.specs.Claims.{Waiting}
 use Rattle.samples.specs.Sample.{layout}
-use Rattle.engine_rules.specs.Claims.{Served as EngineServed, after as engineAfter}
+use Rattle.engine_spec.specs.Claims.{Served as EngineServed, after as engineAfter}
 use Rattle.transparency.specs.Raw.{Raw, rawRun}
 use Rattle.transparency.specs.Claims.{Behaved, Caged}
 

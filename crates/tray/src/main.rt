@@ -1,11 +1,13 @@
 // Tries the sample tray's case that no theorem has, routines of 1,023 and 1,024 instructions, and
 // damaged routines for each number by which reading and rewriting refuse. A line each: the case,
 // its answer's number and its place.
+pub mod reading;
+
 use lines::print_case;
-use names::Bundle;
-use names::Instr;
-use names::Layout;
-use names::PolicyNumbers;
+use types::Bundle;
+use types::Instr;
+use types::Layout;
+use types::PolicyNumbers;
 
 // Orders, each with its ceiling.
 const ORDERS: usize = PolicyNumbers::ORDERS as usize;
@@ -61,7 +63,7 @@ fn layouts() {
 }
 
 fn main() {
-    tray_reading::cases();
+    crate::reading::cases();
     let layout = drum(BASE);
     bad_words(layout);
     landings(layout);

@@ -2,12 +2,12 @@
 // where that is 0, what one run records and how it ends.
 use libc::STDIN_FILENO;
 use lines::print;
-use names::Bundle;
-use names::Instr;
-use names::Layout;
-use names::Machine;
-use names::PolicyNumbers;
-use names::Refusal;
+use types::Bundle;
+use types::Instr;
+use types::Layout;
+use types::Machine;
+use types::PolicyNumbers;
+use types::Refusal;
 ghost use Prim.Native.Nat.{_*_, _≤_};
 ghost use lib.ListN.{length};
 
@@ -58,7 +58,7 @@ fn run(layout: Layout, commands: &[u64], start: Machine, memory: &mut [u32; CELL
     let a = out.answer;
     print_events(&log, a.pairs);
     let e = a.ending;
-    print_end(machine_endings::number(e), a.steps, memory[0]);
+    print_end(machine_step::endings::number(e), a.steps, memory[0]);
 }
 
 // Landings 0 to 1,023.

@@ -3,10 +3,10 @@ use mathlib.Core.Path.{_≡_}
 use mathlib.Core.Bool.{Bool}
 use Prim.Native.Nat.{_%_, _^_}
 use native.Mathlib.Omega.{arith}
-use Rattle.names.specs.declared.Fields.{Fields}
-use Rattle.rules.specs.Words.{judgeOf}
-use Rattle.words_fields.specs.Cut.{cutOf}
-use Rattle.rules.proofs.WordLaws.{bounds}
+use Rattle.types.specs.declared.Fields.{Fields}
+use Rattle.spec.specs.Words.{judgeOf}
+use Rattle.words.specs.fields.Cut.{cutOf}
+use Rattle.spec.proofs.WordLaws.{bounds}
 
 -- packing cuts nothing off an instruction that is not refused
 pub uncut : (x : Bool) (f : Fields) → judgeOf x f ≡ 0 → cutOf f ≡ f

@@ -5,18 +5,18 @@ use mathlib.Core.List.{[], _∷_}
 use Prim.Native.Nat.{ℕ, _+_, _*_, _≤_, _<_, _^_}
 use native.Mathlib.Omega.{arith}
 use native.Mathlib.Nat.{mod-eq-of-lt}
-use Rattle.names.specs.declared.Layout.{Layout}
-use Rattle.names.specs.declared.Instr.{Instr}
-use Rattle.names.specs.declared.Instr.the-variants.{HALT, PLAIN, LOAD, STORE, GOIF, GOX, EVENT}
-use Rattle.names.specs.declared.Bundle.{Bundle}
-use Rattle.names.specs.Names.{bundleLength, bundleShift, hidden, topWord, guest, command, plainStep}
-use Rattle.rules.specs.Words.{packOf}
-use Rattle.rules.specs.Commands.{limitsOf, wordOf}
-use Rattle.rules.specs.Bundles.{addressOf, lastAddress, shapeOf, bundleOf, valid}
-use Rattle.rules.proofs.Tables.{all, raised}
-use Rattle.rules.proofs.Facts.{Valid}
-use Rattle.rules.proofs.Conditions.{valid-is}
-use Rattle.words_fields.specs.Cut.{cutWord}
+use Rattle.types.specs.declared.Layout.{Layout}
+use Rattle.types.specs.declared.Instr.{Instr}
+use Rattle.types.specs.declared.Instr.the-variants.{HALT, PLAIN, LOAD, STORE, GOIF, GOX, EVENT}
+use Rattle.types.specs.declared.Bundle.{Bundle}
+use Rattle.types.specs.Names.{bundleLength, bundleShift, hidden, topWord, guest, command, plainStep}
+use Rattle.spec.specs.Words.{packOf}
+use Rattle.spec.specs.Commands.{limitsOf, wordOf}
+use Rattle.spec.specs.Bundles.{addressOf, lastAddress, shapeOf, bundleOf, valid}
+use Rattle.spec.proofs.Tables.{all, raised}
+use Rattle.spec.proofs.Facts.{Valid}
+use Rattle.spec.proofs.Conditions.{valid-is}
+use Rattle.words.specs.fields.Cut.{cutWord}
 use Rattle.words.specs.Packing.{Packable}
 
 -- the numbers of the plain commands have 32 bits

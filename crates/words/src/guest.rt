@@ -1,12 +1,65 @@
-// The words of a guest's instructions: their fields, their first refusal, the instruction that they stand for.
-pub use words_fields::fields;
-pub use words_fields::guests;
-pub use words_fields::instruction;
-pub use words_fields::pack;
-pub use words_fields::word;
-pub use words_guest::clean;
-pub use words_guest::judge_word;
-pub use words_refusals::TOP_CONDITION;
-pub use words_refusals::judge;
-pub use words_routine::judge_all;
-pub use words_routine::judge_at;
+// The first refusal of a guest word.
+use crate::fields::field;
+use crate::fields::fields;
+use crate::fields::guests;
+use crate::refusals::TOP_KIND;
+use crate::refusals::judge;
+use types::Instr;
+use types::Refusal;
+ghost use mathlib.Core.Path.{_≡_};
+ghost use Prim.Native.Nat.{_≤_};
+ghost use lib.Dec.{eqb};
+ghost use Rattle.types.specs.Names.{topKind};
+ghost use Rattle.spec.specs.Words.{guestLimits, judgeWord};
+ghost use Rattle.words.specs.fields.Strays.{strayOf};
+
+// The bits that no instruction of a kind has: those of the fields that it lacks, and those above the bounds of c and v.
+fn stray_bits(k: u64) -> u64
+    requires { ⌜ k ≤ topKind ⌝ }
+    ensures { λ r. ⌜ r ≡ strayOf (guestLimits k) ⌝ }
+{
+    match k {
+        Instr::KIND_HALT => 0xFFFF_FFFF_FFFF_FF00,
+        Instr::KIND_SET => 0x0000_0000_FFFF_F000,
+        Instr::KIND_MOVE => 0xFFFF_FFFF_FFFF_0000,
+        Instr::KIND_ADD => 0xFFFF_FFFF_FFF0_0000,
+        Instr::KIND_SUB => 0xFFFF_FFFF_FFF0_0000,
+        Instr::KIND_AND => 0xFFFF_FFFF_FFF0_0000,
+        Instr::KIND_OR => 0xFFFF_FFFF_FFF0_0000,
+        Instr::KIND_SAR => 0xFFFF_FFE0_FFFF_0000,
+        Instr::KIND_LOAD => 0xFFFF_FFFF_FFFF_0000,
+        Instr::KIND_STORE => 0xFFFF_FFFF_FFF0_0F00,
+        Instr::KIND_GOIF => 0x0000_0000_FFC0_0F00,
+        Instr::KIND_GOX => 0xFFFF_FFFF_FFC0_0000,
+        Instr::KIND_EVENT => 0xFFFF_FFF0_FFFF_FF00,
+        _ => 0,
+    }
+}
+
+// Whether a word is an instruction: one AND and its registers tell. A register field that the kind lacks is 0, and
+// passes.
+pub fn clean(w: u64) -> bool
+    ensures { λ r. ⌜ r ≡ eqb (judgeWord w) 0 ⌝ }
+{
+    let k = field::kind(w);
+    if k > TOP_KIND {
+        return false;
+    }
+    (w & stray_bits(k) == 0) & guests(w)
+}
+
+// The first refusal of a word by its fields, for callers that have tested `clean`. A call, for it is seldom needed.
+pub fn by_fields(w: u64) -> u8
+    ensures { λ r. ⌜ r ≡ judgeWord w ⌝ }
+{
+    judge(field::zero(w) > 0, fields(w))
+}
+
+pub fn judge_word(w: u64) -> u8
+    ensures { λ r. ⌜ r ≡ judgeWord w ⌝ }
+{
+    if clean(w) {
+        return Refusal::TAKEN;
+    }
+    by_fields(w)
+}

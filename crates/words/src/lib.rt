@@ -1,9 +1,12 @@
-// Words of 64 bits and cells of 32: layouts and masks, guest words, command words, arithmetic, the count of bundles.
-// Each part is proved in a crate of its own, and passed on here.
+// Words of 64 bits and cells of 32: guest words and command words, a module each; and, passed on, the tests of a layout, the
+// count of bundles, and arithmetic.
 pub mod command;
-pub mod count;
+pub mod fields;
 pub mod guest;
-pub mod layout;
+pub mod refusals;
+pub mod routine;
 
-pub use words_arith::arith;
-pub use words_fields::field;
+pub use crate::fields::field;
+pub use arith::alu;
+pub use layout::count;
+pub use layout::memory;

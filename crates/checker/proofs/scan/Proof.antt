@@ -4,7 +4,7 @@ use native.Mathlib.Omega.{arith}
 use native.Mathlib.Nat.{sub-zero}
 use borrow.Author.Needs.{needs}
 use borrow.Author.Tests.{not-true, not-false}
-use Rattle.rules.specs.Bundles.{checkFrom}
+use Rattle.spec.specs.Bundles.{checkFrom}
 use Rattle.checker.proofs.Passing.{check-stop, check-more, check-done}
 use Rattle.checker.proofs.scan.Statement.{statement}
 use Rattle.checker.proofs.scan.Tie as tie

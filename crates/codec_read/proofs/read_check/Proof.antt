@@ -1,8 +1,8 @@
 use mathlib.Core.Path.{_≡_, _∙_, ap}
 use native.Mathlib.Omega.{arith}
-use Rattle.names.specs.declared.Answer.{Answer}
+use Rattle.types.specs.declared.Answer.{Answer}
 use borrow.Author.Needs.{needs}
-use Rattle.rules.proofs.Bytes.{read-many, read-room, read-short}
+use Rattle.spec.proofs.Bytes.{read-many, read-room, read-short}
 use Rattle.codec_read.proofs.Reading.{read-rest, aside-rest}
 use Rattle.codec_read.proofs.read_check.Statement.{statement}
 use Rattle.codec_read.proofs.read_check.Tie as tie

@@ -6,7 +6,7 @@ use native.Mathlib.Omega.{arith}
 use native.Mathlib.Nat.{sub-zero}
 use lib.ListN.{length}
 use lib.Seq.{sets as stores}
-use Rattle.rules.specs.Bytes.{scanOf, wordsOf}
+use Rattle.spec.specs.Bytes.{scanOf, wordsOf}
 use Rattle.codec_read.proofs.scan.Statement.{statement}
 use Rattle.codec_read.proofs.scan.Tie as tie
 

@@ -4,12 +4,12 @@ use mathlib.Core.Path.{_≡_}
 use Prim.Native.Nat.{_≤_, _-_, _+_}
 use lib.ListN.{length, drop}
 use lib.Seq.{sets as stores}
-use Rattle.rules.specs.Bytes.{bytesOf}
+use Rattle.spec.specs.Bytes.{bytesOf}
 use Rattle.codec_write.proofs.emit.Statement.{statement}
 use Rattle.codec_write.proofs.emit.Tie as tie
 use Rattle.codec_write.proofs.emit.Reads as reads
 use Rattle.codec_write.proofs.emit.Lts as lts
-use Rattle.codec_encode.proofs.put_one.Reads as put-one-reads
+use Rattle.codec_write.proofs.encode.put_one.Reads as put-one-reads
 
 abbrev Inv-loop : tie.InvT-loop
 Inv-loop words bytes₀ at to₀ i₀ bytes to i = (i ≤ length words) × (length bytes ≡ length bytes₀) × (to + length (bytesOf (drop i words)) ≤ length bytes₀) × (stores bytes₀ at (bytesOf words) ≡ stores bytes to (bytesOf (drop i words)))

@@ -1,13 +1,13 @@
 use borrow.Author.Needs.{needs}
-use Rattle.rules.proofs.Bytes.{length-routine}
-use Rattle.rules.proofs.Refusals.{refused-more, refused-stop}
+use Rattle.spec.proofs.Bytes.{length-routine}
+use Rattle.spec.proofs.Refusals.{refused-more, refused-stop}
 use Rattle.codec_write.proofs.Writing.{weigh-more, weigh-small, weigh-taken}
 use mathlib.Core.Path.{_≡_, _∙_}
 use Prim.Native.Nat.{_≤_, _-_, _+_, _*_}
 use lib.ListN.{length, drop}
-use Rattle.names.specs.Names.{roomFor}
-use Rattle.rules.specs.Words.{judgeWord, firstRefused}
-use Rattle.rules.specs.Bytes.{bytesOf, routineOf}
+use Rattle.types.specs.Names.{roomFor}
+use Rattle.spec.specs.Words.{judgeWord, firstRefused}
+use Rattle.spec.specs.Bytes.{bytesOf, routineOf}
 use Rattle.codec_write.proofs.weigh.Statement.{statement}
 use Rattle.codec_write.proofs.weigh.Tie as tie
 use Rattle.codec_write.proofs.weigh.Reads as reads

@@ -1,6 +1,6 @@
 use mathlib.Core.Path.{sym, _∙_}
 use borrow.Author.Needs.{needs}
-use Rattle.rules.proofs.Bytes.{write-many, write-few}
+use Rattle.spec.proofs.Bytes.{write-many, write-few}
 use Rattle.codec_write.proofs.write_check.Statement.{statement}
 use Rattle.codec_write.proofs.write_check.Tie as tie
 

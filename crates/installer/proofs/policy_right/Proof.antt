@@ -1,5 +1,5 @@
 use borrow.Author.Needs.{needs}
-use Rattle.rules.specs.Policies.{rightPolicy}
+use Rattle.spec.specs.Policies.{rightPolicy}
 use Rattle.installer.proofs.policy_right.Statement.{statement}
 use Rattle.installer.proofs.policy_right.Tie as tie
 

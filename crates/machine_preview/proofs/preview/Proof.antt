@@ -1,9 +1,9 @@
--- `machine_preview::preview` meets its contract: what is run is the memory's copy, as long as the memory.
+-- `crate::preview` meets its contract: what is run is the memory's copy, as long as the memory.
 use mathlib.Core.Path.{sym, _∙_}
 use native.Mathlib.Omega.{arith}
 use lib.Seq.{length-take-le}
 use borrow.Author.Needs.{needs}
-use Rattle.words_stores.proofs.Storing.{store-all}
+use Rattle.buffers.proofs.stores.Storing.{store-all}
 use Rattle.machine_preview.proofs.Laws.{refused-long, ran-copy}
 use Rattle.machine_preview.proofs.preview.Statement.{statement}
 use Rattle.machine_preview.proofs.preview.Tie as tie

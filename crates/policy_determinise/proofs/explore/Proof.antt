@@ -1,9 +1,9 @@
 use Prim.Native.Nat.{_-_, _*_, _<_, _≤_}
 use native.Mathlib.Omega.{arith}
 use borrow.Author.Needs.{needs}
-use Rattle.names.specs.Names.{events, mostStates}
-use Rattle.policy_exploration_rules.specs.Founds.{Holds}
-use Rattle.policy_exploration_rules.proofs.Explore.{going, holds-start, holds-more, holds-done}
+use Rattle.types.specs.Names.{events, mostStates}
+use Rattle.policy_spec.specs.reachability.Founds.{Holds}
+use Rattle.policy_spec.proofs.reachability.Explore.{going, holds-start, holds-more, holds-done}
 use Rattle.policy_determinise.specs.Drawings.{drawingOf, setAfter}
 use Rattle.policy_determinise.proofs.Runs.{arrows}
 use Rattle.policy_determinise.proofs.explore.Statement.{statement}

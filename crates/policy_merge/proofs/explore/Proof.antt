@@ -2,10 +2,10 @@ use Prim.Native.Nat.{_-_, _*_, _<_, _≤_}
 use mathlib.Core.List.{[]}
 use native.Mathlib.Omega.{arith}
 use borrow.Author.Needs.{needs}
-use Rattle.names.specs.Names.{events, mostStates}
-use Rattle.policy_exploration_rules.specs.Founds.{Holds}
-use Rattle.policy_exploration_rules.proofs.Explore.{going, holds-start, holds-more, holds-done}
-use Rattle.rules.specs.Policies.{policyOf}
+use Rattle.types.specs.Names.{events, mostStates}
+use Rattle.policy_spec.specs.reachability.Founds.{Holds}
+use Rattle.policy_spec.proofs.reachability.Explore.{going, holds-start, holds-more, holds-done}
+use Rattle.spec.specs.Policies.{policyOf}
 use Rattle.policy_merge.specs.Pairs.{pairAfter}
 use Rattle.policy_merge.proofs.Pairs.{pairs}
 use Rattle.policy_merge.proofs.explore.Statement.{statement}

@@ -3,9 +3,9 @@ use mathlib.Core.Path.{_≡_}
 use mathlib.Core.List.{_++_}
 use lib.ListN.{getD, drop, replicate}
 use borrow.Author.Needs.{needs}
-use Rattle.names.specs.Names.{orders}
-use Rattle.policy_maps.specs.Maps.{build}
-use Rattle.policy_maps.proofs.Tables.{fill-none, fill-more}
+use Rattle.types.specs.Names.{orders}
+use Rattle.policy_spec.specs.maps.Maps.{build}
+use Rattle.policy_spec.proofs.maps.Tables.{fill-none, fill-more}
 use Rattle.policy_merge.proofs.Laws.{smaller-done}
 use Rattle.policy_merge.proofs.smaller.Statement.{statement}
 use Rattle.policy_merge.proofs.smaller.Tie as tie

@@ -2,8 +2,8 @@ use Prim.Native.Nat.{_-_, _≤_, zero-le}
 use mathlib.Core.Path.{_≡_, sym}
 use borrow.Author.Needs.{needs}
 use lib.ListN.{length}
-use Rattle.policy_precedence_rules.specs.Precedence.{knownIn}
-use Rattle.policy_precedence_rules.proofs.Laws.{known-none, known-more, known-done}
+use Rattle.policy_spec.specs.precedence.Precedence.{knownIn}
+use Rattle.policy_spec.proofs.precedence.Laws.{known-none, known-more, known-done}
 use Rattle.policy_precedence.proofs.events_known.Statement.{statement}
 use Rattle.policy_precedence.proofs.events_known.Tie as tie
 

@@ -5,10 +5,10 @@ use native.Mathlib.Omega.{arith}
 use denote.Ref.{now}
 use borrow.Author.Needs.{needs}
 use lib.ListN.{length, drop}
-use Rattle.policy_maps.specs.Maps.{build}
-use Rattle.policy_precedence_rules.specs.Precedence.{byteOf}
-use Rattle.policy_maps.proofs.Tables.{fill-none, fill-more, fill-done}
-use Rattle.policy_precedence_rules.proofs.Laws.{row-below}
+use Rattle.policy_spec.specs.maps.Maps.{build}
+use Rattle.policy_spec.specs.precedence.Precedence.{byteOf}
+use Rattle.policy_spec.proofs.maps.Tables.{fill-none, fill-more, fill-done}
+use Rattle.policy_spec.proofs.precedence.Laws.{row-below}
 use Rattle.policy_precedence.proofs.fill.Statement.{statement}
 use Rattle.policy_precedence.proofs.fill.Tie as tie
 

@@ -1,8 +1,8 @@
--- `policy_precedence::make` meets its contract: refused 17, refused 9, taken.
+-- `crate::make` meets its contract: refused 17, refused 9, taken.
 use denote.Ref.{now}
 use borrow.Author.Needs.{needs}
 use borrow.Author.Tests.{not-true, not-false}
-use Rattle.policy_precedence_rules.proofs.Laws.{fit-of, few-ones, states-are, bytes-are, bytes-fit, no-pairs, no-room, makes}
+use Rattle.policy_spec.proofs.precedence.Laws.{fit-of, few-ones, states-are, bytes-are, bytes-fit, no-pairs, no-room, makes}
 use Rattle.policy_precedence.proofs.make.Statement.{statement}
 use Rattle.policy_precedence.proofs.make.Tie as tie
 

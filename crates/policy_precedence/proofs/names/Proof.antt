@@ -2,10 +2,10 @@ use Prim.Native.Nat.{_-_, _≤_, zero-le}
 use mathlib.Core.Path.{_≡_}
 use borrow.Author.Needs.{needs}
 use lib.ListN.{length}
-use Rattle.names.specs.Names.{events}
-use Rattle.policy_maps.specs.Maps.{mapWhere}
-use Rattle.policy_precedence_rules.specs.Precedence.{namedIn}
-use Rattle.policy_precedence_rules.proofs.Laws.{names-none, names-more, names-done}
+use Rattle.types.specs.Names.{events}
+use Rattle.policy_spec.specs.maps.Maps.{mapWhere}
+use Rattle.policy_spec.specs.precedence.Precedence.{namedIn}
+use Rattle.policy_spec.proofs.precedence.Laws.{names-none, names-more, names-done}
 use Rattle.policy_precedence.proofs.names.Statement.{statement}
 use Rattle.policy_precedence.proofs.names.Tie as tie
 

@@ -1,5 +1,5 @@
 use borrow.Author.Needs.{needs}
-use Rattle.policy_precedence_rules.proofs.Laws.{one-in, one-out}
+use Rattle.policy_spec.proofs.precedence.Laws.{one-in, one-out}
 use Rattle.policy_precedence.proofs.one.Statement.{statement}
 use Rattle.policy_precedence.proofs.one.Tie as tie
 

@@ -1,5 +1,5 @@
 use borrow.Author.Needs.{needs}
-use Rattle.policy_precedence_rules.proofs.Laws.{ones-fit, right-is}
+use Rattle.policy_spec.proofs.precedence.Laws.{ones-fit, right-is}
 use Rattle.policy_precedence.proofs.right.Statement.{statement}
 use Rattle.policy_precedence.proofs.right.Tie as tie
 

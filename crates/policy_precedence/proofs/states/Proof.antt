@@ -1,6 +1,6 @@
 use native.Mathlib.Omega.{arith}
 use borrow.Author.Needs.{needs}
-use Rattle.policy_precedence_rules.proofs.Laws.{shifted}
+use Rattle.policy_spec.proofs.precedence.Laws.{shifted}
 use Rattle.policy_precedence.proofs.states.Statement.{statement}
 use Rattle.policy_precedence.proofs.states.Tie as tie
 

@@ -1,6 +1,6 @@
 use denote.Ref.{now}
 use borrow.Author.Needs.{needs}
-use Rattle.policy_precedence_rules.proofs.Laws.{states-fit, never-fits, taken-is}
+use Rattle.policy_spec.proofs.precedence.Laws.{states-fit, never-fits, taken-is}
 use Rattle.policy_precedence.proofs.taken.Statement.{statement}
 use Rattle.policy_precedence.proofs.taken.Tie as tie
 

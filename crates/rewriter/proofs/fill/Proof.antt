@@ -4,9 +4,9 @@ use native.Mathlib.Omega.{arith}
 use lib.ListN.{length}
 use lib.Seq.{sets}
 use borrow.Author.Needs.{needs}
-use Rattle.names.specs.Names.{bundleLength}
-use Rattle.rules.specs.Words.{routine}
-use Rattle.rules.specs.Bundles.{bundlesFrom}
+use Rattle.types.specs.Names.{bundleLength}
+use Rattle.spec.specs.Words.{routine}
+use Rattle.spec.specs.Bundles.{bundlesFrom}
 use Rattle.rewriter.proofs.Filling.{fill-start, still-ready, fill-more, fill-done, length-put}
 use Rattle.rewriter.proofs.fill.Statement.{statement}
 use Rattle.rewriter.proofs.fill.Tie as tie

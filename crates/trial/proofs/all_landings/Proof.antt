@@ -3,7 +3,7 @@ use mathlib.Core.Path.{_≡_, refl}
 use native.Mathlib.Omega.{arith}
 use borrow.Author.Needs.{needs}
 use lib.ListN.{length}
-use Rattle.names.specs.Names.{mostBundles}
+use Rattle.types.specs.Names.{mostBundles}
 use Rattle.trial.proofs.all_landings.Statement.{statement}
 use Rattle.trial.proofs.all_landings.Tie as tie
 

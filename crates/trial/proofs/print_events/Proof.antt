@@ -1,4 +1,4 @@
--- `trial::print_events` meets its contract: it reads the log within the pairs that it is given.
+-- `crate::print_events` meets its contract: it reads the log within the pairs that it is given.
 use Prim.Native.Nat.{_≤_, _-_}
 use native.Mathlib.Omega.{arith}
 use borrow.Author.Needs.{needs}

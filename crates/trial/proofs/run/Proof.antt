@@ -1,12 +1,12 @@
--- `trial::run` meets its contract.
+-- `crate::run` meets its contract.
 use Prim.Native.Nat.{ℕ, _*_, _≤_}
 use mathlib.Core.Path.{_≡_, sym, subst}
 use mathlib.Core.List.{List}
 use native.Mathlib.Omega.{arith}
 use lib.ListN.{length}
-use Rattle.names.specs.declared.Outcome.{Outcome}
-use Rattle.rules.specs.Machines.{Ran, ranOf}
-use Rattle.rules.proofs.Counts.{RunCounts, run-counts}
+use Rattle.types.specs.declared.Outcome.{Outcome}
+use Rattle.spec.specs.Machines.{Ran, ranOf}
+use Rattle.spec.proofs.Counts.{RunCounts, run-counts}
 use borrow.Author.Needs.{needs}
 use Rattle.trial.proofs.run.Statement.{statement}
 use Rattle.trial.proofs.run.Tie as tie

@@ -1,4 +1,4 @@
--- `trial::try_routine` meets its contract: a loaded routine's commands lie within the list lent for them.
+-- `crate::try_routine` meets its contract: a loaded routine's commands lie within the list lent for them.
 use mathlib.Core.Path.{sym}
 use lib.Seq.{length-take-le}
 use borrow.Author.Needs.{needs}

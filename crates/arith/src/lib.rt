@@ -1,0 +1,3 @@
+// Arithmetic of 32-bit numbers, and the conditions.
+pub mod alu;
+pub mod signed;

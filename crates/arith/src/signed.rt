@@ -1,0 +1,50 @@
+// 32-bit numbers as two's complement.
+use types::Layout;
+ghost use mathlib.Core.Path.{_≡_};
+ghost use Prim.Native.Nat.{min};
+ghost use Rattle.types.specs.Names.{topShift};
+ghost use Rattle.spec.specs.Signed.{twos, bitsOf, sarOf, lessOf};
+
+// The number that x stands for as two's complement.
+fn to_signed(x: u32) -> i32
+    ensures { λ r. ⌜ r ≡ twos x ⌝ }
+{
+    if x < 0x8000_0000 {
+        x as i32
+    } else {
+        !((!x) as i32)
+    }
+}
+
+// The bits of z as two's complement.
+fn to_bits(z: i32) -> u32
+    ensures { λ r. ⌜ r ≡ bitsOf z ⌝ }
+{
+    if z >= 0 { z as u32 } else { !((!z) as u32) }
+}
+
+// A shift past a cell's last bit leaves the sign alone, as the shift to that bit does.
+fn to_last_bit(v: u32) -> u32
+    ensures { λ r. ⌜ r ≡ min v topShift ⌝ }
+{
+    if v < Layout::CELL_BITS {
+        return v;
+    }
+    Layout::CELL_BITS - 1
+}
+
+pub fn sar(x: u32, v: u32) -> u32
+    ensures { λ r. ⌜ r ≡ sarOf x v ⌝ }
+{
+    let z = to_signed(x);
+    let s = to_last_bit(v);
+    to_bits(z >> s)
+}
+
+pub fn less(x: u32, y: u32) -> bool
+    ensures { λ r. ⌜ r ≡ lessOf x y ⌝ }
+{
+    let a = to_signed(x);
+    let b = to_signed(y);
+    a < b
+}

@@ -1,0 +1,12 @@
+use borrow.Author.Needs.{needs}
+use Rattle.buffers.proofs.pairs.order.Statement.{statement}
+use Rattle.buffers.proofs.pairs.order.Tie as tie
+
+pub order-spec : {M : Type 1} → statement M
+order-spec =
+    tie.close
+    (tie.spec
+    (λ c κs. search needs)
+    (λ c κs. search needs)
+    (λ c. search needs)
+    (λ c. simp (c .before .before .put .ensures, c .before .before .before .before .limited .ensures)))

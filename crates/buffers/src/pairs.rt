@@ -1,0 +1,35 @@
+// Pairs in a log: an event and its value, two cells.
+ghost use mathlib.Core.Path.{_≡_};
+ghost use Prim.Native.Nat.{_<_, _^_};
+ghost use Rattle.spec.specs.Layouts.{limited as limitedOf};
+ghost use Rattle.spec.specs.Machines.{withPair};
+
+// Pair n.
+pub fn put(log: &mut [u32], n: usize, e: u32, x: u32)
+    requires { ⌜ n < 2 ^ 62 ⌝ }
+    ensures { λ _. ⌜ now (log .exit) ≡ withPair (now (log .entry)) n e x ⌝ }
+{
+    let first = 2 * n;
+    crate::cells::poke(log, first, e);
+    crate::cells::poke(log, first + 1, x);
+}
+
+// What an order records: the smaller of its value and its ceiling.
+fn limited(ceilings: &[u32], v: u32, x: u32) -> u32
+    ensures { λ r. ⌜ r ≡ limitedOf (now (ceilings .entry)) v x ⌝ }
+{
+    let most = crate::cells::peek(ceilings, v as usize);
+    if x < most {
+        return x;
+    }
+    most
+}
+
+// Pair n of an order, its value limited.
+pub fn order(ceilings: &[u32], v: u32, x: u32, log: &mut [u32], n: usize)
+    requires { ⌜ n < 2 ^ 62 ⌝ }
+    ensures { λ _. ⌜ now (log .exit) ≡ withPair (now (log .entry)) n v (limitedOf (now (ceilings .entry)) v x) ⌝ }
+{
+    let y = limited(ceilings, v, x);
+    put(log, n, v, y);
+}

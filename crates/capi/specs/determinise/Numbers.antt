@@ -1,0 +1,16 @@
+-- What is made of a C host's numbers, and the numbers that it gets.
+use Prim.Native.Nat.{ℕ, _^_}
+use mathlib.Core.Bool.{cond}
+use mathlib.Core.List.{List}
+use lib.Dec.{ltb}
+use Rattle.types.specs.Names.{mostStates}
+use Rattle.capi_spec.specs.Numbers.{madeTo}
+use Rattle.policy_spec.specs.declared.reachability.Made.{Made}
+
+-- a map of starts that has a bit above 15 counts as none: 16 refuses both
+unfoldable pub startsFrom : ℕ → ℕ
+startsFrom q = cond (ltb q (2 ^ mostStates)) q 0
+
+-- a made policy as number, place, states and start
+abbrev pub policyTo : Made → List ℕ
+policyTo m = madeTo (m .answer) (m .policy .states) (m .policy .start)

@@ -1,0 +1,55 @@
+// Runs and previews, for a C host.
+use capi_values::answers::RUN_ANSWER;
+use capi_values::answers::run_answer_of;
+use capi_values::layouts::LAYOUT;
+use capi_values::layouts::layout_of;
+use capi_values::machines::RECORD;
+use capi_values::machines::machine_of;
+use capi_values::machines::record_after;
+ghost use mathlib.Core.Path.{_≡_};
+ghost use Rattle.capi_spec.specs.Hosts.{hostRan, runFor, hostPreviewed, previewFor};
+
+// Runs a record; one that is refused comes back as it was.
+#[no_mangle]
+pub extern "C" fn hemdroas_run(
+    layout: &[u32; LAYOUT],
+    commands: &[u64],
+    machine: &mut [u32; RECORD],
+    memory: &mut [u32],
+    budget: u32,
+    readings: &[u32],
+    log: &mut [u32],
+    answer: &mut [u32; RUN_ANSWER],
+)
+    ensures { λ _. ⌜ hostRan (now (answer .exit)) (now (machine .exit)) (now (memory .exit)) (now (log .exit)) ≡ runFor (now (layout .entry)) (now (commands .entry)) (now (machine .entry)) (now (memory .entry)) budget (now (readings .entry)) (now (log .entry)) ⌝ }
+{
+    let lay = layout_of(layout);
+    let given = *machine;
+    let m = machine_of(given);
+    let out = sandbox::run(lay, commands, m, memory, budget, readings, log);
+    *machine = record_after(out.machine, given);
+    *answer = run_answer_of(out.answer);
+}
+
+// Previews a run: the answer, the log and, in `after`, the record that `hemdroas_run` would leave.
+#[no_mangle]
+pub extern "C" fn hemdroas_preview(
+    layout: &[u32; LAYOUT],
+    commands: &[u64],
+    machine: &[u32; RECORD],
+    memory: &[u32],
+    budget: u32,
+    readings: &[u32],
+    log: &mut [u32],
+    after: &mut [u32; RECORD],
+    answer: &mut [u32; RUN_ANSWER],
+)
+    ensures { λ _. ⌜ hostPreviewed (now (answer .exit)) (now (after .exit)) (now (log .exit)) (now (machine .exit)) (now (memory .exit)) ≡ previewFor (now (layout .entry)) (now (commands .entry)) (now (machine .entry)) (now (memory .entry)) budget (now (readings .entry)) (now (log .entry)) ⌝ }
+{
+    let lay = layout_of(layout);
+    let given = *machine;
+    let m = machine_of(given);
+    let out = machine_preview::preview(lay, commands, m, memory, budget, readings, log);
+    *after = record_after(out.machine, given);
+    *answer = run_answer_of(out.answer);
+}

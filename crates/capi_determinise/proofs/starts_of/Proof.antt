@@ -1,7 +1,0 @@
-use borrow.Author.Needs.{needs}
-use Rattle.capi_determinise.proofs.Laws.{starts-held, starts-none}
-use Rattle.capi_determinise.proofs.starts_of.Statement.{statement}
-use Rattle.capi_determinise.proofs.starts_of.Tie as tie
-
-pub starts-of-spec : {M : Type 1} → statement M
-starts-of-spec = tie.close (tie.spec (λ c. search needs) (λ c. search (starts-held, needs)) (λ c. search (starts-none, needs)))

@@ -1,7 +1,0 @@
--- Every claim of this crate is proved.
-use Rattle.capi_rules.specs.Proved.{Proved}
-use Rattle.capi_rules.proofs.Samples.{sample-holds}
-use Rattle.capi_rules.proofs.Calls.{machine-back, host-isolation}
-
-pub proved : Proved
-proved = record { machineBack = machine-back; hostIsolation = host-isolation; sampleHolds = sample-holds }

@@ -1,5 +1,0 @@
-pub mod Numbers
-pub mod Hosts
-pub mod Claims
-pub mod Sample
-pub mod Proved

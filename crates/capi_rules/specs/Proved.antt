@@ -1,8 +1,0 @@
--- Every claim of this crate, a field each: its one term is `proved`, in proofs/Proved.antt.
-use Rattle.capi_rules.specs.Claims.{MachineBack, HostIsolation}
-use Rattle.capi_rules.specs.Sample.{SampleHolds}
-
-pub record Proved : Type 0 where
-  pub machineBack : MachineBack
-  pub hostIsolation : HostIsolation
-  pub sampleHolds : SampleHolds

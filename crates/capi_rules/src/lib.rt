@@ -1,1 +1,0 @@
-// What a C host holds in its numbers, layouts, records and answers, and what is claimed of its calls. Definitions and claims in specs/; no code.

@@ -1,0 +1,7 @@
+-- Every claim of this crate is proved.
+use Rattle.capi_spec.specs.Proved.{Proved}
+use Rattle.capi_spec.proofs.Samples.{sample-holds}
+use Rattle.capi_spec.proofs.Calls.{machine-back, host-isolation}
+
+pub proved : Proved
+proved = record { machineBack = machine-back; hostIsolation = host-isolation; sampleHolds = sample-holds }

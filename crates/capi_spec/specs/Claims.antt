@@ -1,0 +1,67 @@
+-- What is claimed of a C host's numbers: a record comes back as it was, and isolation reaches the calls.
+use Prim.Native.Nat.{ℕ, _+_}
+use mathlib.Core.Path.{_≡_}
+use mathlib.Core.Bool.{true}
+use mathlib.Core.List.{List, [], _∷_, map}
+use lib.ListN.{length, getD, take}
+use Rattle.types.specs.Names.{registers}
+use Rattle.spec.specs.Policies.{Policy}
+use Rattle.spec.specs.Runs.{Given, carriedOf, Lends, allRuns}
+use Rattle.spec.specs.Claims.{Isolated}
+use Rattle.capi_spec.specs.Numbers.{layoutFrom, behind, statusKnown, numbersAfter, machineFrom, machineTo}
+use Rattle.capi_spec.specs.Hosts.{checkFor, installFor, HostLoaded, loadFor, HostRan, ranTo, runFor}
+
+-- ---- a record, in numbers and back
+
+-- a record of n registers, which `from` makes of its numbers and `to` puts into numbers, comes back as it was
+pub record ComesBack {R : Type 0} (n : ℕ) (regs : R → List ℕ) (from : List ℕ → R) (to : R → List ℕ) : Type 0 where
+  -- numbers whose status is one, made into a record, are again these numbers
+  pub numbersBack : (xs : List ℕ) → length xs ≡ n + behind → statusKnown n xs ≡ true → to (from xs) ≡ xs
+  -- a record of n registers, put into numbers, is again this record
+  pub recordBack : (m : R) → length (regs m) ≡ n → from (to m) ≡ m
+  -- and its status number is a status
+  pub known : (m : R) → length (regs m) ≡ n → statusKnown n (to m) ≡ true
+  -- so a run that leaves the record as it was, as a refused one does, leaves its numbers, those too whose status is none
+  pub untouched : (xs : List ℕ) (left : R) → length xs ≡ n + behind → left ≡ from xs → numbersAfter n xs (to left) ≡ xs
+
+-- the machine's, of sixteen registers
+abbrev pub MachineBack : Type 0
+MachineBack = ComesBack registers (λ m. m .regs) machineFrom machineTo
+
+-- ---- a list of calls
+
+-- what calls leave, the first given these numbers of a record, each other as the last call left them
+unfoldable pub callsOf : (List ℕ → Given → HostRan) → List ℕ → List Given → List HostRan
+callsOf call xs [] = []
+callsOf call xs (g ∷ gs) = call xs g ∷ callsOf call (call xs g .after) gs
+
+-- a call of hemdroas_run
+abbrev pub runCall : List ℕ → List ℕ → List ℕ → Given → HostRan
+runCall lay ws xs g = runFor lay ws xs (g .memory) (g .budget) (g .readings) (g .log)
+
+-- an answer's number
+abbrev pub number : List ℕ → ℕ
+number a = getD a 0 0
+
+-- of the commands those that a load's answer counts
+abbrev pub counted : HostLoaded → List ℕ
+counted r = take (getD (r .answer) 1 0) (r .commands)
+
+-- commands, record and memory that stand ready for a first run: a list that hemdroas_check passes with 0, and what hemdroas_install leaves that
+-- answers 0, whatever memory held before, as another policy's cells; or what hemdroas_load leaves that answers 0
+pub data Prepared (lay : List ℕ) (pol : Policy) (mem : List ℕ) : List ℕ → List ℕ → List ℕ → Type 0 where
+  installed : (ws : List ℕ) → number (checkFor lay ws) ≡ 0 → number (installFor lay pol mem .answer) ≡ 0
+      → Prepared lay pol mem ws (installFor lay pol mem .machine) (installFor lay pol mem .memory)
+  loaded : (bytes out : List ℕ) → number (loadFor lay pol bytes out mem .answer) ≡ 0
+      → Prepared lay pol mem (counted (loadFor lay pol bytes out mem)) (loadFor lay pol bytes out mem .machine) (loadFor lay pol bytes out mem .memory)
+
+-- from there calls of hemdroas_run, each with the layout's numbers, these commands, the record's numbers as the last call left them and a memory
+-- that is, but for free cells, what the last call left: the calls are the runs of which demand 3 speaks, and it holds of them
+pub record CallsIsolated (lay : List ℕ) (pol : Policy) (ws xs mem : List ℕ) (gs : List Given) : Type 0 where
+  pub calls : callsOf (runCall lay ws) xs gs ≡ map (λ r. ranTo (r .ran)) (allRuns (layoutFrom lay) pol ws mem gs)
+  pub isolated : Isolated (layoutFrom lay) pol ws mem gs
+
+abbrev pub HostIsolation : Type 0
+HostIsolation =
+    (lay : List ℕ) (pol : Policy) (mem ws xs left : List ℕ) (gs : List Given) →
+    Prepared lay pol mem ws xs left → Lends (layoutFrom lay) ws (carriedOf (machineFrom xs) left [] [] 0) gs → CallsIsolated lay pol ws xs mem gs

@@ -1,0 +1,82 @@
+-- What a C host holds after a call, in its numbers.
+use Prim.Native.Nat.{ℕ}
+use mathlib.Core.List.{List}
+use lib.ListN.{length}
+use Rattle.types.specs.Names.{registers}
+use Rattle.spec.specs.Policies.{Policy}
+use Rattle.spec.specs.Bundles.{checkAnswer}
+use Rattle.spec.specs.Machines.{installAnswer, installMachine, installMemory, Ran, runOf}
+use Rattle.sandbox_spec.specs.Loading.{loadAnswer, loadMachine, loadCommands, loadMemory}
+use Rattle.capi_spec.specs.Numbers.{layoutFrom, numbersAfter, machineFrom, machineTo, answerTo, runAnswerTo}
+
+-- hemdroas_check: the answer
+unfoldable pub checkFor : List ℕ → List ℕ → List ℕ
+checkFor lay ws = answerTo (checkAnswer (layoutFrom lay) ws)
+
+-- hemdroas_install: the answer, the record, memory
+pub record HostInstalled : Type 0 where
+  pub answer : List ℕ
+  pub machine : List ℕ
+  pub memory : List ℕ
+
+abbrev pub hostInstalled : List ℕ → List ℕ → List ℕ → HostInstalled
+hostInstalled a m mem = record { answer = a; machine = m; memory = mem }
+
+unfoldable pub installFor : List ℕ → Policy → List ℕ → HostInstalled
+installFor lay pol mem =
+    let l = layoutFrom lay in
+    hostInstalled (answerTo (installAnswer l pol mem)) (machineTo (installMachine l pol mem)) (installMemory l pol mem)
+
+-- hemdroas_load: the answer, the record, the commands, memory
+pub record HostLoaded : Type 0 where
+  pub answer : List ℕ
+  pub machine : List ℕ
+  pub commands : List ℕ
+  pub memory : List ℕ
+
+abbrev pub hostLoaded : List ℕ → List ℕ → List ℕ → List ℕ → HostLoaded
+hostLoaded a m ws mem = record { answer = a; machine = m; commands = ws; memory = mem }
+
+unfoldable pub loadFor : List ℕ → Policy → List ℕ → List ℕ → List ℕ → HostLoaded
+loadFor lay pol bytes out mem =
+    let l = layoutFrom lay in
+    let room = length out in
+    hostLoaded (answerTo (loadAnswer l pol bytes room mem)) (machineTo (loadMachine l pol bytes room mem)) (loadCommands l pol bytes out mem) (loadMemory l pol bytes room mem)
+
+-- hemdroas_run and hemdroas_engine: the answer, the record after it, memory, the log
+pub record HostRan : Type 0 where
+  pub answer : List ℕ
+  pub after : List ℕ
+  pub memory : List ℕ
+  pub log : List ℕ
+
+abbrev pub hostRan : List ℕ → List ℕ → List ℕ → List ℕ → HostRan
+hostRan a x mem log = record { answer = a; after = x; memory = mem; log = log }
+
+-- what a call leaves of a run's numbers: a record of n registers whose status number is no status is as it was
+abbrev pub hostLeft : ℕ → List ℕ → HostRan → HostRan
+hostLeft n xs r = hostRan (r .answer) (numbersAfter n xs (r .after)) (r .memory) (r .log)
+
+-- what a run answers and leaves, in numbers
+abbrev pub ranTo : Ran → HostRan
+ranTo r = hostRan (runAnswerTo (r .outcome .answer)) (machineTo (r .outcome .machine)) (r .mem) (r .log)
+
+-- hemdroas_run
+unfoldable pub runFor : List ℕ → List ℕ → List ℕ → List ℕ → ℕ → List ℕ → List ℕ → HostRan
+runFor lay ws xs mem budget rd log = hostLeft registers xs (ranTo (runOf (layoutFrom lay) ws (machineFrom xs) mem budget rd log))
+
+-- hemdroas_preview: the answer, the record and the log that hemdroas_run would leave; record and memory, as they were
+pub record HostPreviewed : Type 0 where
+  pub answer : List ℕ
+  pub after : List ℕ
+  pub log : List ℕ
+  pub machine : List ℕ
+  pub memory : List ℕ
+
+abbrev pub hostPreviewed : List ℕ → List ℕ → List ℕ → List ℕ → List ℕ → HostPreviewed
+hostPreviewed a x log m mem = record { answer = a; after = x; log = log; machine = m; memory = mem }
+
+unfoldable pub previewFor : List ℕ → List ℕ → List ℕ → List ℕ → ℕ → List ℕ → List ℕ → HostPreviewed
+previewFor lay ws xs mem budget rd log =
+    let r = runFor lay ws xs mem budget rd log in
+    hostPreviewed (r .answer) (r .after) (r .log) xs mem

@@ -1,0 +1,80 @@
+-- The numbers in which a C host holds layouts and records.
+use Prim.Native.Nat.{ℕ, zero, suc, _+_}
+use mathlib.Core.Bool.{Bool, cond}
+use mathlib.Core.List.{List, [], _∷_, _++_}
+use lib.ListN.{getD, take}
+use lib.Dec.{eqb, ltb}
+use Rattle.types.specs.declared.Layout.{Layout}
+use Rattle.types.specs.declared.Machine.{Machine}
+use Rattle.types.specs.declared.Answer.{Answer}
+use Rattle.types.specs.declared.RunAnswer.{RunAnswer}
+use Rattle.types.specs.declared.Status.{Status}
+use Rattle.types.specs.declared.Status.the-variants.{Running, Ended, Stopped, Faulted, Strayed}
+use Rattle.types.specs.Names.{orders, registers, endingNumber, first}
+use Rattle.types.specs.Records.{layoutOf, machineOf}
+
+-- n numbers from place i on
+abbrev pub numbersFrom : ℕ → ℕ → List ℕ → List ℕ
+numbersFrom zero i xs = []
+numbersFrom (suc n) i xs = getD xs i 0 ∷ numbersFrom n (suc i) xs
+
+-- a layout as U, SL, SH, M, P, S, B, Q and the ceilings of events 0 to 7
+unfoldable pub layoutFrom : List ℕ → Layout
+layoutFrom xs =
+    layoutOf (getD xs 0 0) (getD xs 1 0) (getD xs 2 0) (getD xs 3 0) (getD xs 4 0) (getD xs 5 0) (getD xs 6 0) (getD xs 7 0)
+    (numbersFrom orders 8 xs)
+
+-- there are five statuses
+abbrev pub statuses : ℕ
+statuses = 5
+
+-- 0 running, 1 ended, 2 stopped, 3 faulted, 4 strayed; any other number counts as faulted
+abbrev pub statusFrom : ℕ → Status
+statusFrom x = first ((eqb x 0, Running) ∷ (eqb x 1, Ended) ∷ (eqb x 2, Stopped) ∷ (eqb x 4, Strayed) ∷ []) Faulted
+
+abbrev pub statusNumber : Status → ℕ
+statusNumber Running = 0
+statusNumber Ended = 1
+statusNumber Stopped = 2
+statusNumber Faulted = 3
+statusNumber Strayed = 4
+
+-- a record, a machine's or an engine's: its registers, and behind them two numbers, pc or index and status
+abbrev pub behind : ℕ
+behind = 2
+
+abbrev pub recordTo : List ℕ → ℕ → Status → List ℕ
+recordTo regs at t = regs ++ (at ∷ statusNumber t ∷ [])
+
+-- of one with n registers its status number, and the record that its maker makes of it
+abbrev pub statusIn : ℕ → List ℕ → ℕ
+statusIn n xs = getD xs (n + 1) 0
+
+abbrev pub recordFrom : {R : Type 0} → (List ℕ → ℕ → Status → R) → ℕ → List ℕ → R
+recordFrom make n xs = make (take n xs) (getD xs n 0) (statusFrom (statusIn n xs))
+
+-- whether its status number is a status
+abbrev pub statusKnown : ℕ → List ℕ → Bool
+statusKnown n xs = ltb (statusIn n xs) statuses
+
+-- its numbers after a run that leaves it as `left`; one whose status number is no status comes back as it was
+abbrev pub numbersAfter : ℕ → List ℕ → List ℕ → List ℕ
+numbersAfter n xs left = cond (statusKnown n xs) left xs
+
+-- the machine's
+abbrev pub machineFrom : List ℕ → Machine
+machineFrom xs = recordFrom machineOf registers xs
+
+abbrev pub machineTo : Machine → List ℕ
+machineTo m = recordTo (m .regs) (m .pc) (m .status)
+
+-- an answer as number and place; a run's as ending, steps, pairs and readings used
+abbrev pub answerTo : Answer → List ℕ
+answerTo a = a .number ∷ a .place ∷ []
+
+abbrev pub runAnswerTo : RunAnswer → List ℕ
+runAnswerTo a = endingNumber (a .ending) ∷ a .steps ∷ a .pairs ∷ a .used ∷ []
+
+-- a made policy as its answer, its states and one number more
+abbrev pub madeTo : Answer → ℕ → ℕ → List ℕ
+madeTo a states more = a .number ∷ a .place ∷ states ∷ more ∷ []

@@ -1,0 +1,58 @@
+-- A sample on the premise of HostIsolation: document 01's routine on a small drum, loaded, run in two calls with a refused one between, and run
+-- again under another policy that is installed over the first.
+use Prim.Native.Nat.{ℕ}
+use mathlib.Core.Path.{_≡_}
+use mathlib.Core.List.{List, [], _∷_, _++_, map}
+use lib.ListN.{set, replicate}
+use Rattle.types.specs.Names.{orders, topWord}
+use Rattle.spec.specs.Policies.{Policy, policyOf}
+use Rattle.spec.specs.Runs.{Given, Carried, carriedOf, afterRun, Lends}
+use Rattle.capi_spec.specs.Numbers.{layoutFrom, machineFrom}
+use Rattle.capi_spec.specs.Hosts.{HostInstalled, installFor, HostLoaded, loadFor}
+use Rattle.capi_spec.specs.Claims.{callsOf, runCall, counted, Prepared}
+
+-- U 128, SL 96, SH 127, M 0, P 16, S 2, B 32, Q 64, no limits
+abbrev pub layout : List ℕ
+layout = 128 ∷ 96 ∷ 127 ∷ 0 ∷ 16 ∷ 2 ∷ 32 ∷ 64 ∷ replicate orders topWord
+
+-- the door's event 2 goes to state 1, which has no arrow for event 0, gas; and a policy that allows everything
+abbrev pub policy : Policy
+policy = policyOf 2 0 (0 ∷ 0 ∷ 1 ∷ replicate 13 0 ++ 255 ∷ replicate 15 1) []
+
+abbrev pub other : Policy
+other = policyOf 2 1 (replicate 32 0) (3 ∷ [])
+
+-- SET r0, 70; EVENT 0; EVENT 2; EVENT 0
+abbrev pub bytes : List ℕ
+bytes = 4 ∷ 0 ∷ 33 ∷ 1 ∷ 70 ∷ 0 ∷ 0 ∷ 0 ∷ 1 ∷ 12 ∷ 33 ∷ 12 ∷ 2 ∷ 0 ∷ 0 ∷ 0 ∷ 1 ∷ 12 ∷ []
+
+abbrev pub lot : HostLoaded
+lot = loadFor layout policy bytes (replicate 40 0) (replicate 128 0)
+
+abbrev pub given : List ℕ → ℕ → Given
+given mem budget = record { memory = mem; budget = budget; readings = []; log = replicate 8 0 }
+
+-- what is carried into the first call; six steps; a memory too short; a thousand steps, before which the host wrote to the free cell 8
+abbrev pub carriedFirst : Carried
+carriedFirst = carriedOf (machineFrom (lot .machine)) (lot .memory) [] [] 0
+
+abbrev pub firstCall : Given
+firstCall = given (lot .memory) 6
+
+abbrev pub left : List ℕ
+left = afterRun (layoutFrom layout) (counted lot) carriedFirst firstCall .memory
+
+abbrev pub calls : List Given
+calls = firstCall ∷ given [] 6 ∷ given (set left 8 5) 1000 ∷ []
+
+-- the next lot: the other policy installed in what the first call left
+abbrev pub next : HostInstalled
+next = installFor layout other left
+
+pub record SampleHolds : Type 0 where
+  pub loaded : lot .answer ≡ 0 ∷ 32 ∷ []
+  pub ready : Prepared layout policy (replicate 128 0) (counted lot) (lot .machine) (lot .memory)
+  pub lends : Lends (layoutFrom layout) (counted lot) carriedFirst calls
+  pub answers : map (λ r. r .answer) (callsOf (runCall layout (counted lot)) (lot .machine) calls) ≡ (25 ∷ 6 ∷ 0 ∷ 0 ∷ []) ∷ (7 ∷ 0 ∷ 0 ∷ 0 ∷ []) ∷ (21 ∷ 8 ∷ 2 ∷ 0 ∷ []) ∷ []
+  pub again : Prepared layout other left (counted lot) (next .machine) (next .memory)
+  pub ended : map (λ r. r .answer) (callsOf (runCall layout (counted lot)) (next .machine) (given (next .memory) 1000 ∷ [])) ≡ (20 ∷ 17 ∷ 3 ∷ 0 ∷ []) ∷ []

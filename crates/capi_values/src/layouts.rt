@@ -1,0 +1,46 @@
+// A layout made of a C host's numbers.
+use buffers::stores::store_cells;
+use types::Layout;
+use types::PolicyNumbers;
+ghost use mathlib.Core.Path.{_≡_};
+ghost use Prim.Native.Nat.{_+_};
+ghost use lib.ListN.{length};
+ghost use Rattle.types.specs.Names.{orders};
+ghost use Rattle.capi_spec.specs.Numbers.{numbersFrom, layoutFrom};
+
+// How many numbers a layout has: the ceilings stand behind the others.
+const CEILINGS: usize = 8;
+
+const ORDERS: usize = PolicyNumbers::ORDERS as usize;
+
+pub const LAYOUT: usize = CEILINGS + ORDERS;
+
+// The ceilings of the orders: the numbers from a place on to the last.
+pub fn ceilings_from(xs: &[u32], at: usize) -> [u32; ORDERS]
+    requires { ⌜ length (now xs) ≡ at + orders ⌝ }
+    ensures { λ r. ⌜ r ≡ numbersFrom orders at (now (xs .entry)) ⌝ }
+{
+    let mut ceilings = [0u32; ORDERS];
+    store_cells(&mut ceilings, 0, &xs[at..]);
+    ceilings
+}
+
+// A layout.
+pub fn layout_of(xs: &[u32; LAYOUT]) -> Layout
+    ensures { λ r. ⌜ r ≡ layoutFrom (now (xs .entry)) ⌝ }
+{
+    let low = xs[1];
+    let base = xs[6];
+    let ceilings = ceilings_from(xs, CEILINGS);
+    Layout::new(
+        xs[0],
+        low,
+        xs[2],
+        xs[3],
+        xs[4],
+        xs[5],
+        base,
+        xs[7],
+        ceilings,
+    )
+}

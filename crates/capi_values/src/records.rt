@@ -1,0 +1,39 @@
+// A record, a machine's or an engine's, read from a C host's numbers and stored in them.
+use crate::statuses::STATUSES;
+use crate::statuses::status_number;
+use crate::statuses::status_of;
+use buffers::stores::store_cells;
+use types::Status;
+ghost use mathlib.Core.Path.{_≡_};
+ghost use Prim.Native.Nat.{_+_};
+ghost use lib.ListN.{length, take};
+ghost use Rattle.capi_spec.specs.Numbers.{statusFrom, behind, recordTo, statusIn, numbersAfter};
+
+// Behind its registers a record has pc or index, then its status.
+pub const BEHIND: usize = 2;
+
+// Reads a record's numbers, a machine's or an engine's: its registers into those lent, and its status.
+pub fn read_record(xs: &[u32], regs: &mut [u32]) -> Status
+    requires { ⌜ length (now xs) ≡ length (now regs) + behind ⌝ }
+    ensures registers { λ _. ⌜ now (regs .exit) ≡ take (length (now (regs .entry))) (now (xs .entry)) ⌝ }
+    ensures status { λ r. ⌜ r ≡ statusFrom (statusIn (length (now (regs .entry))) (now (xs .entry))) ⌝ }
+{
+    let n = regs.len();
+    let last = n + 1;
+    store_cells(regs, 0, &xs[..n]);
+    status_of(xs[last])
+}
+
+// Stores a record's numbers after a run. One whose status number is no status was not run, and stays as it was.
+pub fn store_record(xs: &mut [u32], regs: &[u32], at: u32, status: Status)
+    requires { ⌜ length (now xs) ≡ length (now regs) + behind ⌝ }
+    ensures { λ _. ⌜ now (xs .exit) ≡ numbersAfter (length (now (regs .entry))) (now (xs .entry)) (recordTo (now (regs .entry)) at status) ⌝ }
+{
+    let n = regs.len();
+    let last = n + 1;
+    if xs[last] < STATUSES {
+        store_cells(xs, 0, regs);
+        xs[n] = at;
+        xs[last] = status_number(status);
+    }
+}

@@ -1,0 +1,32 @@
+-- Laws of the shapes of a command and three that do nothing.
+use mathlib.Core.Path.{_≡_, ap}
+use mathlib.Core.Bool.{Bool, false, _&&_}
+use Prim.Native.Nat.{ℕ, _-_, _%_, _≤_, _<_}
+use native.Mathlib.Omega.{arith}
+use lib.Dec.{ltb, eqb}
+use borrow.Author.Tests.{eqb-true, eq-eqb, ne-eqb}
+use Rattle.types.specs.declared.Layout.{Layout}
+use Rattle.types.specs.Names.{bundleLength}
+use Rattle.spec.specs.Words.{vOf}
+use Rattle.spec.specs.Commands.{isCommand}
+use Rattle.spec.specs.Bundles.{addressOf}
+use Rattle.words.specs.Guests.{guestsOf}
+use Rattle.words.proofs.Laws.{bool-ext}
+use Rattle.checker.specs.single.Alone.{plainWords, landingOf, landsOf, goifWords}
+
+pub plain-words : (w x y z : ℕ) (p q : Bool) → p ≡ isCommand w → q ≡ guestsOf w → (p && q && eqb x 0 && eqb y 0 && eqb z 0) ≡ plainWords w x y z
+plain-words w x y z p q ep eq = rw (ep, eq)
+
+pub goif-words : (l : Layout) (n w x y z v : ℕ) (p q s : Bool) → v ≡ vOf w → p ≡ isCommand w → q ≡ guestsOf w → s ≡ landsOf l n v → (p && q && s && eqb x 0 && eqb y 0 && eqb z 0) ≡ goifWords l n w x y z
+goif-words l n w x y z v p q s ev ep eq es = rw (ep, eq, es, ev)
+
+module _ (l : Layout) (n v : ℕ) where
+  pub lands-below : v < l .base → false ≡ landsOf l n v
+  lands-below h = rw (ne-eqb v (addressOf l (landingOf l v)) (λ (e : v ≡ addressOf l (landingOf l v)). omega arith))
+
+  pub lands-is : l .base ≤ v → (eqb ((v - l .base) % bundleLength) 0 && ltb (landingOf l v) n) ≡ landsOf l n v
+  lands-is h =
+      ap (λ (t : Bool). t && ltb (landingOf l v) n)
+      (bool-ext (eqb ((v - l .base) % bundleLength) 0) (eqb v (addressOf l (landingOf l v)))
+      (λ t. let e = eqb-true ((v - l .base) % bundleLength) 0 t in eq-eqb v (addressOf l (landingOf l v)) (omega arith))
+      (λ t. let e = eqb-true v (addressOf l (landingOf l v)) t in eq-eqb ((v - l .base) % bundleLength) 0 (omega arith)))

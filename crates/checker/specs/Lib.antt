@@ -1,0 +1,4 @@
+pub mod shapes
+pub mod single
+pub mod masked_access
+pub mod event

@@ -1,0 +1,22 @@
+// The shape of an event, which looks into the policy first.
+use crate::word::HIDDEN;
+use crate::word::is_word;
+use types::Command;
+use types::PolicyNumbers;
+use words::field;
+ghost use mathlib.Core.Path.{_≡_};
+ghost use Rattle.checker.specs.event.Looked.{eventWords};
+
+const EVENTS: u64 = PolicyNumbers::EVENTS as u64;
+
+// An event: one number throughout.
+pub fn sends(w: u64, x: u64, y: u64, z: u64) -> bool
+    ensures { λ r. ⌜ r ≡ eventWords w x y z ⌝ }
+{
+    let e = field::v(w);
+    (e < EVENTS)
+        & is_word(w, Command::LOOK, HIDDEN, 0, 0, 0, e)
+        & is_word(x, Command::STOPIF, HIDDEN, 0, 0, 0, 0)
+        & is_word(y, Command::EVENT, 0, 0, 0, 0, e)
+        & is_word(z, Command::KEEP, HIDDEN, 0, 0, 0, 0)
+}

@@ -1,0 +1,46 @@
+// The shapes of LOAD and STORE, whose address the hidden register masks.
+use crate::word::HIDDEN;
+use crate::word::is_word;
+use types::Command;
+use types::Layout;
+use words::field;
+ghost use mathlib.Core.Path.{_≡_};
+ghost use Rattle.spec.specs.Bundles.{isBundle};
+ghost use Rattle.checker.specs.masked_access.Masked.{masksOf, loadOf, storeOf, accessOf};
+
+// The first two words of both: the hidden register becomes the mask of a guest register's address.
+fn masks(l: Layout, w: u64, x: u64) -> bool
+    ensures { λ r. ⌜ r ≡ masksOf l w x ⌝ }
+{
+    let a = field::a(w);
+    (a < HIDDEN)
+        & is_word(w, Command::ANDI, HIDDEN, a, 0, 0, l.high as u64)
+        & is_word(x, Command::ORI, HIDDEN, HIDDEN, 0, 0, l.low as u64)
+}
+
+// The third word of a LOAD.
+fn loads(y: u64) -> bool
+    ensures { λ r. ⌜ r ≡ loadOf y ⌝ }
+{
+    let to = field::d(y);
+    (to < HIDDEN) & is_word(y, Command::LOAD, to, HIDDEN, 0, 0, 0)
+}
+
+// The third word of a STORE.
+fn stores(y: u64) -> bool
+    ensures { λ r. ⌜ r ≡ storeOf y ⌝ }
+{
+    let from = field::b(y);
+    (from < HIDDEN) & is_word(y, Command::STORE, 0, HIDDEN, from, 0, 0)
+}
+
+// LOAD or STORE, by the third word.
+pub fn accesses(l: Layout, w: u64, x: u64, y: u64, z: u64) -> bool
+    ensures { λ r. ⌜ r ≡ isBundle l 0 (accessOf w y) w x y z ⌝ }
+{
+    let masked = masks(l, w, x);
+    if field::kind(y) == Command::LOAD {
+        return masked & loads(y) & (z == 0);
+    }
+    masked & stores(y) & (z == 0)
+}

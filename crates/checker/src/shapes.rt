@@ -1,0 +1,38 @@
+// Whether four words are a bundle of one of the known shapes.
+use crate::event::sends;
+use crate::indirect_jump::goes;
+use crate::masked_access::accesses;
+use crate::single::goes_if;
+use crate::single::halts;
+use crate::single::plain;
+use types::Command;
+use types::Layout;
+use words::field;
+ghost use mathlib.Core.Path.{_≡_};
+ghost use Prim.Native.Nat.{_≤_, _<_, _^_};
+ghost use Rattle.types.specs.Names.{mostBundles};
+ghost use Rattle.spec.specs.Bundles.{addressOf};
+ghost use Rattle.checker.specs.shapes.Sameness.{passesOf};
+
+// Whether four words are a bundle, and a HALT where no more follow: by the kind of the first. The plain ones, which are
+// most, come first.
+pub fn passes_words(l: Layout, n: usize, w: u64, x: u64, y: u64, z: u64, more: bool) -> bool
+    requires { ⌜ (0 < n) × (n ≤ mostBundles) × (addressOf l n ≤ 2 ^ 32) ⌝ }
+    ensures { λ r. ⌜ r ≡ passesOf l n w x y z more ⌝ }
+{
+    if !more {
+        return halts(w, x, y, z);
+    }
+    let kind = field::kind(w);
+    if (Command::SET <= kind) & (kind <= Command::SAR) {
+        return plain(w, x, y, z);
+    }
+    match kind {
+        Command::HALT => halts(w, x, y, z),
+        Command::ANDI => accesses(l, w, x, y, z),
+        Command::SHL => goes(l, n, w, x, y, z),
+        Command::GOIF => goes_if(l, n, w, x, y, z),
+        Command::LOOK => sends(w, x, y, z),
+        _ => false,
+    }
+}

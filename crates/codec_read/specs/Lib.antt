@@ -1,0 +1,3 @@
+pub mod bytes
+pub mod careful
+pub mod sure

@@ -1,0 +1,17 @@
+-- Parts of an instruction's bytes, as the code reads them.
+use Prim.Native.Nat.{ℕ, _+_, _/_, _%_}
+use mathlib.Core.List.{List}
+use Rattle.types.specs.declared.Fields.{Fields}
+use Rattle.spec.specs.Bytes.{byteAt, quadAt}
+
+-- the fields before b, and those that the rest m of a map announces from the place at on
+abbrev pub fieldsFrom : ℕ → List ℕ → ℕ → ℕ → ℕ → ℕ → Fields
+fieldsFrom m s at kind d a =
+    record {
+      kind = kind;
+      d = d;
+      a = a;
+      b = byteAt (m % 2) s at;
+      c = byteAt (m / 2 % 2) s (at + m % 2);
+      v = quadAt (m / 2 / 2) s (at + m % 2 + m / 2 % 2);
+    }

@@ -1,0 +1,23 @@
+// The refusals before any instruction: 7, 5, then per word 3, 2, 4, 8.
+use types::Answer;
+use types::Instr;
+use types::Layout;
+use types::Refusal;
+use words::memory::fits;
+use words::routine::judge_all;
+ghost use mathlib.Core.Path.{_≡_};
+ghost use Rattle.engine_spec.specs.Engines.{refusalBy};
+
+// The refusal of a run with these words and so many cells of memory, or 0.
+pub fn judge(layout: Layout, words: &[u64], cells: usize) -> Answer
+    ensures { λ r. ⌜ r ≡ refusalBy layout (now (words .entry)) cells ⌝ }
+{
+    let n = words.len();
+    if !fits(layout, cells) {
+        return Answer::refused(Refusal::BAD_LAYOUT);
+    }
+    if n > Instr::MOST {
+        return Answer::refused(Refusal::OVERSIZE);
+    }
+    judge_all(words, Answer::taken(0))
+}

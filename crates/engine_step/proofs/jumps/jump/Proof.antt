@@ -1,0 +1,14 @@
+use mathlib.Core.Path.{_∙_}
+use borrow.Author.Needs.{needs}
+use Rattle.engine_step.proofs.jumps.jump.Statement.{statement}
+use Rattle.engine_step.proofs.jumps.jump.Tie as tie
+
+pub jump-spec : {M : Type 1} → statement M
+jump-spec =
+    tie.close
+    (tie.spec
+    (λ c κs. search needs)
+    (λ c κs. search needs)
+    (λ c. c .land .ensures ∙ simp (← c .before .before .holds .ensures, c .before .if1 .taken))
+    (λ c κs. search needs)
+    (λ c. simp (← c .before .before .holds .ensures, c .before .if1 .left, c .add .ensures)))

@@ -1,0 +1,82 @@
+// An effect applied: the state that it leaves.
+use engine_spec::Engine;
+use machine_step::points::Point;
+use machine_step::points::ended;
+use machine_step::points::landed;
+use machine_step::points::onward;
+use machine_step::points::ordered;
+use machine_step::points::probed;
+use machine_step::points::read;
+use types::Effect;
+use types::Layout;
+ghost use mathlib.Core.Path.{_≡_};
+ghost use Prim.Native.Nat.{_<_, _^_};
+ghost use lib.ListN.{length, getD, set};
+ghost use Rattle.types.specs.Names.{guestRegisters};
+ghost use Rattle.spec.specs.Machines.{withPair};
+ghost use Rattle.engine_spec.specs.Engines.{Puts, entryAt, effectOn};
+ghost use Rattle.machine_step.specs.points.Points.{stateAt};
+
+// A register set.
+fn put(regs: &mut [u32; Engine::REGISTERS], i: usize, x: u32)
+    requires { ⌜ (i < guestRegisters) × (length (now regs) ≡ guestRegisters) ⌝ }
+    ensures { λ _. ⌜ now (regs .exit) ≡ set (now (regs .entry)) i x ⌝ }
+{
+    regs[i] = x;
+}
+
+// The state cell moves with event v.
+fn keep(layout: Layout, v: u32, memory: &mut [u32])
+    ensures { λ _. ⌜ now (memory .exit) ≡ set (now (memory .entry)) (layout .cell) (entryAt layout (now (memory .entry)) v) ⌝ }
+{
+    let x = buffers::cells::peek(memory, crate::events::entry(layout, v, memory));
+    buffers::cells::poke(memory, layout.cell as usize, x);
+}
+
+// A reading into register 0 and the log.
+fn probe(v: u32, regs: &mut [u32; Engine::REGISTERS], at: Point, readings: &[u32], log: &mut [u32])
+    requires { ⌜ (at .pairs < 2 ^ 62) × (length (now regs) ≡ guestRegisters) ⌝ }
+    ensures { λ _. ⌜ (now (regs .exit) ≡ set (now (regs .entry)) 0 (getD (now (readings .entry)) (at .used) 0)) × (now (log .exit) ≡ withPair (now (log .entry)) (at .pairs) v (getD (now (readings .entry)) (at .used) 0)) ⌝ }
+{
+    let x = read(v, at, readings, log);
+    put(regs, 0, x);
+}
+
+// The state after an effect. Words that were judged set no register that there is not, so none is tested here.
+pub fn apply(
+    e: Effect,
+    layout: Layout,
+    regs: &mut [u32; Engine::REGISTERS],
+    at: Point,
+    memory: &mut [u32],
+    readings: &[u32],
+    log: &mut [u32],
+) -> Point
+    requires { ⌜ Puts e × (at .pairs < 2 ^ 62) × (at .used < 2 ^ 63) × (length (now regs) ≡ guestRegisters) ⌝ }
+    ensures { λ r. ⌜ stateAt (now (regs .exit)) r (now (memory .exit)) (now (log .exit)) ≡ effectOn layout (now (readings .entry)) e (stateAt (now (regs .entry)) at (now (memory .entry)) (now (log .entry))) ⌝ }
+{
+    let next = onward(at);
+    match e {
+        Effect::Go(to) => landed(at, to),
+        Effect::Put(d, x) => {
+            put(regs, d, x);
+            next
+        }
+        Effect::Cell(i, x) => {
+            buffers::cells::poke(memory, i, x);
+            next
+        }
+        Effect::Order(v) => {
+            keep(layout, v, memory);
+            buffers::pairs::order(&layout.ceilings, v, regs[0], log, at.pairs);
+            ordered(at)
+        }
+        Effect::Probe(v) => {
+            keep(layout, v, memory);
+            probe(v, regs, at, readings, log);
+            probed(at)
+        }
+        Effect::End(status) => ended(at, status),
+        Effect::Wait(_) => at,
+    }
+}

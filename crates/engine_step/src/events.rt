@@ -1,0 +1,42 @@
+// What an event would do.
+use engine_spec::Engine;
+use types::Effect;
+use types::Layout;
+use types::PolicyNumbers;
+use types::Status;
+ghost use mathlib.Core.Path.{_≡_};
+ghost use Prim.Native.Nat.{_+_, _*_};
+ghost use lib.ListN.{getD};
+ghost use Rattle.types.specs.Names.{events};
+ghost use Rattle.spec.specs.Machines.{viewOf};
+ghost use Rattle.engine_spec.specs.Engines.{sendOf};
+
+// The address of the policy's entry for event v in the present state, summed without wrap.
+pub fn entry(layout: Layout, v: u32, memory: &[u32]) -> usize
+    ensures { λ r. ⌜ r ≡ layout .table + events * getD (now (memory .entry)) (layout .cell) 0 + v ⌝ }
+{
+    let state = buffers::cells::peek(memory, layout.cell as usize);
+    layout.table as usize + PolicyNumbers::EVENTS as usize * (state as usize) + v as usize
+}
+
+// An event: the fault, then the stop, then the pauses.
+pub fn send(
+    layout: Layout,
+    v: u32,
+    regs: &[u32; Engine::REGISTERS],
+    at: u32,
+    memory: &[u32],
+    free: usize,
+    left: usize,
+) -> Effect
+    ensures { λ r. ⌜ r ≡ sendOf v (viewOf (now (regs .entry)) at (now (memory .entry)) (layout .cell) (layout .table) (layout .base) (layout .landings) free left) ⌝ }
+{
+    let i = entry(layout, v, memory);
+    if i >= memory.len() {
+        return Effect::End(Status::Faulted);
+    }
+    if buffers::cells::peek(memory, i) == PolicyNumbers::NO_ARROW {
+        return Effect::End(Status::Stopped);
+    }
+    machine_step::events::event(v, free, left)
+}

@@ -1,0 +1,65 @@
+// What a jump would do: GOIF, and GOX with its landing.
+use types::Effect;
+use types::Layout;
+use types::Status;
+use words::alu;
+ghost use mathlib.Core.Path.{_≡_};
+ghost use mathlib.Core.Bool.{cond};
+ghost use Prim.Native.Nat.{_+_};
+ghost use Rattle.types.specs.declared.Effect.the-variants.{Go};
+ghost use Rattle.spec.specs.Landings.{marked};
+ghost use Rattle.spec.specs.Words.{bundlesFor};
+ghost use Rattle.spec.specs.Commands.{holdsOf};
+ghost use Rattle.spec.specs.Machines.{onward};
+ghost use Rattle.engine_spec.specs.Engines.{jumpOf};
+
+// A jump if the condition holds, else on to the next instruction.
+pub fn branch(c: u64, x: u32, y: u32, to: u32, at: u32) -> Effect
+    ensures { λ r. ⌜ r ≡ cond (holdsOf c x y) (Go to) (Go (onward at)) ⌝ }
+{
+    if alu::holds(c, x, y) {
+        return Effect::Go(to);
+    }
+    Effect::Go(alu::add(at, 1))
+}
+
+// Whether the bit of instruction j stands in the landing cells.
+fn lands(j: u32, landings: u32, memory: &[u32]) -> bool
+    ensures { λ r. ⌜ r ≡ marked (now (memory .entry)) landings j ⌝ }
+{
+    let bits = buffers::cells::peek(memory, landings as usize + (j / Layout::CELL_BITS) as usize);
+    (bits >> (j % Layout::CELL_BITS)) % 2 == 1
+}
+
+// A GOX that is taken, among the N of n words: N is a power of two, so rd modulo N is the bits below it. It goes to a landing, or stops.
+fn land(n: usize, top: u32, to: u32, landings: u32, memory: &[u32]) -> Effect
+    requires { ⌜ top + 1 ≡ bundlesFor n ⌝ }
+    ensures { λ r. ⌜ r ≡ jumpOf (now (memory .entry)) landings (bundlesFor n) to ⌝ }
+{
+    let j = to & top;
+    if lands(j, landings, memory) {
+        return Effect::Go(j);
+    }
+    Effect::End(Status::Strayed)
+}
+
+// A GOX: only one that is taken asks for its landing.
+pub fn jump(
+    c: u64,
+    x: u32,
+    y: u32,
+    to: u32,
+    at: u32,
+    n: usize,
+    top: u32,
+    landings: u32,
+    memory: &[u32],
+) -> Effect
+    requires { ⌜ top + 1 ≡ bundlesFor n ⌝ }
+    ensures { λ r. ⌜ r ≡ cond (holdsOf c x y) (jumpOf (now (memory .entry)) landings (bundlesFor n) to) (Go (onward at)) ⌝ }
+{
+    if alu::holds(c, x, y) {
+        return land(n, top, to, landings, memory);
+    }
+    Effect::Go(alu::add(at, 1))
+}

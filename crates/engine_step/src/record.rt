@@ -1,0 +1,16 @@
+// The engine's record at first, from which a host runs a routine as written.
+use engine_spec::Engine;
+use types::Status;
+ghost use mathlib.Core.Path.{_≡_};
+ghost use Rattle.engine_spec.specs.Engines.{engineFirst};
+
+// Zeros and running.
+pub fn first() -> Engine
+    ensures { λ r. ⌜ r ≡ engineFirst ⌝ }
+{
+    Engine {
+        regs: [0; Engine::REGISTERS],
+        at: 0,
+        status: Status::Running,
+    }
+}

@@ -1,0 +1,19 @@
+-- Every claim of this crate, a field each: its one term is `proved`, in proofs/Proved.antt.
+use Rattle.forward_spec.specs.Claims.{ChecksAgree, ForwardWritten, ForwardRead, Bounded, GoesOn, Finishes, FinishesIn, FinishesAtOnce, AlwaysFinish, FinishesResumed, FinishesServed}
+use Rattle.forward_spec.specs.Sample.{Answers, SampleReaches, Stepwise}
+
+pub record Proved : Type 0 where
+  pub checksAgree : ChecksAgree
+  pub forwardWritten : ForwardWritten
+  pub forwardRead : ForwardRead
+  pub bounded : Bounded
+  pub goesOn : GoesOn
+  pub finishes : Finishes
+  pub finishesIn : FinishesIn
+  pub finishesAtOnce : FinishesAtOnce
+  pub alwaysFinish : AlwaysFinish
+  pub finishesResumed : FinishesResumed
+  pub finishesServed : FinishesServed
+  pub answers : Answers
+  pub reaches : SampleReaches
+  pub stepwise : Stepwise

@@ -1,0 +1,126 @@
+-- Samples: answers of the two checks; a routine on the premises of Bounded and AlwaysFinish that pauses once and reaches the bound; one on those of
+-- FinishesResumed.
+use Prim.Native.Nat.{ℕ, _*_, _≤_}
+use mathlib.Core.Path.{_≡_}
+use mathlib.Core.Bool.{Bool, true, false, cond}
+use mathlib.Core.List.{List, [], _∷_, map}
+use lib.ListN.{length, set, replicate}
+use Rattle.types.specs.declared.Layout.{Layout}
+use Rattle.types.specs.declared.Ending.the-variants.{Done, LogFull, Spent}
+use Rattle.types.specs.Names.{answer}
+use Rattle.types.specs.Records.{layoutOf, runAnswer}
+use Rattle.samples.specs.Tray.{noLimits}
+use Rattle.spec.specs.Policies.{Policy, policyOf}
+use Rattle.spec.specs.Words.{packOf, bundlesFor}
+use Rattle.spec.specs.Bundles.{commandsOf, rewriteAnswer}
+use Rattle.spec.specs.Machines.{installMemory}
+use Rattle.spec.specs.Runs.{Given, Carried, atFirst, afterRun, Served, allRuns, Every}
+use Rattle.spec.specs.Claims.{Enough}
+use Rattle.forward_spec.specs.Forward.{forwardAnswer, checkForwardAnswer}
+use Rattle.forward_spec.specs.Claims.{mostSteps, stepsIn, ResumedAfter, paidIn}
+
+-- SET r0, 70; always to instruction v; GOX on r0; order v
+abbrev pub plain : ℕ
+plain = packOf 1 0 0 0 0 70
+
+abbrev pub goto : ℕ → ℕ
+goto v = packOf 10 0 0 0 0 v
+
+abbrev pub gox : ℕ
+gox = packOf 11 0 0 0 0 0
+
+abbrev pub order : ℕ → ℕ
+order v = packOf 12 0 0 0 0 v
+
+abbrev pub layout : Layout
+layout = layoutOf 64 8 15 0 16 1 16 32 noLimits
+
+-- words: none; a jump to n; to itself; back; back, where nothing leads; GOX; and what comes before 18, at higher places
+-- lists: of words of the class; a jump to its own bundle; the lowest of two; and what comes before 18
+pub record Answers : Type 0 where
+  pub none : forwardAnswer [] ≡ answer 0 0
+  pub end : forwardAnswer (goto 1 ∷ []) ≡ answer 0 0
+  pub self : forwardAnswer (plain ∷ goto 1 ∷ []) ≡ answer 18 1
+  pub back : forwardAnswer (plain ∷ plain ∷ goto 1 ∷ goto 4 ∷ gox ∷ []) ≡ answer 18 2
+  pub unreached : forwardAnswer (goto 2 ∷ goto 0 ∷ plain ∷ []) ≡ answer 18 1
+  pub indirect : forwardAnswer (goto 2 ∷ gox ∷ []) ≡ answer 18 1
+  pub last : forwardAnswer (gox ∷ plain ∷ goto 4 ∷ []) ≡ answer 8 2
+  pub grade : forwardAnswer (gox ∷ plain ∷ order 16 ∷ []) ≡ answer 4 2
+  pub long : forwardAnswer (replicate 1024 gox) ≡ answer 5 0
+  pub list : checkForwardAnswer layout (commandsOf layout (plain ∷ goto 2 ∷ [])) ≡ answer 0 0
+  pub listSelf : checkForwardAnswer layout (commandsOf layout (plain ∷ goto 1 ∷ [])) ≡ answer 18 1
+  pub listLowest : checkForwardAnswer layout (commandsOf layout (plain ∷ gox ∷ goto 1 ∷ [])) ≡ answer 18 1
+  pub listLayout : checkForwardAnswer (layoutOf 64 8 15 0 16 1 16 33 noLimits) (commandsOf layout (gox ∷ [])) ≡ answer 7 0
+  pub listCount : checkForwardAnswer layout (gox ∷ []) ≡ answer 12 0
+  pub listBase : checkForwardAnswer layout (commandsOf layout (gox ∷ plain ∷ plain ∷ plain ∷ [])) ≡ answer 13 0
+  pub listShape : checkForwardAnswer layout (set (commandsOf layout (gox ∷ [])) 7 1) ≡ answer 11 1
+
+-- two orders and a SET: N is 4
+abbrev pub code : List ℕ
+code = order 0 ∷ order 2 ∷ plain ∷ []
+
+abbrev pub commands : List ℕ
+commands = commandsOf layout code
+
+abbrev pub policy : Policy
+policy = policyOf 1 0 (replicate 16 0) []
+
+abbrev pub memory : List ℕ
+memory = replicate 64 0
+
+-- a log of one pair, one reading
+abbrev pub given : List ℕ → Given
+given mem = record { memory = mem; budget = 100; readings = 1800 ∷ []; log = 0 ∷ 0 ∷ [] }
+
+abbrev pub firstRun : Given
+firstRun = given (installMemory layout policy memory)
+
+abbrev pub secondRun : Given
+secondRun = given (afterRun layout commands (atFirst layout policy memory) firstRun .memory)
+
+abbrev pub runs : List Given
+runs = firstRun ∷ secondRun ∷ []
+
+pub record SampleReaches : Type 0 where
+  pub rewritten : rewriteAnswer layout code 16 ≡ answer 0 16
+  pub forward : forwardAnswer code ≡ answer 0 0
+  pub served : Served layout policy commands memory runs
+  pub resumed : Every (Enough layout) runs
+  pub paid : mostSteps 4 ≤ paidIn (allRuns layout policy commands memory runs)
+  pub answers : map (λ r. r .ran .outcome .answer) (allRuns layout policy commands memory runs) ≡ runAnswer LogFull 6 1 0 ∷ runAnswer Done 7 1 0 ∷ []
+  pub reached : stepsIn (allRuns layout policy commands memory runs) ≡ mostSteps 4
+
+-- one order: N is 2, and five steps are the most
+abbrev pub short : List ℕ
+short = order 0 ∷ []
+
+abbrev pub shortCommands : List ℕ
+shortCommands = commandsOf layout short
+
+-- runs with budgets of one, lent the memory that the last one left; where `true` stands with a free pair and a reading, else with none
+abbrev pub oneStep : List ℕ → Bool → Given
+oneStep mem b = record { memory = mem; budget = 1; readings = cond b (1800 ∷ []) []; log = cond b (0 ∷ 0 ∷ []) [] }
+
+abbrev pub oneStepEach : Carried → List Bool → List Given
+oneStepEach c [] = []
+oneStepEach c (b ∷ bs) = oneStep (c .memory) b ∷ oneStepEach (afterRun layout shortCommands c (oneStep (c .memory) b)) bs
+
+-- the third pauses and the fourth resumes it; the sixth ends, and four more come after it
+abbrev pub fourthAlone : List Bool
+fourthAlone = false ∷ false ∷ false ∷ true ∷ replicate 6 false
+
+abbrev pub stepwise : List Given
+stepwise = oneStepEach (atFirst layout policy memory) fourthAlone
+
+-- the premises of FinishesResumed
+pub record Stepwise : Type 0 where
+  pub served : Served layout policy shortCommands memory stepwise
+  pub rewritten : rewriteAnswer layout short 8 ≡ answer 0 8
+  pub forward : forwardAnswer short ≡ answer 0 0
+  pub resumed : ResumedAfter layout false (allRuns layout policy shortCommands memory stepwise)
+  pub memories : Every (λ (g : Given). length (g .memory) ≡ layout .size) stepwise
+  pub budgets : Every (λ (g : Given). 1 ≤ g .budget) stepwise
+  pub enough : 2 * mostSteps (bundlesFor (length short)) ≤ length stepwise
+  pub answers :
+      map (λ r. r .ran .outcome .answer) (allRuns layout policy shortCommands memory stepwise)
+      ≡ runAnswer Spent 1 0 0 ∷ runAnswer Spent 1 0 0 ∷ runAnswer LogFull 0 0 0 ∷ runAnswer Spent 1 1 0 ∷ runAnswer Spent 1 0 0 ∷ runAnswer Done 1 0 0 ∷ replicate 4 (runAnswer Done 0 0 0)

@@ -1,0 +1,33 @@
+// The count of a list's bundles, and the base that fits it.
+use types::Bundle;
+use types::Layout;
+ghost use mathlib.Core.Path.{_≡_};
+ghost use Rattle.spec.specs.Words.{bundlesFor};
+ghost use Rattle.spec.specs.Bundles.{countRight, baseRight};
+
+// N, the smallest power of two greater than n.
+pub fn bundles(n: u32) -> usize
+    ensures { λ r. ⌜ r ≡ bundlesFor n ⌝ }
+{
+    1usize << (32 - u32::leading_zeros(n))
+}
+
+// Whether a list of k commands is N bundles, N a power of two from 1 to 1,024.
+pub fn count_right(k: usize) -> bool
+    ensures { λ r. ⌜ r ≡ countRight k ⌝ }
+{
+    (k <= Bundle::MOST_COMMANDS)
+        & (k % Bundle::LENGTH == 0)
+        & (usize::count_ones(k / Bundle::LENGTH) == 1)
+}
+
+// Whether the base is a multiple of the length of n bundles; of no length, or one past the base, only 0 is.
+pub fn base_right(l: Layout, n: usize) -> bool
+    ensures { λ r. ⌜ r ≡ baseRight l n ⌝ }
+{
+    let base = l.base as usize;
+    if (n == 0) | (base < n) {
+        return base == 0;
+    }
+    base % (Bundle::LENGTH * n) == 0
+}

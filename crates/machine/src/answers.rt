@@ -1,0 +1,38 @@
+// What a run answers: the record that it leaves, its ending, its steps and counts.
+use machine_step::points::Point;
+use types::Ending;
+use types::Machine;
+use types::Outcome;
+use types::RunAnswer;
+ghost use mathlib.Core.Path.{_≡_};
+ghost use Rattle.spec.specs.Machines.{endingOf};
+ghost use Rattle.types.specs.Records.{machineOf, outcomeOf};
+
+// A run that ends or pauses at a point.
+pub fn finish(regs: [u32; Machine::REGISTERS], at: Point, ending: Ending, steps: u32) -> Outcome
+    ensures { λ r. ⌜ r ≡ outcomeOf (machineOf regs (at .pc) (at .status)) ending steps (at .pairs) (at .used) ⌝ }
+{
+    let status = at.status;
+    Outcome {
+        machine: Machine {
+            regs,
+            pc: at.pc,
+            status,
+        },
+        answer: RunAnswer {
+            ending,
+            steps,
+            pairs: at.pairs,
+            used: at.used,
+        },
+    }
+}
+
+// A run that no pause ended.
+pub fn over(regs: [u32; Machine::REGISTERS], at: Point, steps: u32) -> Outcome
+    ensures { λ r. ⌜ r ≡ outcomeOf (machineOf regs (at .pc) (at .status)) (endingOf (at .status)) steps (at .pairs) (at .used) ⌝ }
+{
+    let status = at.status;
+    let end = machine_step::endings::of(status);
+    finish(regs, at, end, steps)
+}

@@ -1,0 +1,82 @@
+// An effect applied: the state that it leaves.
+use crate::points::Point;
+use crate::points::ended;
+use crate::points::landed;
+use crate::points::onward;
+use crate::points::ordered;
+use crate::points::probed;
+use crate::points::read;
+use types::Effect;
+use types::Machine;
+ghost use mathlib.Core.Path.{_≡_};
+ghost use Prim.Native.Nat.{_<_, _^_};
+ghost use lib.ListN.{length, getD, set};
+ghost use Rattle.types.specs.Names.{registers};
+ghost use Rattle.spec.specs.Machines.{applyOf, withPair};
+ghost use Rattle.machine_step.specs.points.Points.{stateAt};
+
+// ---- what an effect writes
+
+// A register set; nothing where there is none of that number.
+fn put(regs: &mut [u32; Machine::REGISTERS], i: usize, x: u32)
+    requires { ⌜ length (now regs) ≡ registers ⌝ }
+    ensures { λ _. ⌜ now (regs .exit) ≡ set (now (regs .entry)) i x ⌝ }
+{
+    if i < Machine::REGISTERS {
+        regs[i] = x;
+    }
+}
+
+// ---- an effect
+
+// A reading into register 0 and the log.
+pub fn probe(
+    v: u32,
+    regs: &mut [u32; Machine::REGISTERS],
+    at: Point,
+    readings: &[u32],
+    log: &mut [u32],
+)
+    requires { ⌜ (at .pairs < 2 ^ 62) × (length (now regs) ≡ registers) ⌝ }
+    ensures { λ _. ⌜ (now (regs .exit) ≡ set (now (regs .entry)) 0 (getD (now (readings .entry)) (at .used) 0)) × (now (log .exit) ≡ withPair (now (log .entry)) (at .pairs) v (getD (now (readings .entry)) (at .used) 0)) ⌝ }
+{
+    let x = read(v, at, readings, log);
+    put(regs, 0, x);
+}
+
+// The state after an effect.
+pub fn apply(
+    ceilings: &[u32],
+    e: Effect,
+    regs: &mut [u32; Machine::REGISTERS],
+    at: Point,
+    memory: &mut [u32],
+    readings: &[u32],
+    log: &mut [u32],
+) -> Point
+    requires { ⌜ (at .pairs < 2 ^ 62) × (at .used < 2 ^ 63) × (length (now regs) ≡ registers) ⌝ }
+    ensures { λ r. ⌜ stateAt (now (regs .exit)) r (now (memory .exit)) (now (log .exit)) ≡ applyOf (now (ceilings .entry)) (now (readings .entry)) e (stateAt (now (regs .entry)) at (now (memory .entry)) (now (log .entry))) ⌝ }
+{
+    let next = onward(at);
+    match e {
+        Effect::Go(to) => landed(at, to),
+        Effect::Put(d, x) => {
+            put(regs, d, x);
+            next
+        }
+        Effect::Cell(i, x) => {
+            buffers::cells::poke(memory, i, x);
+            next
+        }
+        Effect::Order(v) => {
+            buffers::pairs::order(ceilings, v, regs[0], log, at.pairs);
+            ordered(at)
+        }
+        Effect::Probe(v) => {
+            probe(v, regs, at, readings, log);
+            probed(at)
+        }
+        Effect::End(status) => ended(at, status),
+        Effect::Wait(_) => at,
+    }
+}

@@ -1,0 +1,183 @@
+// What the word at pc would do: a pure decision, applied by the machine.
+use crate::events::event;
+use crate::events::look;
+use crate::landings::jump;
+use types::Command;
+use types::Effect;
+use types::Machine;
+use types::PolicyNumbers;
+use types::Status;
+use words::alu;
+use words::command;
+ghost use mathlib.Core.Path.{_≡_};
+ghost use mathlib.Core.Bool.{cond};
+ghost use Prim.Native.Nat.{_<_};
+ghost use lib.ListN.{length, getD};
+ghost use lib.Dec.{ltb, eqb};
+ghost use Rattle.types.specs.declared.Status.the-variants.{Stopped, Faulted};
+ghost use Rattle.types.specs.declared.Effect.the-variants.{Go, Put, Cell, End};
+ghost use Rattle.types.specs.Names.{registers, noArrow};
+ghost use Rattle.spec.specs.Commands.{commandOf, plainOf, holdsOf, fetchOf};
+ghost use Rattle.machine_step.specs.effects.Sounds.{Sized};
+ghost use Rattle.spec.specs.Machines.{onward, viewOf, effectOf};
+
+// The next pc is formed only in the arms that need it, which keeps a register free across the match.
+fn target(c: u64, x: u32, y: u32, to: u32, pc: u32) -> Effect
+    ensures { λ r. ⌜ r ≡ Go (cond (holdsOf c x y) to (onward pc)) ⌝ }
+{
+    if alu::holds(c, x, y) {
+        return Effect::Go(to);
+    }
+    Effect::Go(alu::add(pc, 1))
+}
+
+fn load(d: usize, at: u32, memory: &[u32]) -> Effect
+    ensures { λ r. ⌜ r ≡ cond (ltb at (length (now (memory .entry)))) (Put d (getD (now (memory .entry)) at 0)) (End Faulted) ⌝ }
+{
+    let i = at as usize;
+    if i < memory.len() {
+        return Effect::Put(d, memory[i]);
+    }
+    Effect::End(Status::Faulted)
+}
+
+fn store(at: u32, x: u32, memory: &[u32]) -> Effect
+    ensures { λ r. ⌜ r ≡ cond (ltb at (length (now (memory .entry)))) (Cell at x) (End Faulted) ⌝ }
+{
+    let i = at as usize;
+    if i < memory.len() {
+        return Effect::Cell(i, x);
+    }
+    Effect::End(Status::Faulted)
+}
+
+fn stop_if(x: u32, pc: u32) -> Effect
+    ensures { λ r. ⌜ r ≡ cond (eqb x noArrow) (End Stopped) (Go (onward pc)) ⌝ }
+{
+    if x == PolicyNumbers::NO_ARROW {
+        return Effect::End(Status::Stopped);
+    }
+    Effect::Go(alu::add(pc, 1))
+}
+
+// A register's number.
+fn reg(regs: &[u32; Machine::REGISTERS], i: u64) -> u32
+    requires { ⌜ i < registers ⌝ }
+    ensures { λ r. ⌜ r ≡ getD (now (regs .entry)) i 0 ⌝ }
+{
+    regs[i as usize]
+}
+
+// What a plain command puts.
+fn value(k: u64, x: u32, y: u32, v: u32) -> u32
+    ensures { λ r. ⌜ r ≡ plainOf k x y v ⌝ }
+{
+    match k {
+        Command::SET => v,
+        Command::MOVE => x,
+        Command::ADD => alu::add(x, y),
+        Command::SUB => alu::sub(x, y),
+        Command::AND => alu::and(x, y),
+        Command::OR => alu::or(x, y),
+        Command::SAR => alu::sar(x, v),
+        Command::ANDI => alu::and(x, v),
+        Command::ORI => alu::or(x, v),
+        Command::SHL => alu::shl(x, v),
+        _ => 0,
+    }
+}
+
+// What a command would do.
+fn act(
+    c: Command,
+    regs: &[u32; Machine::REGISTERS],
+    pc: u32,
+    cell: u32,
+    table: u32,
+    base: u32,
+    landings: u32,
+    memory: &[u32],
+    free: usize,
+    left: usize,
+) -> Effect
+    requires { ⌜ Sized c ⌝ }
+    ensures { λ r. ⌜ r ≡ effectOf c (viewOf (now (regs .entry)) pc (now (memory .entry)) cell table base landings free left) ⌝ }
+{
+    match c {
+        Command::Nop => Effect::Go(alu::add(pc, 1)),
+        Command::Halt => Effect::End(Status::Ended),
+        Command::Plain(k, d, a, b, v) => {
+            Effect::Put(d as usize, value(k, reg(regs, a), reg(regs, b), v as u32))
+        }
+        Command::Load(d, a) => load(d as usize, reg(regs, a), memory),
+        Command::Store(a, b) => store(reg(regs, a), reg(regs, b), memory),
+        Command::GoIf(a, b, c, v) => { target(c, reg(regs, a), reg(regs, b), v as u32, pc) }
+        Command::GoReg(d, a, b, c) => jump(
+            c,
+            reg(regs, a),
+            reg(regs, b),
+            reg(regs, d),
+            pc,
+            base,
+            landings,
+            memory,
+        ),
+        Command::Look(d, v) => look(d as usize, cell, table, v as u32, memory),
+        Command::StopIf(d) => stop_if(reg(regs, d), pc),
+        Command::Keep(d) => store(cell, reg(regs, d), memory),
+        Command::Event(v) => event(v as u32, free, left),
+        Command::Stray => Effect::End(Status::Faulted),
+    }
+}
+
+// What a word would do: it goes through the decoder.
+fn decide(
+    w: u64,
+    regs: &[u32; Machine::REGISTERS],
+    pc: u32,
+    cell: u32,
+    table: u32,
+    base: u32,
+    landings: u32,
+    memory: &[u32],
+    free: usize,
+    left: usize,
+) -> Effect
+    ensures { λ r. ⌜ r ≡ effectOf (commandOf w) (viewOf (now (regs .entry)) pc (now (memory .entry)) cell table base landings free left) ⌝ }
+{
+    let c = command::command(w);
+    act(c, regs, pc, cell, table, base, landings, memory, free, left)
+}
+
+// What the word at pc would do; the list stands at the base. A pc below it is far past the list's end.
+pub fn next_effect(
+    commands: &[u64],
+    base: u32,
+    regs: &[u32; Machine::REGISTERS],
+    pc: u32,
+    cell: u32,
+    table: u32,
+    landings: u32,
+    memory: &[u32],
+    free: usize,
+    left: usize,
+) -> Effect
+    ensures { λ r. ⌜ r ≡ effectOf (fetchOf (now (commands .entry)) base pc) (viewOf (now (regs .entry)) pc (now (memory .entry)) cell table base landings free left) ⌝ }
+{
+    let at = std::num::wrapping_sub_usize(pc as usize, base as usize);
+    if at < commands.len() {
+        return decide(
+            commands[at],
+            regs,
+            pc,
+            cell,
+            table,
+            base,
+            landings,
+            memory,
+            free,
+            left,
+        );
+    }
+    Effect::End(Status::Faulted)
+}

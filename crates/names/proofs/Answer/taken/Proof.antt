@@ -1,6 +1,0 @@
-use borrow.Author.Needs.{needs}
-use Rattle.names.proofs.Answer.taken.Statement.{statement}
-use Rattle.names.proofs.Answer.taken.Tie as tie
-
-pub taken-spec : {M : Type 1} → statement M
-taken-spec = tie.close (tie.spec (λ c. search needs))

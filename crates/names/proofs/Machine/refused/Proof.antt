@@ -1,6 +1,0 @@
-use borrow.Author.Needs.{needs}
-use Rattle.names.proofs.Machine.refused.Statement.{statement}
-use Rattle.names.proofs.Machine.refused.Tie as tie
-
-pub refused-spec : {M : Type 1} → statement M
-refused-spec = tie.close (tie.spec (λ c. search needs))

@@ -1,0 +1,13 @@
+// A bit of a map.
+ghost use mathlib.Core.Path.{_≡_};
+ghost use Prim.Native.Nat.{_<_};
+ghost use Rattle.types.specs.Names.{events};
+ghost use Rattle.policy_spec.specs.maps.Maps.{bit};
+
+// Whether a bit of a map is set.
+pub fn bit_set(map: usize, k: usize) -> bool
+    requires { ⌜ k < events ⌝ }
+    ensures { λ r. ⌜ r ≡ bit map k ⌝ }
+{
+    (map >> k) % 2 == 1
+}

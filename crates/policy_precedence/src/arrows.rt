@@ -1,0 +1,48 @@
+// The arrow of an event in a state: whether its firsts are recorded, and where it then leads.
+use buffers::cells::index_of;
+use policy_spec::precedence::NO_ARROW;
+ghost use mathlib.Core.Path.{_≡_};
+ghost use Prim.Native.Nat.{_-_, _^_, _≤_, _<_};
+ghost use lib.Bits.{bitAnd};
+ghost use lib.Count.{ones};
+ghost use Rattle.types.specs.Names.{events};
+ghost use Rattle.policy_spec.specs.precedence.Precedence.{Fit, pairsIn, statesOf, firstsIn, arrowOf};
+
+// The bit of an event in a state: how many named events are smaller.
+fn place(names: usize, e: usize) -> usize
+    requires { ⌜ e < events ⌝ }
+    ensures { λ r. ⌜ (r ≡ ones (bitAnd names (2 ^ e - 1))) × (r ≤ e) ⌝ }
+{
+    usize::count_ones(names & ((1 << e) - 1)) as usize
+}
+
+// Whether all firsts of an event are recorded in a state.
+fn firsts_recorded(names: usize, pairs: &[u8], s: usize, e: usize) -> bool
+    requires { ⌜ Fit (now pairs) names ⌝ }
+    ensures { λ r. ⌜ r ≡ firstsIn (now (pairs .entry)) s e (pairsIn (now (pairs .entry))) ⌝ }
+{
+    let mut ok = true;
+    let mut i: usize = 0;
+    while i < pairs.len() / 2 {
+        ok = ok
+            & ((index_of(pairs[2 * i + 1]) != e)
+                | policy_bits::bit_set(s, place(names, index_of(pairs[2 * i]))));
+        i += 1;
+    }
+    ok
+}
+
+// The state after an event in a state, or no arrow.
+pub fn arrow(names: usize, pairs: &[u8], s: usize, e: usize) -> usize
+    requires { ⌜ Fit (now pairs) names × (s < statesOf (now pairs)) × (e < events) ⌝ }
+    ensures { λ r. ⌜ (r ≡ arrowOf (now (pairs .entry)) s e) × (r < 256) ⌝ }
+{
+    if !policy_bits::bit_set(names, e) {
+        return s;
+    }
+    if firsts_recorded(names, pairs, s, e) {
+        s | (1 << place(names, e))
+    } else {
+        NO_ARROW
+    }
+}

@@ -1,9 +1,0 @@
--- The worked samples, by computation.
-use mathlib.Core.Path.{refl}
-use Rattle.policy_maps.specs.Maps.{every, some, count, mapWhere, bit, build}
-use Rattle.policy_precedence_rules.specs.Precedence.{namedIn, knownIn, pairsRight, firstsIn, arrowOf, turnsOf, makeAnswer, makeOf}
-use Rattle.policy_precedence_rules.specs.Claims.{Worked}
-
-pub worked : Worked
-unfolding every some count mapWhere bit build namedIn knownIn pairsRight firstsIn arrowOf turnsOf makeAnswer makeOf
-worked = record { none = refl; chain = refl; ring = refl; alone = refl; above = refl; fifth = refl; small = refl; rows = refl }

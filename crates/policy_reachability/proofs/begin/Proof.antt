@@ -1,0 +1,10 @@
+use borrow.Author.Needs.{needs}
+use Rattle.policy_reachability.proofs.begin.Statement.{statement}
+use Rattle.policy_reachability.proofs.begin.Tie as tie
+
+pub begin-spec : {M : Type 1} → statement M
+begin-spec =
+    tie.close
+    (tie.spec
+    (λ c. search needs)
+    (λ c. search needs))

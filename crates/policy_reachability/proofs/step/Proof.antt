@@ -1,0 +1,37 @@
+use native.Mathlib.Omega.{arith}
+use borrow.Author.Needs.{needs}
+use Rattle.policy_reachability.proofs.Laws.{step-none, step-known, step-new}
+use Rattle.policy_reachability.proofs.step.Statement.{statement}
+use Rattle.policy_reachability.proofs.step.Tie as tie
+
+place-requires : tie.Need-place-requires
+place-requires c κs = let sized = c .before .before .before .pre .0 in (sized .most, omega (arith, sized .most, sized .nodes))
+
+returns : tie.Need-returns
+returns c = let start = c .before in step-none (start .args .f) (start .args .k) (start .args .x) (c .if1 .taken)
+
+returns-2 : tie.Need-returns-2
+returns-2 c =
+    let start = c .before .before .before .before .before in
+    step-known (start .args .f) (start .args .k) (start .args .x) _ (start .pre .0) (c .before .before .before .before .if1 .left) (c .before .place .ensures .0) (c .if2 .taken)
+
+returns-3 : tie.Need-returns-3
+returns-3 c =
+    let start = c .before .before .before .before .before in
+    step-new (start .args .f) (start .args .k) (start .args .x) _ (start .pre .0) (c .before .before .before .before .if1 .left) (c .before .place .ensures .0) (c .if2 .left)
+
+pub step-spec : {M : Type 1} → statement M
+step-spec =
+    tie.close
+    (tie.spec
+    (λ c. search needs)
+    (λ c. search needs)
+    returns
+    place-requires
+    (λ c. search needs)
+    (λ c. search needs)
+    returns-2
+    (λ c. search needs)
+    (λ c. search needs)
+    (λ c. search needs)
+    returns-3)

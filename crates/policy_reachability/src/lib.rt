@@ -1,0 +1,82 @@
+// Exploring: the caller has a loop, in which it asks for the node whose arrow is next and says where that leads.
+pub mod writing;
+
+use policy_spec::reachability::ARROWS;
+use policy_spec::reachability::EVENTS;
+use policy_spec::reachability::Found;
+use policy_spec::reachability::MOST;
+use policy_spec::reachability::NODES;
+use types::PolicyNumbers;
+ghost use mathlib.Core.Path.{_≡_};
+ghost use Prim.Native.Nat.{_+_, _*_, _/_, _≤_, _<_};
+ghost use lib.ListN.{length, getD, take};
+ghost use Rattle.types.specs.Names.{events, mostStates};
+ghost use Rattle.policy_spec.specs.reachability.Reach.{place as placeOf};
+ghost use Rattle.policy_spec.specs.reachability.Founds.{Sized, foundAt, foundWith, moreOf};
+
+// The start alone.
+pub fn begin(start: u16) -> Found
+    ensures { λ r. ⌜ r ≡ foundAt start ⌝ }
+{
+    let mut nodes: [u16; NODES] = [0; NODES];
+    nodes[0] = start;
+    Found {
+        nodes,
+        count: 1,
+        arrows: [0; ARROWS],
+    }
+}
+
+// Whether arrow k is one of a node that was found, and these are not too many.
+pub fn more(f: Found, k: usize) -> bool
+    requires { ⌜ Sized f ⌝ }
+    ensures { λ r. ⌜ r ≡ moreOf f k ⌝ }
+{
+    (k < EVENTS * f.count) & (f.count <= MOST)
+}
+
+// The node of arrow k.
+pub fn node(f: Found, k: usize) -> u16
+    requires { ⌜ k < events * mostStates ⌝ }
+    ensures { λ r. ⌜ r ≡ getD (f .nodes) (k / events) 0 ⌝ }
+{
+    let nodes = f.nodes;
+    nodes[k / EVENTS]
+}
+
+// The place of a node among the first n; n if it is not among them.
+fn place(nodes: &[u16; NODES], n: usize, x: u16) -> usize
+    requires { ⌜ (n ≤ mostStates + 1) × (n ≤ length (now nodes)) ⌝ }
+    ensures { λ r. ⌜ (r ≡ placeOf (take n (now (nodes .entry))) x) × (r ≤ n) ⌝ }
+{
+    let mut i: usize = 0;
+    while i < n {
+        if nodes[i] == x {
+            return i;
+        }
+        i += 1;
+    }
+    n
+}
+
+// What is found when arrow k leads to x.
+pub fn step(f: Found, k: usize, x: u16) -> Found
+    requires { ⌜ Sized f × (f .count ≤ mostStates) × (k < events * mostStates) ⌝ }
+    ensures { λ r. ⌜ r ≡ foundWith f k x ⌝ }
+{
+    let mut g = f;
+    if x == 0 {
+        g.arrows[k] = PolicyNumbers::NO_ARROW as u8;
+        return g;
+    }
+    let n = f.count;
+    let nodes = f.nodes;
+    let p = place(&nodes, n, x);
+    g.arrows[k] = p as u8;
+    if p < n {
+        return g;
+    }
+    g.nodes[n] = x;
+    g.count = n + 1;
+    g
+}

@@ -1,0 +1,16 @@
+-- Every claim of this module is proved.
+use Rattle.policy_spec.specs.precedence.Proved.{Proved}
+use Rattle.policy_spec.proofs.precedence.Policies.{taken-makes, made-right}
+use Rattle.policy_spec.proofs.precedence.Orders.{allowed-in-order}
+use Rattle.policy_spec.proofs.precedence.Nevers.{never-allowed}
+use Rattle.policy_spec.proofs.precedence.Samples.{worked}
+
+pub proved : Proved
+proved =
+    record {
+      takenMakes = taken-makes;
+      madeRight = made-right;
+      allowedInOrder = allowed-in-order;
+      neverAllowed = never-allowed;
+      worked = worked;
+    }

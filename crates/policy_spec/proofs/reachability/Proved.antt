@@ -1,0 +1,12 @@
+-- Every claim of this module is proved.
+use Rattle.policy_spec.specs.reachability.Proved.{Proved}
+use Rattle.policy_spec.proofs.reachability.Reach.{nodes-exact, taken-reaches, reach-right, allowed-reaches}
+
+pub proved : Proved
+proved =
+    record {
+      nodesExact = nodes-exact;
+      takenReaches = taken-reaches;
+      reachRight = reach-right;
+      allowedReaches = allowed-reaches;
+    }

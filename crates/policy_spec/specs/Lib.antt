@@ -1,0 +1,3 @@
+pub mod maps
+pub mod precedence
+pub mod reachability

@@ -1,0 +1,80 @@
+-- What is claimed of the policy made. Each claim is a type; its proof has the claim's name in small letters, in proofs/.
+use Prim.Native.Nat.{ℕ, _<_}
+use mathlib.Core.Path.{_≡_}
+use mathlib.Core.Bool.{true}
+use mathlib.Core.List.{List, [], _∷_}
+use lib.ListN.{length, getD, take}
+use Rattle.types.specs.declared.Layout.{Layout}
+use Rattle.types.specs.Names.{events, answer}
+use Rattle.spec.specs.Policies.{allowed, rightPolicy}
+use Rattle.policy_spec.specs.maps.Maps.{bit}
+use Rattle.policy_spec.specs.precedence.Precedence.{pairsIn, firstAt, secondAt, pairsRight, statesOf, tableOf, madePolicy, neverOf, makeAnswer, madeWith, makeOf, makeTable}
+
+-- what is handed back and left with answer 0 is the policy of which the other claims speak
+pub record Makes (ps table : List ℕ) : Type 0 where
+  pub right : pairsRight ps ≡ true
+  pub states : makeOf ps (length table) .policy .states ≡ madePolicy ps .states
+  pub start : makeOf ps (length table) .policy .start ≡ madePolicy ps .start
+  pub leaves : take (makeOf ps (length table) .answer .place) (makeTable ps table) ≡ madePolicy ps .table
+  pub never : makeOf ps (length table) .never ≡ neverOf ps
+
+abbrev pub TakenMakes : Type 0
+TakenMakes = (ps table : List ℕ) → makeAnswer ps (length table) .number ≡ 0 → Makes ps table
+
+-- the policy of pairs that are not refused can be installed under a layout with as many states
+abbrev pub MadeRight : Type 0
+MadeRight = (ps : List ℕ) (lay : Layout) → pairsRight ps ≡ true → lay .states ≡ statesOf ps → rightPolicy lay (madePolicy ps) ≡ true
+
+-- an event is among the first n of a list
+pub record Among (es : List ℕ) (n e : ℕ) : Type 0 where
+  pub at : ℕ
+  pub below : at < n
+  pub is : getD es at 0 ≡ e
+
+-- each event of a list stands after all its firsts
+abbrev pub InOrder : List ℕ → List ℕ → Type 0
+InOrder ps es = (i j : ℕ) → i < length es → j < pairsIn ps → secondAt ps j ≡ getD es i 0 → Among es i (firstAt ps j)
+
+abbrev pub AreEvents : List ℕ → Type 0
+AreEvents es = (i : ℕ) → i < length es → getD es i 0 < events
+
+-- 'the second of a pair has an arrow only once the first has been recorded': the lists allowed are those in order
+pub record OrderLaws (ps es : List ℕ) : Type 0 where
+  pub ordered : allowed (madePolicy ps) es ≡ true → InOrder ps es
+  pub allows : InOrder ps es → allowed (madePolicy ps) es ≡ true
+
+abbrev pub AllowedInOrder : Type 0
+AllowedInOrder = (ps es : List ℕ) → pairsRight ps ≡ true → AreEvents es → OrderLaws ps es
+
+-- no list that the policy allows holds an event
+abbrev pub Unheard : List ℕ → ℕ → Type 0
+Unheard ps e = (es : List ℕ) → allowed (madePolicy ps) es ≡ true → Among es (length es) e → ⊥
+
+-- 'a 16-bit map of the events that no allowed word holds'
+pub record NeverLaws (ps : List ℕ) (e : ℕ) : Type 0 where
+  pub event : bit (neverOf ps) e ≡ true → e < events
+  pub unheard : bit (neverOf ps) e ≡ true → Unheard ps e
+  pub shown : e < events → Unheard ps e → bit (neverOf ps) e ≡ true
+
+abbrev pub NeverAllowed : Type 0
+NeverAllowed = (ps : List ℕ) (e : ℕ) → pairsRight ps ≡ true → NeverLaws ps e
+
+-- worked samples, with gas 0, door 2 and charge 3
+pub record Worked : Type 0 where
+  -- 'An empty list gives one state that allows everything'
+  pub none : makeOf [] 16 ≡ madeWith (answer 0 16) 1 0
+  -- 'charge before gas, gas before door'
+  pub chain : makeOf (3 ∷ 0 ∷ 0 ∷ 2 ∷ []) 128 ≡ madeWith (answer 0 128) 8 0
+  -- 'so that a ring shows at once', and what stands behind it
+  pub ring : makeOf (3 ∷ 0 ∷ 0 ∷ 3 ∷ 0 ∷ 2 ∷ []) 256 ≡ madeWith (answer 0 128) 8 13
+  -- 'without its partner', though there is no room either
+  pub alone : makeOf (3 ∷ 0 ∷ 0 ∷ []) 0 ≡ madeWith (answer 17 0) 0 0
+  pub above : makeOf (3 ∷ 16 ∷ []) 256 ≡ madeWith (answer 17 0) 0 0
+  pub fifth : makeOf (0 ∷ 1 ∷ 2 ∷ 3 ∷ 3 ∷ 4 ∷ []) 512 ≡ madeWith (answer 17 0) 0 0
+  pub small : makeOf (3 ∷ 0 ∷ 0 ∷ 2 ∷ []) 127 ≡ madeWith (answer 9 0) 0 0
+  -- gas before door: in state 1 gas is recorded, in 2 door, in 3 both
+  pub rows : tableOf (0 ∷ 2 ∷ []) ≡
+      1 ∷ 0 ∷ 255 ∷ 0 ∷ 0 ∷ 0 ∷ 0 ∷ 0 ∷ 0 ∷ 0 ∷ 0 ∷ 0 ∷ 0 ∷ 0 ∷ 0 ∷ 0 ∷
+      1 ∷ 1 ∷ 3 ∷ 1 ∷ 1 ∷ 1 ∷ 1 ∷ 1 ∷ 1 ∷ 1 ∷ 1 ∷ 1 ∷ 1 ∷ 1 ∷ 1 ∷ 1 ∷
+      3 ∷ 2 ∷ 255 ∷ 2 ∷ 2 ∷ 2 ∷ 2 ∷ 2 ∷ 2 ∷ 2 ∷ 2 ∷ 2 ∷ 2 ∷ 2 ∷ 2 ∷ 2 ∷
+      3 ∷ 3 ∷ 3 ∷ 3 ∷ 3 ∷ 3 ∷ 3 ∷ 3 ∷ 3 ∷ 3 ∷ 3 ∷ 3 ∷ 3 ∷ 3 ∷ 3 ∷ 3 ∷ []

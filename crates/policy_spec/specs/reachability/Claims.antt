@@ -1,0 +1,65 @@
+-- What is claimed of the nodes and of their policy, for every `next` that has no arrow out of 0 and for events 0 to 15 only.
+use Prim.Native.Nat.{ℕ, _+_, _*_, _<_, _≤_}
+use mathlib.Core.Path.{_≡_}
+use mathlib.Core.Bool.{true, false, not}
+use mathlib.Core.List.{List}
+use lib.ListN.{length, getD, take}
+use lib.Dec.{eqb}
+use Rattle.types.specs.declared.Layout.{Layout}
+use Rattle.types.specs.Names.{mostStates, events}
+use Rattle.spec.specs.Policies.{allowed, rightPolicy}
+use Rattle.policy_spec.specs.reachability.Reach.{met, nodes, statesOf, policyFrom, few, reachOf, reachTable, nodeAfter}
+
+pub record Arrows (next : ℕ → ℕ → ℕ) (q : ℕ) : Type 0 where
+  pub none : (e : ℕ) → next 0 e ≡ 0
+  pub above : (x e : ℕ) → events ≤ e → next x e ≡ 0
+  pub start : q ≡ 0 → ⊥
+
+-- some list of events leads to a node
+pub record Reached (next : ℕ → ℕ → ℕ) (q x : ℕ) : Type 0 where
+  pub by : List ℕ
+  pub leads : nodeAfter next q by ≡ x
+  pub node : x ≡ 0 → ⊥
+
+pub record Numbered (ns : List ℕ) (x : ℕ) : Type 0 where
+  pub number : ℕ
+  pub below : number < length ns
+  pub is : getD ns number 0 ≡ x
+
+-- more than n nodes are reached
+pub record MoreThan (n : ℕ) (next : ℕ → ℕ → ℕ) (q : ℕ) : Type 0 where
+  pub node : ℕ → ℕ
+  pub reached : (i : ℕ) → i ≤ n → Reached next q (node i)
+  pub apart : (i j : ℕ) → i ≤ n → j ≤ n → node i ≡ node j → i ≡ j
+
+-- the nodes are reached, none has two numbers, and all that are reached have one unless 15 is given
+pub record Exactly (next : ℕ → ℕ → ℕ) (q : ℕ) : Type 0 where
+  pub reached : (i : ℕ) → i < statesOf next q → Reached next q (getD (nodes next q) i 0)
+  pub once : (i j : ℕ) → i < statesOf next q → j < statesOf next q → getD (nodes next q) i 0 ≡ getD (nodes next q) j 0 → i ≡ j
+  pub all : few next q ≡ true → (x : ℕ) → Reached next q x → Numbered (nodes next q) x
+  -- '15 (.. more than 16 ..)' is given exactly then
+  pub many : few next q ≡ false → MoreThan mostStates next q
+  pub not-many : few next q ≡ true → MoreThan mostStates next q → ⊥
+  -- further arrows would meet no other
+  pub enough : few next q ≡ true → (more : ℕ) → met next q (events * mostStates + more) ≡ nodes next q
+
+abbrev pub NodesExact : Type 0
+NodesExact = (next : ℕ → ℕ → ℕ) (q : ℕ) → Arrows next q → Exactly next q
+
+-- what is handed back and left with answer 0 is that policy
+pub record Makes (next : ℕ → ℕ → ℕ) (q : ℕ) (table : List ℕ) : Type 0 where
+  pub few : few next q ≡ true
+  pub states : reachOf next q (length table) .policy .states ≡ policyFrom next q .states
+  pub start : reachOf next q (length table) .policy .start ≡ policyFrom next q .start
+  pub leaves : take (reachOf next q (length table) .answer .place) (reachTable next q table) ≡ policyFrom next q .table
+
+abbrev pub TakenReaches : Type 0
+TakenReaches = (next : ℕ → ℕ → ℕ) (q : ℕ) (table : List ℕ) → reachOf next q (length table) .answer .number ≡ 0 → Makes next q table
+
+-- the policy is right under every layout with as many states
+abbrev pub ReachRight : Type 0
+ReachRight = (next : ℕ → ℕ → ℕ) (q : ℕ) (lay : Layout) → Arrows next q → few next q ≡ true → lay .states ≡ statesOf next q → rightPolicy lay (policyFrom next q) ≡ true
+
+-- a list of events is allowed exactly if it leads to a node
+abbrev pub AllowedReaches : Type 0
+AllowedReaches = (next : ℕ → ℕ → ℕ) (q : ℕ) (es : List ℕ) → Arrows next q → few next q ≡ true → allowed (policyFrom next q) es ≡ not (eqb (nodeAfter next q es) 0)

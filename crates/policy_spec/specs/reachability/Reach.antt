@@ -1,0 +1,81 @@
+-- The nodes that events lead to from a start, numbered as first met, and the policy of their numbers; of requests 7 and 8.
+-- A node is a number above 0. `next x e` is the node after event e in node x, or 0 where there is none.
+use Prim.Native.Nat.{ℕ, zero, suc, _*_, _/_, _%_}
+use mathlib.Core.Bool.{Bool, _||_, not, cond}
+use mathlib.Core.List.{List, [], _∷_, _++_}
+use lib.ListN.{length, getD}
+use lib.Dec.{eqb, leb, ltb}
+use Rattle.types.specs.declared.Answer.{Answer}
+use Rattle.types.specs.declared.Refusal.the-variants.{TooManyStates}
+use Rattle.types.specs.Names.{mostStates, events, noArrow, refusal, ifTaken, outputOf, roomFor, first}
+use Rattle.spec.specs.Policies.{Policy, policyOf}
+use Rattle.policy_spec.specs.maps.Maps.{build}
+use Rattle.policy_spec.specs.declared.reachability.Made.{Made}
+
+-- the place at which a number first stands in a list; the list's length if it does not
+abbrev pub place : List ℕ → ℕ → ℕ
+place [] x = 0
+place (y ∷ ys) x = cond (eqb y x) 0 (suc (place ys x))
+
+abbrev pub known : List ℕ → ℕ → Bool
+known ns x = ltb (place ns x) (length ns)
+
+-- 'numbered as first met': a node that is not yet known comes behind the others
+unfoldable pub meet : List ℕ → ℕ → List ℕ
+meet ns x = cond (eqb x 0 || known ns x) ns (ns ++ (x ∷ []))
+
+-- where arrow k leads, of the nodes ns: it is that of event k % 16 in node k / 16
+abbrev pub target : (ℕ → ℕ → ℕ) → List ℕ → ℕ → ℕ
+target next ns k = next (getD ns (k / events) 0) (k % events)
+
+-- the nodes met by the first k arrows from node q, 'events taken in rising order from the lowest numbered'
+unfoldable pub met : (ℕ → ℕ → ℕ) → ℕ → ℕ → List ℕ
+met next q zero = q ∷ []
+met next q (suc k) = meet (met next q k) (target next (met next q k) k)
+
+-- all nodes, if they are not more than 16: then the arrows of 16 nodes are all arrows
+abbrev pub nodes : (ℕ → ℕ → ℕ) → ℕ → List ℕ
+nodes next q = met next q (events * mostStates)
+
+-- the state of a node in the policy, its number; no node is no arrow
+abbrev pub nodeState : List ℕ → ℕ → ℕ
+nodeState ns x = cond (eqb x 0) noArrow (place ns x)
+
+-- byte k of the table
+abbrev pub byteOf : (ℕ → ℕ → ℕ) → List ℕ → ℕ → ℕ
+byteOf next ns k = nodeState ns (target next ns k)
+
+abbrev pub statesOf : (ℕ → ℕ → ℕ) → ℕ → ℕ
+statesOf next q = length (nodes next q)
+
+unfoldable pub tableOf : (ℕ → ℕ → ℕ) → ℕ → List ℕ
+tableOf next q = build (byteOf next (nodes next q)) (events * statesOf next q)
+
+-- the policy whose states are the nodes; the start is the first met
+abbrev pub policyFrom : (ℕ → ℕ → ℕ) → ℕ → Policy
+policyFrom next q = policyOf (statesOf next q) 0 (tableOf next q) []
+
+-- not 'more than 16'
+abbrev pub few : (ℕ → ℕ → ℕ) → ℕ → Bool
+few next q = leb (statesOf next q) mostStates
+
+-- '15 .. and then 9 follow'
+unfoldable pub reachAnswer : (ℕ → ℕ → ℕ) → ℕ → ℕ → Answer
+reachAnswer next q room = first ((not (few next q), refusal TooManyStates 0) ∷ []) (roomFor room (events * statesOf next q))
+
+-- 'After a reject all else handed back is 0'
+abbrev pub madeWith : Answer → ℕ → Made
+madeWith a s = record { answer = a; policy = record { states = s; start = 0 } }
+
+-- what making answers: with its answer, the policy's numbers
+unfoldable pub reachOf : (ℕ → ℕ → ℕ) → ℕ → ℕ → Made
+reachOf next q room = let a = reachAnswer next q room in ifTaken a (madeWith a (statesOf next q)) (madeWith a 0)
+
+-- the table is written from its start
+unfoldable pub reachTable : (ℕ → ℕ → ℕ) → ℕ → List ℕ → List ℕ
+reachTable next q table = outputOf (reachAnswer next q (length table)) (tableOf next q) table
+
+-- the node after a list of events
+abbrev pub nodeAfter : (ℕ → ℕ → ℕ) → ℕ → List ℕ → ℕ
+nodeAfter next x [] = x
+nodeAfter next x (e ∷ es) = nodeAfter next (next x e) es

@@ -1,0 +1,1 @@
+// Numbers as maps of bits. Definitions in specs/; no code.

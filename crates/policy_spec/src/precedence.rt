@@ -1,0 +1,20 @@
+// This before that: a policy from pairs of events, the first of which is to be recorded before the second.
+// Here are its types; its definitions and claims are in specs/, and no code is.
+use types::Answer;
+use types::PolicyNumbers;
+
+// The most events that a list of pairs may name.
+pub const MOST_NAMED: usize = 4;
+
+// Events of one row.
+pub const EVENTS: usize = PolicyNumbers::EVENTS as usize;
+
+// The mark of no arrow.
+pub const NO_ARROW: usize = PolicyNumbers::NO_ARROW as usize;
+
+// What making a policy answers: place is the bytes written; the policy's numbers; the map of the events that no allowed word holds.
+pub struct Made {
+    pub answer: Answer,
+    pub policy: PolicyNumbers,
+    pub never: u16,
+}

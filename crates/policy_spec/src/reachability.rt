@@ -1,0 +1,29 @@
+// What can be reached: the nodes that events lead to from a start, numbered as first met, and the policy of their numbers.
+// A node is a number above 0; 0 is no node. Here are its types; its definitions and claims are in specs/, and no code is.
+use types::Answer;
+use types::Layout;
+use types::PolicyNumbers;
+
+// The most states of a policy.
+pub const MOST: usize = Layout::MOST_STATES as usize;
+
+// Events of one row.
+pub const EVENTS: usize = PolicyNumbers::EVENTS as usize;
+
+// Room for the nodes of a policy and one too many, and for the arrows of the nodes of a policy.
+pub const NODES: usize = MOST + 1;
+
+pub const ARROWS: usize = EVENTS * MOST;
+
+// The nodes found, with one place for the node that is too many, how many they are, and the numbers of those to which the arrows lead.
+pub struct Found {
+    pub nodes: [u16; NODES],
+    pub count: usize,
+    pub arrows: [u8; ARROWS],
+}
+
+// What making a policy answers: place is the bytes written; the policy's numbers.
+pub struct Made {
+    pub answer: Answer,
+    pub policy: PolicyNumbers,
+}

@@ -1,0 +1,6 @@
+-- Every claim of this crate is proved.
+use Rattle.sandbox_spec.specs.Proved.{Proved}
+use Rattle.sandbox_spec.proofs.Loading.{loads}
+
+pub proved : Proved
+proved = record { loads = loads }

@@ -1,0 +1,34 @@
+-- What is claimed of loading.
+use Prim.Native.Nat.{ℕ}
+use mathlib.Core.Path.{_≡_}
+use mathlib.Core.List.{List, []}
+use lib.ListN.{length, take}
+use Rattle.types.specs.declared.Layout.{Layout}
+use Rattle.spec.specs.Policies.{Policy}
+use Rattle.spec.specs.Bytes.{wordsIn}
+use Rattle.spec.specs.Bundles.{commandsOf, rewriteAnswer, checkAnswer}
+use Rattle.spec.specs.Machines.{installAnswer}
+use Rattle.spec.specs.Runs.{Given, Carried, carriedOf, atFirst, Lends}
+use Rattle.spec.specs.Claims.{Isolated}
+use Rattle.sandbox_spec.specs.Loading.{loadAnswer, loadCommands, loadMemory, loadMachine}
+
+-- what is carried into the first run after a load
+abbrev pub loadedAt : Layout → Policy → List ℕ → ℕ → List ℕ → Carried
+loadedAt lay pol bytes room mem = carriedOf (loadMachine lay pol bytes room mem) (loadMemory lay pol bytes room mem) [] [] 0
+
+-- what a load that answers 0 leaves is on demand 3's premise: its commands, the first that the answer counts, are those that the rewriter gives
+-- and the checker passes; record and memory are an installation's. So every list of runs from there is isolated, if each is lent, but for free cells,
+-- what the load or the last run left
+pub record Loaded (lay : Layout) (pol : Policy) (bytes out mem ws : List ℕ) : Type 0 where
+  pub rewritten : rewriteAnswer lay (wordsIn bytes) (length out) .number ≡ 0
+  pub commands : ws ≡ commandsOf lay (wordsIn bytes)
+  pub passed : checkAnswer lay ws .number ≡ 0
+  pub installed : installAnswer lay pol mem .number ≡ 0
+  pub first : loadedAt lay pol bytes (length out) mem ≡ atFirst lay pol mem
+  pub isolated : (gs : List Given) → Lends lay ws (loadedAt lay pol bytes (length out) mem) gs → Isolated lay pol ws mem gs
+
+abbrev pub Loads : Type 0
+Loads =
+    (lay : Layout) (pol : Policy) (bytes out mem : List ℕ) →
+    let a = loadAnswer lay pol bytes (length out) mem in
+    a .number ≡ 0 → Loaded lay pol bytes out mem (take (a .place) (loadCommands lay pol bytes out mem))

@@ -1,0 +1,135 @@
+-- A routine's bytes: what reading and writing answer and leave.
+use Rattle.spec.specs.Kit.{ℕ, zero, suc, _+_, _*_, _/_, _%_, min, not, cond, List, [], _∷_, _++_, length, getD, drop, ltb, eqb}
+use Rattle.spec.specs.Types.{Fields, Answer, One, Word, RefusedWith, Taken, Short, Foreign, Oversize, Trailing, SmallOutput}
+use Rattle.types.specs.Names.{mostInstructions, numberOf, answer, refusal, outputOf, roomFor, first}
+use Rattle.spec.specs.Words.{judgeOf, judgeWord, firstRefused, fieldsOf, packFields}
+
+-- 1 of a number that is not 0
+abbrev pub bitOf : ℕ → ℕ
+bitOf x = min x 1
+
+-- 'a map byte: bit 0 kind, 1 d, 2 a, 3 b, 4 c, 5 v'; 'a field that is 0 is absent'
+abbrev pub mapOf : Fields → ℕ
+mapOf f = bitOf (f .kind) + 2 * bitOf (f .d) + 4 * bitOf (f .a) + 8 * bitOf (f .b) + 16 * bitOf (f .c) + 32 * bitOf (f .v)
+
+-- how many bytes an instruction of the map m takes: the map, one for each field, four for v
+abbrev pub sizeOf : ℕ → ℕ
+sizeOf m = 1 + m % 2 + m / 2 % 2 + m / 2 / 2 % 2 + m / 2 / 2 / 2 % 2 + m / 2 / 2 / 2 / 2 % 2 + 4 * (m / 2 / 2 / 2 / 2 / 2)
+
+-- ---- reading
+
+-- a field of one byte, and v in four, low first; 'An absent field is 0'
+unfoldable pub byteAt : ℕ → List ℕ → ℕ → ℕ
+byteAt bit s at = cond (eqb bit 0) 0 (getD s at 0)
+
+unfoldable pub quadAt : ℕ → List ℕ → ℕ → ℕ
+quadAt bit s at =
+    cond (eqb bit 0) 0
+    (getD s at 0 + 256 * getD s (at + 1) 0 + 65536 * getD s (at + 2) 0 + 16777216 * getD s (at + 3) 0)
+
+-- 'Then only the fields whose bit stands, in that order'
+unfoldable pub fieldsAt : ℕ → List ℕ → Fields
+fieldsAt m s =
+    record {
+      kind = byteAt (m % 2) s 1;
+      d = byteAt (m / 2 % 2) s (1 + m % 2);
+      a = byteAt (m / 2 / 2 % 2) s (1 + m % 2 + m / 2 % 2);
+      b = byteAt (m / 2 / 2 / 2 % 2) s (1 + m % 2 + m / 2 % 2 + m / 2 / 2 % 2);
+      c = byteAt (m / 2 / 2 / 2 / 2 % 2) s (1 + m % 2 + m / 2 % 2 + m / 2 / 2 % 2 + m / 2 / 2 / 2 % 2);
+      v = quadAt (m / 2 / 2 / 2 / 2 / 2) s (1 + m % 2 + m / 2 % 2 + m / 2 / 2 % 2 + m / 2 / 2 / 2 % 2 + m / 2 / 2 / 2 / 2 % 2);
+    }
+
+-- an instruction, or its refusal x
+abbrev pub orRefused : ℕ → One → One
+orRefused x o = cond (eqb x 0) o (RefusedWith x)
+
+-- 3, 2, 4; a present field that is 0, which is foreign, makes the map another than the fields'
+unfoldable pub oneFields : ℕ → Fields → One
+oneFields m f = orRefused (judgeOf (not (eqb m (mapOf f))) f) (Word (packFields f) (sizeOf m))
+
+-- map 2, then 1
+unfoldable pub oneMap : ℕ → List ℕ → One
+oneMap m s =
+    cond (ltb 63 m) (RefusedWith (numberOf Foreign))
+    (cond (ltb (length s) (sizeOf m)) (RefusedWith (numberOf Short)) (oneFields m (fieldsAt m s)))
+
+-- the instruction at the front of s; a missing map byte is 1
+unfoldable pub oneOf : List ℕ → One
+oneOf s = cond (eqb (length s) 0) (RefusedWith (numberOf Short)) (oneMap (getD s 0 0) s)
+
+-- the answer for what follows an instruction's bytes, or the instruction's own refusal at place i
+abbrev pub thenAnswer : One → ℕ → (ℕ → Answer) → Answer
+thenAnswer (Word w u) i go = go u
+thenAnswer (RefusedWith x) i go = answer x i
+
+-- n instructions from s on, the first of them at place i, then 6
+unfoldable pub scanOf : ℕ → ℕ → List ℕ → Answer
+scanOf zero i s = cond (eqb (length s) 0) (answer (numberOf Taken) i) (refusal Trailing 0)
+scanOf (suc n) i s = thenAnswer (oneOf s) i (λ u. scanOf n (i + 1) (drop u s))
+
+-- an instruction's word and the words of what follows its bytes, or none where it is refused
+abbrev pub thenWords : One → (ℕ → List ℕ) → List ℕ
+thenWords (Word w u) go = w ∷ go u
+thenWords (RefusedWith x) go = []
+
+-- the words of n instructions from s on
+unfoldable pub wordsOf : ℕ → List ℕ → List ℕ
+wordsOf zero s = []
+wordsOf (suc n) s = thenWords (oneOf s) (λ u. wordsOf n (drop u s))
+
+-- 'n in two bytes, low first'
+abbrev pub countOf : List ℕ → ℕ
+countOf s = getD s 0 0 + 256 * getD s 1 0
+
+-- the words of a routine's bytes
+abbrev pub wordsIn : List ℕ → List ℕ
+wordsIn s = wordsOf (countOf s) (drop 2 s)
+
+-- 'Reading: 1 for the count, 5, 9; per instruction map 2, 1, 3, 2, 4; then 6'; room is the output's length
+unfoldable pub readAnswer : List ℕ → ℕ → Answer
+readAnswer s room =
+    first
+    ((ltb (length s) 2, refusal Short 0)
+    ∷ (ltb mostInstructions (countOf s), refusal Oversize 0)
+    ∷ (ltb room (countOf s), refusal SmallOutput 0)
+    ∷ [])
+    (scanOf (countOf s) 0 (drop 2 s))
+
+-- what the output holds after reading
+unfoldable pub readOutput : List ℕ → List ℕ → List ℕ
+readOutput s out = outputOf (readAnswer s (length out)) (wordsIn s) out
+
+-- ---- writing
+
+unfoldable pub byteOut : ℕ → List ℕ
+byteOut x = cond (eqb x 0) [] (x ∷ [])
+
+unfoldable pub quadOut : ℕ → List ℕ
+quadOut v = cond (eqb v 0) [] (v % 256 ∷ v / 256 % 256 ∷ v / 256 / 256 % 256 ∷ v / 256 / 256 / 256 % 256 ∷ [])
+
+unfoldable pub regsOut : Fields → List ℕ
+regsOut f = (byteOut (f .d) ++ byteOut (f .a)) ++ (byteOut (f .b) ++ byteOut (f .c))
+
+unfoldable pub fieldsOut : Fields → List ℕ
+fieldsOut f = mapOf f ∷ (byteOut (f .kind) ++ (regsOut f ++ quadOut (f .v)))
+
+-- the bytes of a word, and of a list of words
+abbrev pub oneOut : ℕ → List ℕ
+oneOut w = fieldsOut (fieldsOf w)
+
+unfoldable pub bytesOf : List ℕ → List ℕ
+bytesOf [] = []
+bytesOf (w ∷ ws) = oneOut w ++ bytesOf ws
+
+-- the bytes of a routine: 'n in two bytes, low first, then n instructions'
+unfoldable pub routineOf : List ℕ → List ℕ
+routineOf ws = length ws % 256 ∷ length ws / 256 ∷ bytesOf ws
+
+-- 'Writing: 5; per word 3, 2, 4; then 9'
+unfoldable pub writeAnswer : List ℕ → ℕ → Answer
+writeAnswer ws room =
+    cond (ltb mostInstructions (length ws)) (refusal Oversize 0) (firstRefused judgeWord ws 0 (roomFor room (length (routineOf ws))))
+
+-- what the output holds after writing
+unfoldable pub writeOutput : List ℕ → List ℕ → List ℕ
+writeOutput ws out = outputOf (writeAnswer ws (length out)) (routineOf ws) out

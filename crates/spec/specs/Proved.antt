@@ -1,0 +1,30 @@
+-- Every claim of this crate, a field each: its one term is `proved`, in proofs/Proved.antt.
+use Rattle.spec.specs.Claims.{Masks, Landings, Installs, Sizes, Signs, WordsBack, BytesBack, RewriteLeaves, RewrittenPasses, PassedRewrites, Shapes, Checks, PassedDecodes, Endings, Splits, Cuts, GuestRule, Resumes, Progress, Recorded, Ceilings, Isolation, NoWrap, StateCell, PausedWaits, PauseRule}
+
+pub record Proved : Type 0 where
+  pub masks : Masks
+  pub landings : Landings
+  pub installs : Installs
+  pub sizes : Sizes
+  pub signs : Signs
+  pub wordsBack : WordsBack
+  pub bytesBack : BytesBack
+  pub rewriteLeaves : RewriteLeaves
+  pub rewrittenPasses : RewrittenPasses
+  pub passedRewrites : PassedRewrites
+  pub shapes : Shapes
+  pub checks : Checks
+  pub passedDecodes : PassedDecodes
+  pub endings : Endings
+  pub splits : Splits
+  pub cuts : Cuts
+  pub guestRule : GuestRule
+  pub resumes : Resumes
+  pub progress : Progress
+  pub recorded : Recorded
+  pub ceilings : Ceilings
+  pub isolation : Isolation
+  pub noWrap : NoWrap
+  pub stateCell : StateCell
+  pub pausedWaits : PausedWaits
+  pub pauseRule : PauseRule

@@ -1,0 +1,10 @@
+-- The guest's registers in a word.
+use Prim.Native.Nat.{ℕ}
+use mathlib.Core.Bool.{Bool, _&&_}
+use lib.Dec.{ltb}
+use Rattle.types.specs.Names.{guestRegisters}
+use Rattle.spec.specs.Words.{dOf, aOf, bOf}
+
+-- no register field of a word names the hidden register
+abbrev pub guestsOf : ℕ → Bool
+guestsOf w = ltb (dOf w) guestRegisters && ltb (aOf w) guestRegisters && ltb (bOf w) guestRegisters

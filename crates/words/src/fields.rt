@@ -1,0 +1,72 @@
+// The fields of a word: taken apart, packed, and the instruction that they stand for; and the bits that no word of a kind has.
+pub mod field;
+
+use types::Fields;
+use types::Instr;
+ghost use mathlib.Core.Path.{_≡_};
+ghost use Rattle.spec.specs.Words.{fieldsOf, packFields, instrOf};
+ghost use Rattle.words.specs.fields.Cut.{cutOf, cutWord};
+ghost use Rattle.words.specs.fields.Guests.{guestsOf};
+
+pub fn fields(w: u64) -> Fields
+    ensures { λ r. ⌜ r ≡ fieldsOf w ⌝ }
+{
+    Fields {
+        kind: field::kind(w),
+        d: field::d(w),
+        a: field::a(w),
+        b: field::b(w),
+        c: field::c(w),
+        v: field::v(w),
+    }
+}
+
+// The word of six fields, each cut to its width.
+pub fn word(kind: u64, d: u64, a: u64, b: u64, c: u64, v: u64) -> u64
+    ensures { λ r. ⌜ r ≡ cutWord kind d a b c v ⌝ }
+{
+    kind % field::BYTE
+        + ((d % field::FOUR_BITS) << field::AT_D)
+        + ((a % field::FOUR_BITS) << field::AT_A)
+        + ((b % field::FOUR_BITS) << field::AT_B)
+        + ((c % field::FOUR_BITS) << field::AT_C)
+        + ((v % field::NUMBER) << field::AT_V)
+}
+
+pub fn pack(f: Fields) -> u64
+    ensures { λ r. ⌜ r ≡ packFields (cutOf f) ⌝ }
+{
+    word(f.kind, f.d, f.a, f.b, f.c, f.v)
+}
+
+// The lowest bit of each register field.
+const LOWEST: u64 = (1 << field::AT_D) + (1 << field::AT_A) + (1 << field::AT_B);
+
+// Whether no register field of a word names the hidden register, all of whose four bits stand: one test for the three.
+pub fn guests(w: u64) -> bool
+    ensures { λ r. ⌜ r ≡ guestsOf w ⌝ }
+{
+    let pairs = w & (w >> 1);
+    (pairs & (pairs >> 2)) & LOWEST == 0
+}
+
+// By its kind.
+pub fn instruction(w: u64) -> Instr
+    ensures { λ r. ⌜ r ≡ instrOf w ⌝ }
+{
+    let kind = field::kind(w);
+    let d = field::d(w);
+    let a = field::a(w);
+    let b = field::b(w);
+    let c = field::c(w);
+    let v = field::v(w);
+    match kind {
+        Instr::KIND_HALT => Instr::HALT,
+        Instr::KIND_SET..=Instr::KIND_SAR => Instr::PLAIN(kind, d, a, b, v),
+        Instr::KIND_LOAD => Instr::LOAD(d, a),
+        Instr::KIND_STORE => Instr::STORE(a, b),
+        Instr::KIND_GOIF => Instr::GOIF(a, b, c, v),
+        Instr::KIND_GOX => Instr::GOX(d, a, b, c),
+        _ => Instr::EVENT(v),
+    }
+}

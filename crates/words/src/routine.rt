@@ -1,0 +1,44 @@
+// The first refusal of a guest word among others, and the first among the words of a routine.
+use crate::fields::field;
+use crate::guest::by_fields;
+use crate::guest::clean;
+use types::Answer;
+use types::Instr;
+use types::Refusal;
+ghost use mathlib.Core.Path.{_≡_};
+ghost use lib.ListN.{length};
+ghost use Rattle.spec.specs.Words.{judgeAt, firstRefused};
+
+// The first refusal of a word among n instructions, 3, 2, 4 or 8, or 0.
+pub fn judge_at(n: usize, w: u64) -> u8
+    ensures { λ r. ⌜ r ≡ judgeAt n w ⌝ }
+{
+    let landing_bad = (field::kind(w) == Instr::KIND_GOIF) & ((n as u64) < field::v(w));
+    if clean(w) & !landing_bad {
+        return Refusal::TAKEN;
+    }
+    let number = by_fields(w);
+    if number != Refusal::TAKEN {
+        return number;
+    }
+    if landing_bad {
+        return Refusal::BAD_LANDING;
+    }
+    Refusal::TAKEN
+}
+
+// The first refusal among the words, or what is answered where there is none.
+pub fn judge_all(words: &[u64], taken: Answer) -> Answer
+    ensures { λ r. ⌜ r ≡ firstRefused (judgeAt (length (now (words .entry)))) (now (words .entry)) 0 taken ⌝ }
+{
+    let n = words.len();
+    let mut i: usize = 0;
+    while i < n {
+        let number = judge_at(n, words[i]);
+        if number != Refusal::TAKEN {
+            return Answer::refused_at(number, i);
+        }
+        i += 1;
+    }
+    taken
+}

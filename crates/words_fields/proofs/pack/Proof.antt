@@ -1,6 +1,0 @@
-use borrow.Author.Needs.{needs}
-use Rattle.words_fields.proofs.pack.Statement.{statement}
-use Rattle.words_fields.proofs.pack.Tie as tie
-
-pub pack-spec : {M : Type 1} → statement M
-pack-spec = tie.close (tie.spec (λ c κs. search needs) (λ c. search needs))

@@ -1,6 +1,0 @@
-use borrow.Author.Needs.{needs}
-use Rattle.words_layout.proofs.fits.Statement.{statement}
-use Rattle.words_layout.proofs.fits.Tie as tie
-
-pub fits-spec : {M : Type 1} → statement M
-fits-spec = tie.close (tie.spec (λ c κs. search needs) (λ c. search needs) (λ c. rw (c .before .right .ensures)))

@@ -1,2 +1,0 @@
-// The pairs of a log.
-pub mod pairs;
