@@ -5,7 +5,7 @@ ghost use Rattle.spec.specs.Layouts.{limited as limitedOf};
 ghost use Rattle.spec.specs.Machines.{withPair};
 
 // Pair n.
-pub fn put(log: &mut [u32], n: usize, e: u32, x: u32)
+pub fn write_pair(log: &mut [u32], n: usize, e: u32, x: u32)
     requires { ⌜ n < 2 ^ 62 ⌝ }
     ensures { λ _. ⌜ now (log .exit) ≡ withPair (now (log .entry)) n e x ⌝ }
 {
@@ -31,5 +31,5 @@ pub fn order(ceilings: &[u32], v: u32, x: u32, log: &mut [u32], n: usize)
     ensures { λ _. ⌜ now (log .exit) ≡ withPair (now (log .entry)) n v (limitedOf (now (ceilings .entry)) v x) ⌝ }
 {
     let y = limited(ceilings, v, x);
-    put(log, n, v, y);
+    write_pair(log, n, v, y);
 }

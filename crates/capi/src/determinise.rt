@@ -9,7 +9,7 @@ ghost use Rattle.capi.specs.determinise.Numbers.{startsFrom, policyTo};
 // A map of 16 states is below it.
 const MAPS: u32 = 65536;
 
-// A map of starts; one that has a bit above 15 is none, since 16 refuses both.
+// A map of starts; one that has a bit above 15 is none, since both are refused with 16 (bad drawing).
 fn starts_of(map: u32) -> u16
     ensures { λ r. ⌜ r ≡ startsFrom map ⌝ }
 {

@@ -1,7 +1,7 @@
 // The engine over a C host's numbers, for the C interface: record and answer as arrays of u32.
 use capi_values::layouts::LAYOUT;
 use capi_values::layouts::layout_of;
-use capi_values::records::BEHIND;
+use capi_values::records::TRAILER;
 use capi_values::records::read_record;
 use capi_values::records::store_record;
 use engine_spec::Engine;
@@ -11,11 +11,11 @@ ghost use mathlib.Core.List.{[], _∷_};
 ghost use Prim.Native.Nat.{_<_, _^_};
 ghost use Rattle.types.specs.Names.{guestRegisters};
 ghost use Rattle.capi_spec.specs.Numbers.{numbersAfter};
-ghost use Rattle.capi_spec.specs.Hosts.{hostRan};
+ghost use Rattle.capi_spec.specs.Hosts.{hostResult};
 ghost use Rattle.capi_spec.specs.engine.Records.{engineFrom, engineTo, engineFor};
 
 // How many numbers a record and an answer have.
-pub const RECORD: usize = Engine::REGISTERS + BEHIND;
+pub const RECORD: usize = Engine::REGISTERS + TRAILER;
 
 pub const ANSWER: usize = 5;
 
@@ -66,7 +66,7 @@ pub extern "C" fn hemdroas_engine(
     log: &mut [u32],
     answer: &mut [u32; ANSWER],
 )
-    ensures { λ _. ⌜ hostRan (now (answer .exit)) (now (engine .exit)) (now (memory .exit)) (now (log .exit)) ≡ engineFor (now (layout .entry)) (now (words .entry)) (now (engine .entry)) (now (memory .entry)) budget (now (readings .entry)) (now (log .entry)) ⌝ }
+    ensures { λ _. ⌜ hostResult (now (answer .exit)) (now (engine .exit)) (now (memory .exit)) (now (log .exit)) ≡ engineFor (now (layout .entry)) (now (words .entry)) (now (engine .entry)) (now (memory .entry)) budget (now (readings .entry)) (now (log .entry)) ⌝ }
 {
     let lay = layout_of(layout);
     let given = *engine;

@@ -13,5 +13,5 @@ pub extern "C" fn hemdroas_precedence(pairs: &[u8], table: &mut [u8], made: &mut
     ensures table { λ _. ⌜ now (table .exit) ≡ makeTable (now (pairs .entry)) (now (table .entry)) ⌝ }
 {
     let m = policy_precedence::make(pairs, table);
-    *made = made_of(m.answer, m.policy.states, m.never as u32);
+    *made = made_of(m.answer, m.policy.states, m.unreachable as u32);
 }

@@ -7,7 +7,7 @@ use capi_values::machines::RECORD;
 use capi_values::machines::machine_of;
 use capi_values::machines::record_after;
 ghost use mathlib.Core.Path.{_≡_};
-ghost use Rattle.capi_spec.specs.Hosts.{hostRan, runFor, hostPreviewed, previewFor};
+ghost use Rattle.capi_spec.specs.Hosts.{hostResult, runFor, hostPreviewed, previewFor};
 
 // Runs a record; one that is refused comes back as it was.
 #[no_mangle]
@@ -21,7 +21,7 @@ pub extern "C" fn hemdroas_run(
     log: &mut [u32],
     answer: &mut [u32; RUN_ANSWER],
 )
-    ensures { λ _. ⌜ hostRan (now (answer .exit)) (now (machine .exit)) (now (memory .exit)) (now (log .exit)) ≡ runFor (now (layout .entry)) (now (commands .entry)) (now (machine .entry)) (now (memory .entry)) budget (now (readings .entry)) (now (log .entry)) ⌝ }
+    ensures { λ _. ⌜ hostResult (now (answer .exit)) (now (machine .exit)) (now (memory .exit)) (now (log .exit)) ≡ runFor (now (layout .entry)) (now (commands .entry)) (now (machine .entry)) (now (memory .entry)) budget (now (readings .entry)) (now (log .entry)) ⌝ }
 {
     let lay = layout_of(layout);
     let given = *machine;

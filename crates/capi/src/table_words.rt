@@ -1,4 +1,4 @@
-// Four bytes of a policy's table, judged as one word for a C host.
+// Four bytes of a policy's table, tested as one word for a C host.
 ghost use mathlib.Core.Path.{_≡_};
 ghost use Rattle.installer.specs.table_words.Words.{wordRight};
 ghost use Rattle.capi.specs.table_words.Hosts.{yesOrNo};

@@ -12,9 +12,9 @@ use lib.Seq.{drop-cons, take-all, take-at, getD-at, getD-append-add}
 use Rattle.types.specs.declared.Status.{Status}
 use Rattle.types.specs.declared.Status.the-variants.{Running, Ended, Stopped, Faulted, Strayed}
 use Rattle.spec.proofs.Bools.{cond-ind}
-use Rattle.capi_spec.specs.Numbers.{numbersFrom, statuses, statusFrom, statusNumber, behind, recordTo, statusIn, recordFrom, statusKnown, numbersAfter}
-use Rattle.capi_spec.specs.Hosts.{HostRan, hostRan, hostLeft}
-use Rattle.capi_spec.specs.Claims.{ComesBack}
+use Rattle.capi_spec.specs.Numbers.{numbersFrom, statuses, statusFrom, statusNumber, trailer, recordTo, statusIn, recordFrom, statusKnown, numbersAfter}
+use Rattle.capi_spec.specs.Hosts.{HostResult, hostResult, hostAfter}
+use Rattle.capi_spec.specs.Claims.{RoundTrips}
 
 -- ---- arrays
 
@@ -48,8 +48,8 @@ number-known Strayed = refl
 
 -- ---- records of n registers
 
-pub last-two : (n : ℕ) (xs : List ℕ) → length xs ≡ n + behind → drop n xs ≡ getD xs n 0 ∷ statusIn n xs ∷ []
-last-two n xs l = sym (take-all behind (drop n xs) (simp length-drop (omega arith))) ∙ spelt behind n xs (omega arith) ∙ rw add-one
+pub last-two : (n : ℕ) (xs : List ℕ) → length xs ≡ n + trailer → drop n xs ≡ getD xs n 0 ∷ statusIn n xs ∷ []
+last-two n xs l = sym (take-all trailer (drop n xs) (simp length-drop (omega arith))) ∙ spelt trailer n xs (omega arith) ∙ rw add-one
 
 -- of a record with n registers
 module _ (n : ℕ) (xs regs : List ℕ) where
@@ -61,11 +61,11 @@ module _ (n : ℕ) (xs regs : List ℕ) where
 
 module _ (n : ℕ) (xs : List ℕ) where
   -- numbers whose status is one are those of the record that they stand for
-  numbers-back : length xs ≡ n + behind → statusKnown n xs ≡ true → recordFrom recordTo n xs ≡ xs
+  numbers-back : length xs ≡ n + trailer → statusKnown n xs ≡ true → recordFrom recordTo n xs ≡ xs
   numbers-back l h = rw (status-back _ (ltb-true _ _ h), ← last-two n xs l) (take-append-drop n xs)
 
   -- so a run that leaves the record leaves its numbers
-  untouched : length xs ≡ n + behind → numbersAfter n xs (recordFrom recordTo n xs) ≡ xs
+  untouched : length xs ≡ n + trailer → numbersAfter n xs (recordFrom recordTo n xs) ≡ xs
   untouched l = cond-ind (λ (ys : List ℕ). ys ≡ xs) (statusKnown n xs) (λ h. numbers-back l h) (λ _. refl)
 
 -- a record in numbers has its parts, and a status
@@ -86,17 +86,17 @@ module _ {R : Type 0} (n : ℕ) (make : List ℕ → ℕ → Status → R) (regs
   abbrev to : R → List ℕ
   to m = recordTo (regs m) (at m) (status m)
 
-  pub comes-back : ((m : R) → make (regs m) (at m) (status m) ≡ m) → ((rs : List ℕ) (k : ℕ) (t : Status) → to (make rs k t) ≡ recordTo rs k t) → ComesBack n regs (recordFrom make n) to
+  pub comes-back : ((m : R) → make (regs m) (at m) (status m) ≡ m) → ((rs : List ℕ) (k : ℕ) (t : Status) → to (make rs k t) ≡ recordTo rs k t) → RoundTrips n regs (recordFrom make n) to
   comes-back again parts =
       record {
-        numbersBack = λ xs l h. parts _ _ _ ∙ numbers-back n xs l h;
-        recordBack = λ m h. record-again n (regs m) (at m) (status m) h make ∙ again m;
+        fromNumbers = λ xs l h. parts _ _ _ ∙ numbers-back n xs l h;
+        fromRecord = λ m h. record-again n (regs m) (at m) (status m) h make ∙ again m;
         known = λ m h. known n (regs m) (at m) (status m) h;
         untouched = λ xs left l e. ap (λ (m : R). numbersAfter n xs (to m)) e ∙ ap (numbersAfter n xs) (parts _ _ _) ∙ untouched n xs l;
       }
 
 -- and a call with its numbers leaves what a run of it leaves
-pub called : {R : Type 0} {n : ℕ} {regs : R → List ℕ} {from : List ℕ → R} {to : R → List ℕ} → ComesBack n regs from to → (run : R → HostRan) (m : R) → length (regs m) ≡ n → hostLeft n (to m) (run (from (to m))) ≡ run m
+pub called : {R : Type 0} {n : ℕ} {regs : R → List ℕ} {from : List ℕ → R} {to : R → List ℕ} → RoundTrips n regs from to → (run : R → HostResult) (m : R) → length (regs m) ≡ n → hostAfter n (to m) (run (from (to m))) ≡ run m
 called {R} {n} {regs} {from} {to} b run m h =
     let r = run (from (to m)) in
-    ap (λ (t : Bool). hostRan (r .answer) (cond t (r .after) (to m)) (r .memory) (r .log)) (b .known m h) ∙ ap run (b .recordBack m h)
+    ap (λ (t : Bool). hostResult (r .answer) (cond t (r .after) (to m)) (r .memory) (r .log)) (b .known m h) ∙ ap run (b .fromRecord m h)

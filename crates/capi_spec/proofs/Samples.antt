@@ -10,13 +10,13 @@ use lib.Seq.{getD-set-other}
 use Rattle.spec.specs.Layouts.{rightLayout, inBox, inTable, inLandings, protected}
 use Rattle.spec.specs.Policies.{rightPolicy}
 use Rattle.spec.specs.Landings.{rightLandings, bitsFrom, landingsOf}
-use Rattle.spec.specs.Words.{judgeOf, judgeAt, firstRefused, instrOf, routine, bundlesFor}
-use Rattle.spec.specs.Bytes.{byteAt, quadAt, fieldsAt, oneFields, oneMap, oneOf, scanOf, wordsOf, readAnswer}
+use Rattle.spec.specs.Words.{fieldsRefusal, refusalAt, firstRefused, instrOf, routine, bundlesFor}
+use Rattle.spec.specs.Bytes.{byteAt, quadAt, fieldsAt, decodeFields, decodeMap, decodeOne, scanOf, wordsOf, readAnswer}
 use Rattle.spec.specs.Commands.{isCommand, commandOf, wordOf, fetchOf, plainOf}
-use Rattle.spec.specs.Bundles.{shapeOf, placeAnswer, rewriteAnswer, valid, readOff, bundleAt, isBundle, shapedAt, passesAt, checkFrom, checkAnswer}
+use Rattle.spec.specs.Bundles.{shapeOf, baseRoomAnswer, rewriteAnswer, valid, decodeBundle, bundleAt, isBundle, shapedAt, passesAt, checkFrom, checkAnswer}
 use Rattle.spec.specs.Machines.{installAnswer, installMemory, installMachine, effectOf, applyOf, runOf, loopFrom}
 use Rattle.sandbox_spec.specs.Loading.{translateAnswer, loadAnswer, loadCommands, loadMemory, loadMachine}
-use Rattle.spec.specs.Runs.{runOn, afterTaken, afterRun, Matches, eachRun}
+use Rattle.spec.specs.Runs.{runOn, afterTaken, afterRun, LowEqual, eachRun}
 use Rattle.spec.proofs.Bools.{no}
 use Rattle.capi_spec.specs.Numbers.{layoutFrom}
 use Rattle.capi_spec.specs.Hosts.{checkFor, installFor, loadFor, runFor}
@@ -24,16 +24,16 @@ use Rattle.capi_spec.specs.Claims.{callsOf, installed, loaded}
 use Rattle.capi_spec.specs.Sample.{layout, bytes, left, SampleHolds}
 
 -- a store to a free cell
-pub free-set : (mem : List ℕ) (i x : ℕ) → (inBox (layoutFrom layout) i || protected (layoutFrom layout) i) ≡ false → Matches (layoutFrom layout) (set mem i x) mem
+pub free-set : (mem : List ℕ) (i x : ℕ) → (inBox (layoutFrom layout) i || protected (layoutFrom layout) i) ≡ false → LowEqual (layoutFrom layout) (set mem i x) mem
 free-set mem i x f j s = getD-set-other mem i j x 0 (λ e. no (sym f ∙ ap (λ (k : ℕ). inBox (layoutFrom layout) k || protected (layoutFrom layout) k) (sym e) ∙ s))
 
 pub sample-holds : SampleHolds
-unfolding ones leadingZeros layoutFrom rightLayout rightPolicy rightLandings inBox inTable inLandings protected bitsFrom landingsOf judgeOf judgeAt firstRefused byteAt quadAt fieldsAt oneFields oneMap oneOf scanOf wordsOf readAnswer instrOf routine bundlesFor wordOf shapeOf placeAnswer rewriteAnswer valid readOff bundleAt isBundle shapedAt passesAt checkFrom checkAnswer isCommand commandOf fetchOf plainOf installAnswer installMemory installMachine translateAnswer loadAnswer loadCommands loadMemory loadMachine effectOf applyOf loopFrom runOf runOn afterTaken afterRun checkFor installFor loadFor runFor callsOf eachRun
+unfolding ones leadingZeros layoutFrom rightLayout rightPolicy rightLandings inBox inTable inLandings protected bitsFrom landingsOf fieldsRefusal refusalAt firstRefused byteAt quadAt fieldsAt decodeFields decodeMap decodeOne scanOf wordsOf readAnswer instrOf routine bundlesFor wordOf shapeOf baseRoomAnswer rewriteAnswer valid decodeBundle bundleAt isBundle shapedAt passesAt checkFrom checkAnswer isCommand commandOf fetchOf plainOf installAnswer installMemory installMachine translateAnswer loadAnswer loadCommands loadMemory loadMachine effectOf applyOf loopFrom runOf runOn afterTaken afterRun checkFor installFor loadFor runFor callsOf eachRun
 sample-holds =
     record {
       loaded = refl;
       ready = loaded bytes (replicate 40 0) refl;
-      lends = (λ l i s. refl, (λ l. absurd (let z : _≡_ {A = ℕ} 0 128 = l in omega arith), (λ l. free-set left 8 5 refl, tt)));
+      preserved = (λ l i s. refl, (λ l. absurd (let z : _≡_ {A = ℕ} 0 128 = l in omega arith), (λ l. free-set left 8 5 refl, tt)));
       answers = refl;
       again = installed _ refl refl;
       ended = refl;

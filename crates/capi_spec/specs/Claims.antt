@@ -6,37 +6,37 @@ use mathlib.Core.List.{List, [], _∷_, map}
 use lib.ListN.{length, getD, take}
 use Rattle.types.specs.Names.{registers}
 use Rattle.spec.specs.Policies.{Policy}
-use Rattle.spec.specs.Runs.{Given, carriedOf, Lends, allRuns}
+use Rattle.spec.specs.Runs.{RunInput, sessionOf, MemoriesPreserved, allRuns}
 use Rattle.spec.specs.Claims.{Isolated}
-use Rattle.capi_spec.specs.Numbers.{layoutFrom, behind, statusKnown, numbersAfter, machineFrom, machineTo}
-use Rattle.capi_spec.specs.Hosts.{checkFor, installFor, HostLoaded, loadFor, HostRan, ranTo, runFor}
+use Rattle.capi_spec.specs.Numbers.{layoutFrom, trailer, statusKnown, numbersAfter, machineFrom, machineTo}
+use Rattle.capi_spec.specs.Hosts.{checkFor, installFor, HostLoaded, loadFor, HostResult, resultTo, runFor}
 
 -- ---- a record, in numbers and back
 
 -- a record of n registers, which `from` makes of its numbers and `to` puts into numbers, comes back as it was
-pub record ComesBack {R : Type 0} (n : ℕ) (regs : R → List ℕ) (from : List ℕ → R) (to : R → List ℕ) : Type 0 where
+pub record RoundTrips {R : Type 0} (n : ℕ) (regs : R → List ℕ) (from : List ℕ → R) (to : R → List ℕ) : Type 0 where
   -- numbers whose status is one, made into a record, are again these numbers
-  pub numbersBack : (xs : List ℕ) → length xs ≡ n + behind → statusKnown n xs ≡ true → to (from xs) ≡ xs
+  pub fromNumbers : (xs : List ℕ) → length xs ≡ n + trailer → statusKnown n xs ≡ true → to (from xs) ≡ xs
   -- a record of n registers, put into numbers, is again this record
-  pub recordBack : (m : R) → length (regs m) ≡ n → from (to m) ≡ m
+  pub fromRecord : (m : R) → length (regs m) ≡ n → from (to m) ≡ m
   -- and its status number is a status
   pub known : (m : R) → length (regs m) ≡ n → statusKnown n (to m) ≡ true
   -- so a run that leaves the record as it was, as a refused one does, leaves its numbers, those too whose status is none
-  pub untouched : (xs : List ℕ) (left : R) → length xs ≡ n + behind → left ≡ from xs → numbersAfter n xs (to left) ≡ xs
+  pub untouched : (xs : List ℕ) (left : R) → length xs ≡ n + trailer → left ≡ from xs → numbersAfter n xs (to left) ≡ xs
 
 -- the machine's, of sixteen registers
-abbrev pub MachineBack : Type 0
-MachineBack = ComesBack registers (λ m. m .regs) machineFrom machineTo
+abbrev pub MachineRoundTrips : Type 0
+MachineRoundTrips = RoundTrips registers (λ m. m .regs) machineFrom machineTo
 
 -- ---- a list of calls
 
 -- what calls leave, the first given these numbers of a record, each other as the last call left them
-unfoldable pub callsOf : (List ℕ → Given → HostRan) → List ℕ → List Given → List HostRan
+unfoldable pub callsOf : (List ℕ → RunInput → HostResult) → List ℕ → List RunInput → List HostResult
 callsOf call xs [] = []
 callsOf call xs (g ∷ gs) = call xs g ∷ callsOf call (call xs g .after) gs
 
 -- a call of hemdroas_run
-abbrev pub runCall : List ℕ → List ℕ → List ℕ → Given → HostRan
+abbrev pub runCall : List ℕ → List ℕ → List ℕ → RunInput → HostResult
 runCall lay ws xs g = runFor lay ws xs (g .memory) (g .budget) (g .readings) (g .log)
 
 -- an answer's number
@@ -57,11 +57,11 @@ pub data Prepared (lay : List ℕ) (pol : Policy) (mem : List ℕ) : List ℕ �
 
 -- from there calls of hemdroas_run, each with the layout's numbers, these commands, the record's numbers as the last call left them and a memory
 -- that is, but for free cells, what the last call left: the calls are the runs of which demand 3 speaks, and it holds of them
-pub record CallsIsolated (lay : List ℕ) (pol : Policy) (ws xs mem : List ℕ) (gs : List Given) : Type 0 where
-  pub calls : callsOf (runCall lay ws) xs gs ≡ map (λ r. ranTo (r .ran)) (allRuns (layoutFrom lay) pol ws mem gs)
+pub record CallsIsolated (lay : List ℕ) (pol : Policy) (ws xs mem : List ℕ) (gs : List RunInput) : Type 0 where
+  pub calls : callsOf (runCall lay ws) xs gs ≡ map (λ r. resultTo (r .result)) (allRuns (layoutFrom lay) pol ws mem gs)
   pub isolated : Isolated (layoutFrom lay) pol ws mem gs
 
 abbrev pub HostIsolation : Type 0
 HostIsolation =
-    (lay : List ℕ) (pol : Policy) (mem ws xs left : List ℕ) (gs : List Given) →
-    Prepared lay pol mem ws xs left → Lends (layoutFrom lay) ws (carriedOf (machineFrom xs) left [] [] 0) gs → CallsIsolated lay pol ws xs mem gs
+    (lay : List ℕ) (pol : Policy) (mem ws xs left : List ℕ) (gs : List RunInput) →
+    Prepared lay pol mem ws xs left → MemoriesPreserved (layoutFrom lay) ws (sessionOf (machineFrom xs) left [] [] 0) gs → CallsIsolated lay pol ws xs mem gs

@@ -5,7 +5,7 @@ use lib.ListN.{length}
 use Rattle.types.specs.Names.{registers}
 use Rattle.spec.specs.Policies.{Policy}
 use Rattle.spec.specs.Bundles.{checkAnswer}
-use Rattle.spec.specs.Machines.{installAnswer, installMachine, installMemory, Ran, runOf}
+use Rattle.spec.specs.Machines.{installAnswer, installMachine, installMemory, RunResult, runOf}
 use Rattle.sandbox_spec.specs.Loading.{loadAnswer, loadMachine, loadCommands, loadMemory}
 use Rattle.capi_spec.specs.Numbers.{layoutFrom, numbersAfter, machineFrom, machineTo, answerTo, runAnswerTo}
 
@@ -44,26 +44,26 @@ loadFor lay pol bytes out mem =
     hostLoaded (answerTo (loadAnswer l pol bytes room mem)) (machineTo (loadMachine l pol bytes room mem)) (loadCommands l pol bytes out mem) (loadMemory l pol bytes room mem)
 
 -- hemdroas_run and hemdroas_engine: the answer, the record after it, memory, the log
-pub record HostRan : Type 0 where
+pub record HostResult : Type 0 where
   pub answer : List ℕ
   pub after : List ℕ
   pub memory : List ℕ
   pub log : List ℕ
 
-abbrev pub hostRan : List ℕ → List ℕ → List ℕ → List ℕ → HostRan
-hostRan a x mem log = record { answer = a; after = x; memory = mem; log = log }
+abbrev pub hostResult : List ℕ → List ℕ → List ℕ → List ℕ → HostResult
+hostResult a x mem log = record { answer = a; after = x; memory = mem; log = log }
 
 -- what a call leaves of a run's numbers: a record of n registers whose status number is no status is as it was
-abbrev pub hostLeft : ℕ → List ℕ → HostRan → HostRan
-hostLeft n xs r = hostRan (r .answer) (numbersAfter n xs (r .after)) (r .memory) (r .log)
+abbrev pub hostAfter : ℕ → List ℕ → HostResult → HostResult
+hostAfter n xs r = hostResult (r .answer) (numbersAfter n xs (r .after)) (r .memory) (r .log)
 
 -- what a run answers and leaves, in numbers
-abbrev pub ranTo : Ran → HostRan
-ranTo r = hostRan (runAnswerTo (r .outcome .answer)) (machineTo (r .outcome .machine)) (r .mem) (r .log)
+abbrev pub resultTo : RunResult → HostResult
+resultTo r = hostResult (runAnswerTo (r .outcome .answer)) (machineTo (r .outcome .machine)) (r .mem) (r .log)
 
 -- hemdroas_run
-unfoldable pub runFor : List ℕ → List ℕ → List ℕ → List ℕ → ℕ → List ℕ → List ℕ → HostRan
-runFor lay ws xs mem budget rd log = hostLeft registers xs (ranTo (runOf (layoutFrom lay) ws (machineFrom xs) mem budget rd log))
+unfoldable pub runFor : List ℕ → List ℕ → List ℕ → List ℕ → ℕ → List ℕ → List ℕ → HostResult
+runFor lay ws xs mem budget rd log = hostAfter registers xs (resultTo (runOf (layoutFrom lay) ws (machineFrom xs) mem budget rd log))
 
 -- hemdroas_preview: the answer, the record and the log that hemdroas_run would leave; record and memory, as they were
 pub record HostPreviewed : Type 0 where

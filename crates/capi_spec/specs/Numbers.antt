@@ -40,8 +40,8 @@ statusNumber Faulted = 3
 statusNumber Strayed = 4
 
 -- a record, a machine's or an engine's: its registers, and behind them two numbers, pc or index and status
-abbrev pub behind : ℕ
-behind = 2
+abbrev pub trailer : ℕ
+trailer = 2
 
 abbrev pub recordTo : List ℕ → ℕ → Status → List ℕ
 recordTo regs at t = regs ++ (at ∷ statusNumber t ∷ [])

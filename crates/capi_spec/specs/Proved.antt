@@ -1,8 +1,8 @@
 -- Every claim of this crate, a field each: its one term is `proved`, in proofs/Proved.antt.
-use Rattle.capi_spec.specs.Claims.{MachineBack, HostIsolation}
+use Rattle.capi_spec.specs.Claims.{MachineRoundTrips, HostIsolation}
 use Rattle.capi_spec.specs.Sample.{SampleHolds}
 
 pub record Proved : Type 0 where
-  pub machineBack : MachineBack
+  pub machineRoundTrips : MachineRoundTrips
   pub hostIsolation : HostIsolation
   pub sampleHolds : SampleHolds

@@ -6,7 +6,7 @@ use mathlib.Core.List.{List, [], _∷_, _++_, map}
 use lib.ListN.{set, replicate}
 use Rattle.types.specs.Names.{orders, topWord}
 use Rattle.spec.specs.Policies.{Policy, policyOf}
-use Rattle.spec.specs.Runs.{Given, Carried, carriedOf, afterRun, Lends}
+use Rattle.spec.specs.Runs.{RunInput, Session, sessionOf, afterRun, MemoriesPreserved}
 use Rattle.capi_spec.specs.Numbers.{layoutFrom, machineFrom}
 use Rattle.capi_spec.specs.Hosts.{HostInstalled, installFor, HostLoaded, loadFor}
 use Rattle.capi_spec.specs.Claims.{callsOf, runCall, counted, Prepared}
@@ -29,21 +29,21 @@ bytes = 4 ∷ 0 ∷ 33 ∷ 1 ∷ 70 ∷ 0 ∷ 0 ∷ 0 ∷ 1 ∷ 12 ∷ 33 ∷ 12
 abbrev pub lot : HostLoaded
 lot = loadFor layout policy bytes (replicate 40 0) (replicate 128 0)
 
-abbrev pub given : List ℕ → ℕ → Given
-given mem budget = record { memory = mem; budget = budget; readings = []; log = replicate 8 0 }
+abbrev pub runInput : List ℕ → ℕ → RunInput
+runInput mem budget = record { memory = mem; budget = budget; readings = []; log = replicate 8 0 }
 
--- what is carried into the first call; six steps; a memory too short; a thousand steps, before which the host wrote to the free cell 8
-abbrev pub carriedFirst : Carried
-carriedFirst = carriedOf (machineFrom (lot .machine)) (lot .memory) [] [] 0
+-- the session before the first call; six steps; a memory too short; a thousand steps, before which the host wrote to the free cell 8
+abbrev pub firstSession : Session
+firstSession = sessionOf (machineFrom (lot .machine)) (lot .memory) [] [] 0
 
-abbrev pub firstCall : Given
-firstCall = given (lot .memory) 6
+abbrev pub firstCall : RunInput
+firstCall = runInput (lot .memory) 6
 
 abbrev pub left : List ℕ
-left = afterRun (layoutFrom layout) (counted lot) carriedFirst firstCall .memory
+left = afterRun (layoutFrom layout) (counted lot) firstSession firstCall .memory
 
-abbrev pub calls : List Given
-calls = firstCall ∷ given [] 6 ∷ given (set left 8 5) 1000 ∷ []
+abbrev pub calls : List RunInput
+calls = firstCall ∷ runInput [] 6 ∷ runInput (set left 8 5) 1000 ∷ []
 
 -- the next lot: the other policy installed in what the first call left
 abbrev pub next : HostInstalled
@@ -52,7 +52,7 @@ next = installFor layout other left
 pub record SampleHolds : Type 0 where
   pub loaded : lot .answer ≡ 0 ∷ 32 ∷ []
   pub ready : Prepared layout policy (replicate 128 0) (counted lot) (lot .machine) (lot .memory)
-  pub lends : Lends (layoutFrom layout) (counted lot) carriedFirst calls
+  pub preserved : MemoriesPreserved (layoutFrom layout) (counted lot) firstSession calls
   pub answers : map (λ r. r .answer) (callsOf (runCall layout (counted lot)) (lot .machine) calls) ≡ (25 ∷ 6 ∷ 0 ∷ 0 ∷ []) ∷ (7 ∷ 0 ∷ 0 ∷ 0 ∷ []) ∷ (21 ∷ 8 ∷ 2 ∷ 0 ∷ []) ∷ []
   pub again : Prepared layout other left (counted lot) (next .machine) (next .memory)
-  pub ended : map (λ r. r .answer) (callsOf (runCall layout (counted lot)) (next .machine) (given (next .memory) 1000 ∷ [])) ≡ (20 ∷ 17 ∷ 3 ∷ 0 ∷ []) ∷ []
+  pub ended : map (λ r. r .answer) (callsOf (runCall layout (counted lot)) (next .machine) (runInput (next .memory) 1000 ∷ [])) ≡ (20 ∷ 17 ∷ 3 ∷ 0 ∷ []) ∷ []

@@ -25,7 +25,7 @@ pub fn run_answer_of(a: RunAnswer) -> [u32; RUN_ANSWER]
 {
     let e = a.ending;
     [
-        machine_step::endings::number(e) as u32,
+        machine_step::endings::ending_number(e) as u32,
         a.steps,
         a.pairs as u32,
         a.used as u32,

@@ -1,5 +1,5 @@
 // The machine's record made of a C host's numbers, and its numbers.
-use crate::records::BEHIND;
+use crate::records::TRAILER;
 use crate::records::read_record;
 use crate::records::store_record;
 use types::Machine;
@@ -8,7 +8,7 @@ ghost use Rattle.types.specs.Names.{registers};
 ghost use Rattle.capi_spec.specs.Numbers.{numbersAfter, machineFrom, machineTo};
 
 // How many numbers it has.
-pub const RECORD: usize = Machine::REGISTERS + BEHIND;
+pub const RECORD: usize = Machine::REGISTERS + TRAILER;
 
 // A record's machine.
 pub fn machine_of(xs: [u32; RECORD]) -> Machine

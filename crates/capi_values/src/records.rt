@@ -7,14 +7,14 @@ use types::Status;
 ghost use mathlib.Core.Path.{_≡_};
 ghost use Prim.Native.Nat.{_+_};
 ghost use lib.ListN.{length, take};
-ghost use Rattle.capi_spec.specs.Numbers.{statusFrom, behind, recordTo, statusIn, numbersAfter};
+ghost use Rattle.capi_spec.specs.Numbers.{statusFrom, trailer, recordTo, statusIn, numbersAfter};
 
 // Behind its registers a record has pc or index, then its status.
-pub const BEHIND: usize = 2;
+pub const TRAILER: usize = 2;
 
 // Reads a record's numbers, a machine's or an engine's: its registers into those lent, and its status.
 pub fn read_record(xs: &[u32], regs: &mut [u32]) -> Status
-    requires { ⌜ length (now xs) ≡ length (now regs) + behind ⌝ }
+    requires { ⌜ length (now xs) ≡ length (now regs) + trailer ⌝ }
     ensures registers { λ _. ⌜ now (regs .exit) ≡ take (length (now (regs .entry))) (now (xs .entry)) ⌝ }
     ensures status { λ r. ⌜ r ≡ statusFrom (statusIn (length (now (regs .entry))) (now (xs .entry))) ⌝ }
 {
@@ -26,7 +26,7 @@ pub fn read_record(xs: &[u32], regs: &mut [u32]) -> Status
 
 // Stores a record's numbers after a run. One whose status number is no status was not run, and stays as it was.
 pub fn store_record(xs: &mut [u32], regs: &[u32], at: u32, status: Status)
-    requires { ⌜ length (now xs) ≡ length (now regs) + behind ⌝ }
+    requires { ⌜ length (now xs) ≡ length (now regs) + trailer ⌝ }
     ensures { λ _. ⌜ now (xs .exit) ≡ numbersAfter (length (now (regs .entry))) (now (xs .entry)) (recordTo (now (regs .entry)) at status) ⌝ }
 {
     let n = regs.len();

@@ -15,7 +15,7 @@ use Rattle.types.specs.declared.Refusal.the-variants.{BadBundle}
 use Rattle.types.specs.Names.{bundleLength, numberOf, command}
 use Rattle.spec.specs.Words.{kindOf, vOf, packOf}
 use Rattle.spec.specs.Commands.{wordOf}
-use Rattle.spec.specs.Bundles.{shapeOf, readOff, bundleAt, shapedAt, passesAt, checkFrom, checkAnswer}
+use Rattle.spec.specs.Bundles.{shapeOf, decodeBundle, bundleAt, shapedAt, passesAt, checkFrom, checkAnswer}
 use Rattle.spec.proofs.Bools.{no, cases, both}
 use Rattle.spec.proofs.Conditions.{bundle-parts}
 use Rattle.changes.specs.Claims.{oldEvent, OldRefused}
@@ -44,7 +44,7 @@ module _ (lay : Layout) (n : ℕ) (ws : List ℕ) (h r e : ℕ) (old : take bund
   old-word p l = sym (getD-take bundleLength (drop (bundleLength * h) ws) p 0 l ∙ getD-drop (bundleLength * h) ws p 0) ∙ ap (λ (l : List ℕ). getD l p 0) old
 
   old-look : bundleAt lay ws h ≡ EVENT (vOf (getD ws (bundleLength * h) 0))
-  unfolding bundleAt readOff wordOf
+  unfolding bundleAt decodeBundle wordOf
   old-look =
       let z : bundleLength * h + 0 ≡ bundleLength * h = omega arith in
       let k : kindOf (getD ws (bundleLength * h) 0) ≡ command .look = ap (λ (i : ℕ). kindOf (getD ws i 0)) (sym z) ∙ ap kindOf (old-word 0 (lit< tt)) ∙ look-kind r e in

@@ -9,16 +9,16 @@ use borrow.Author.Tests.{ltb-true, ltb-false, eqb-true, eqb-false}
 use lib.Dec.{eqb, ltb}
 use Rattle.types.specs.declared.Layout.{Layout}
 use Rattle.types.specs.declared.Command.{Command}
-use Rattle.types.specs.declared.Command.the-variants.{Nop, Halt, Plain, Load, Store, GoIf, GoReg, Look, StopIf, Keep, Event, Stray}
+use Rattle.types.specs.declared.Command.the-variants.{Nop, Halt, Plain, Load, Store, GoIf, GoReg, Look, StopIf, Keep, Event, Invalid}
 use Rattle.types.specs.declared.Effect.{Effect}
-use Rattle.types.specs.declared.Effect.the-variants.{Go, Put, Cell, Order, Probe, End, Wait}
+use Rattle.types.specs.declared.Effect.the-variants.{Go, SetReg, SetCell, Order, Probe, End, Wait}
 use Rattle.types.specs.declared.Status.{Status}
 use Rattle.types.specs.declared.Status.the-variants.{Running, Ended, Stopped, Faulted, Strayed}
 use Rattle.types.specs.declared.Ending.{Ending}
 use Rattle.types.specs.declared.Ending.the-variants.{Done, NoArrow, Fault, LogFull, Silent, Spent, NoLanding, Refused}
 use Rattle.types.specs.Names.{orders}
 use Rattle.spec.specs.Commands.{fetchOf}
-use Rattle.spec.specs.Machines.{View, effectOf, State, applyOf, seen, nextOf, Ran, ranOf, endingOf, endedIn, unlessOver, unlessWait, startOf, fits, runFrom, runOf, loopFrom}
+use Rattle.spec.specs.Machines.{View, effectOf, State, applyOf, viewAt, nextOf, RunResult, runResultOf, endingOf, resultIn, unlessOver, unlessWait, startOf, fits, runFrom, runOf, loopFrom}
 use Rattle.types.specs.Records.{outcomeOf}
 use Rattle.spec.proofs.Bools.{no}
 use Rattle.changes.specs.Claims.{BothPause, effectBefore, nextBefore, runFromBefore, runBefore, PausedBoth, RunLaws, SilentRuns}
@@ -47,7 +47,7 @@ numbered (Look d v) = 0
 numbered (StopIf d) = 0
 numbered (Keep d) = 0
 numbered (Event v) = v + 1
-numbered Stray = 0
+numbered Invalid = 0
 
 other : (c : Command) (s : View) → numbered c ≡ 0 → Both c s → ⊥
 other c s e p = omega (arith, ap numbered (p .is))
@@ -69,7 +69,7 @@ turned (GoReg d a b c) s = inl (other (GoReg d a b c) s refl, refl)
 turned (Look d v) s = inl (other (Look d v) s refl, refl)
 turned (StopIf d) s = inl (other (StopIf d) s refl, refl)
 turned (Keep d) s = inl (other (Keep d) s refl, refl)
-turned Stray s = inl (other Stray s refl, refl)
+turned Invalid s = inl (other Invalid s refl, refl)
 turned (Event v) s =
     let laws = silent-first v s in
     ⊎-elim
@@ -89,11 +89,11 @@ isFull NoLanding = false
 isFull Refused = false
 
 module _ (lay : Layout) (ws reads : List ℕ) where
-  abbrev Laws : Ran → Ran → Type 0
+  abbrev Laws : RunResult → RunResult → Type 0
   Laws now old = RunLaws lay ws reads now old
 
   -- one that did not answer 23 is as it was
-  unpaused : (r : Ran) → isFull (r .outcome .answer .ending) ≡ false → Laws r r
+  unpaused : (r : RunResult) → isFull (r .outcome .answer .ending) ≡ false → Laws r r
   unpaused r e = record { gives = λ p. no (sym e ∙ ap isFull (p .full)); same = λ _. refl }
 
   ended : (t : Status) → isFull (endingOf t) ≡ false
@@ -105,27 +105,27 @@ module _ (lay : Layout) (ws reads : List ℕ) where
 
   -- a step, if what follows it is as claimed
   module _ (n k : ℕ) (s : State) (later : (k : ℕ) (s : State) → Laws (runFrom lay ws reads n k s) (runFromBefore lay ws reads n k s)) where
-    abbrev next : Effect → Ran
-    next x = unlessWait x (λ e. endedIn e k s) (runFrom lay ws reads n (k + 1) (applyOf (lay .ceilings) reads x s))
+    abbrev next : Effect → RunResult
+    next x = unlessWait x (λ e. resultIn e k s) (runFrom lay ws reads n (k + 1) (applyOf (lay .ceilings) reads x s))
 
-    abbrev before : Effect → Ran
-    before x = unlessWait x (λ e. endedIn e k s) (runFromBefore lay ws reads n (k + 1) (applyOf (lay .ceilings) reads x s))
+    abbrev before : Effect → RunResult
+    before x = unlessWait x (λ e. resultIn e k s) (runFromBefore lay ws reads n (k + 1) (applyOf (lay .ceilings) reads x s))
 
     abbrev here : Command
     here = fetchOf ws (lay .base) (s .pc)
 
-    alike : (Both here (seen lay reads s) → ⊥) → (x : Effect) → Laws (next x) (before x)
-    alike f (Wait e) = record { gives = λ p. absurd (f (record { event = p .event; is = p .stands; both = p .both })); same = λ _. refl }
+    alike : (Both here (viewAt lay reads s) → ⊥) → (x : Effect) → Laws (next x) (before x)
+    alike f (Wait e) = record { gives = λ p. absurd (f (record { event = p .event; is = p .boundary; both = p .both })); same = λ _. refl }
     alike f (Go to) = later _ _
-    alike f (Put d x) = later _ _
-    alike f (Cell i x) = later _ _
+    alike f (SetReg d x) = later _ _
+    alike f (SetCell i x) = later _ _
     alike f (Order v) = later _ _
     alike f (Probe v) = later _ _
     alike f (End t) = later _ _
 
-    differ : Both here (seen lay reads s) → Laws (endedIn Silent k s) (endedIn LogFull k s)
+    differ : Both here (viewAt lay reads s) → Laws (resultIn Silent k s) (resultIn LogFull k s)
     differ b =
-        let p : PausedBoth lay ws reads (endedIn LogFull k s) = record { full = refl; event = b .event; stands = b .is; both = b .both } in
+        let p : PausedBoth lay ws reads (resultIn LogFull k s) = record { full = refl; event = b .event; boundary = b .is; both = b .both } in
         record { gives = λ _. refl; same = λ f. absurd (f p) }
 
     step : Laws (next (nextOf lay ws reads s)) (before (nextBefore lay ws reads s))
@@ -133,10 +133,10 @@ module _ (lay : Layout) (ws reads : List ℕ) where
         ⊎-elim
         (λ x. rw (x .1) (alike (x .0) (nextBefore lay ws reads s)))
         (λ x. rw (x .1, x .2) (differ (x .0)))
-        (turned here (seen lay reads s))
+        (turned here (viewAt lay reads s))
 
-    abbrev over : Ran
-    over = endedIn (endingOf (s .status)) k s
+    abbrev over : RunResult
+    over = resultIn (endingOf (s .status)) k s
 
     from : (t : Status) → Laws (unlessOver t over (next (nextOf lay ws reads s))) (unlessOver t over (before (nextBefore lay ws reads s)))
     from Running = step
@@ -156,4 +156,4 @@ silent-runs lay ws m mem budget reads log = by (fits lay mem) refl
   where
     by : (t : Bool) → fits lay mem ≡ t → RunLaws lay ws reads (runOf lay ws m mem budget reads log) (runBefore lay ws m mem budget reads log)
     by true e = rw e (runs lay ws reads budget 0 (startOf m mem log))
-    by false e = rw e (unpaused lay ws reads (ranOf (outcomeOf m Refused 0 0 0) mem log) refl)
+    by false e = rw e (unpaused lay ws reads (runResultOf (outcomeOf m Refused 0 0 0) mem log) refl)

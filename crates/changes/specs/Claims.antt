@@ -9,7 +9,7 @@ use Rattle.types.specs.declared.Layout.{Layout}
 use Rattle.types.specs.declared.Instr.{Instr}
 use Rattle.types.specs.declared.Instr.the-variants.{HALT, PLAIN, LOAD, STORE, GOIF, GOX, EVENT}
 use Rattle.types.specs.declared.Command.{Command}
-use Rattle.types.specs.declared.Command.the-variants.{Nop, Halt, Plain, Load, Store, GoIf, GoReg, Look, StopIf, Keep, Event, Stray}
+use Rattle.types.specs.declared.Command.the-variants.{Nop, Halt, Plain, Load, Store, GoIf, GoReg, Look, StopIf, Keep, Event, Invalid}
 use Rattle.types.specs.declared.Effect.{Effect}
 use Rattle.types.specs.declared.Effect.the-variants.{Order, Probe, Wait}
 use Rattle.types.specs.declared.Ending.the-variants.{LogFull, Silent, Refused}
@@ -18,7 +18,7 @@ use Rattle.types.specs.declared.Refusal.the-variants.{BadLayout, BadBundle, Bad
 use Rattle.types.specs.Names.{orders, bundleLength, hidden, numberOf, answer}
 use Rattle.spec.specs.Commands.{fetchOf, wordOf}
 use Rattle.spec.specs.Bundles.{shapeWith, valid, bundleAt, checkAnswer}
-use Rattle.spec.specs.Machines.{View, ifRoom, effectOf, State, applyOf, seen, Ran, ranOf, endedIn, leftIn, loopFrom, startOf, fits, runOf}
+use Rattle.spec.specs.Machines.{View, ifRoom, effectOf, State, applyOf, viewAt, RunResult, runResultOf, resultIn, finalState, loopFrom, startOf, fits, runOf}
 use Rattle.types.specs.Records.{outcomeOf}
 use Rattle.spec.specs.Claims.{Placed}
 
@@ -54,37 +54,37 @@ effectBefore (Look d v) s = effectOf (Look d v) s
 effectBefore (StopIf d) s = effectOf (StopIf d) s
 effectBefore (Keep d) s = effectOf (Keep d) s
 effectBefore (Event v) s = eventBefore v (s .free) (s .left)
-effectBefore Stray s = effectOf Stray s
+effectBefore Invalid s = effectOf Invalid s
 
 abbrev pub nextBefore : Layout → List ℕ → List ℕ → State → Effect
-nextBefore lay ws reads s = effectBefore (fetchOf ws (lay .base) (s .pc)) (seen lay reads s)
+nextBefore lay ws reads s = effectBefore (fetchOf ws (lay .base) (s .pc)) (viewAt lay reads s)
 
 abbrev pub stepBefore : Layout → List ℕ → List ℕ → State → State
 stepBefore lay ws reads s = applyOf (lay .ceilings) reads (nextBefore lay ws reads s) s
 
 -- a run as it was before, in all else that of today (`runFrom`, `runOf`)
-abbrev pub runFromBefore : Layout → List ℕ → List ℕ → ℕ → ℕ → State → Ran
-runFromBefore lay ws reads n k s = loopFrom (nextBefore lay ws reads) (stepBefore lay ws reads) (λ s k. k + 1) endedIn n k s
+abbrev pub runFromBefore : Layout → List ℕ → List ℕ → ℕ → ℕ → State → RunResult
+runFromBefore lay ws reads n k s = loopFrom (nextBefore lay ws reads) (stepBefore lay ws reads) (λ s k. k + 1) resultIn n k s
 
-unfoldable pub runBefore : Layout → List ℕ → Machine → List ℕ → ℕ → List ℕ → List ℕ → Ran
+unfoldable pub runBefore : Layout → List ℕ → Machine → List ℕ → ℕ → List ℕ → List ℕ → RunResult
 runBefore lay ws m mem budget reads log =
-    cond (fits lay mem) (runFromBefore lay ws reads budget 0 (startOf m mem log)) (ranOf (outcomeOf m Refused 0 0 0) mem log)
+    cond (fits lay mem) (runFromBefore lay ws reads budget 0 (startOf m mem log)) (runResultOf (outcomeOf m Refused 0 0 0) mem log)
 
 -- it answered 23, and left the machine on 'a reading event with no readings left and fewer than two free log cells'
-pub record PausedBoth (lay : Layout) (ws reads : List ℕ) (r : Ran) : Type 0 where
+pub record PausedBoth (lay : Layout) (ws reads : List ℕ) (r : RunResult) : Type 0 where
   pub full : r .outcome .answer .ending ≡ LogFull
   pub event : ℕ
-  pub stands : fetchOf ws (lay .base) (r .outcome .machine .pc) ≡ Event event
-  pub both : BothPause event (seen lay reads (leftIn r))
+  pub boundary : fetchOf ws (lay .base) (r .outcome .machine .pc) ≡ Event event
+  pub both : BothPause event (viewAt lay reads (finalState r))
 
 -- the same run with answer 24: record, steps, pairs, readings used, memory and log are as they were
-abbrev pub silentInstead : Ran → Ran
+abbrev pub silentInstead : RunResult → RunResult
 silentInstead r =
     let a = r .outcome .answer in
-    ranOf (outcomeOf (r .outcome .machine) Silent (a .steps) (a .pairs) (a .used)) (r .mem) (r .log)
+    runResultOf (outcomeOf (r .outcome .machine) Silent (a .steps) (a .pairs) (a .used)) (r .mem) (r .log)
 
 -- of a run of today, `now`, and the same run before: 'The one old answer that changes .. gave 23 and gives 24'
-pub record RunLaws (lay : Layout) (ws reads : List ℕ) (now old : Ran) : Type 0 where
+pub record RunLaws (lay : Layout) (ws reads : List ℕ) (now old : RunResult) : Type 0 where
   pub gives : PausedBoth lay ws reads old → now ≡ silentInstead old
   pub same : (PausedBoth lay ws reads old → ⊥) → now ≡ old
 
@@ -127,7 +127,7 @@ pub record PassesWith (r : ℕ) (lay : Layout) (ws : List ℕ) (N : ℕ) (is : �
   pub words : (h p : ℕ) → h < N → p < bundleLength → getD ws (bundleLength * h + p) 0 ≡ wordOf (shapeWith r lay N (is h) p)
   pub last : is (N - 1) ≡ HALT
 
--- `passes` and `passed`: the checker is that of register 15;
+-- `passes` and `bundle_done`: the checker is that of register 15;
 -- `refused`: 'the checker refuses lists written before, with 11, whenever they hold a LOAD, STORE, GOX or EVENT bundle', unless 7, 12 or 13 comes first:
 --     for all fields and at every place; the bundle's first command is enough;
 -- `kept` and `before`: a list without one passes exactly where it passed before, if its register fields are below 8

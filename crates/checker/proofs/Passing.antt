@@ -14,7 +14,7 @@ use Rattle.types.specs.declared.Refusal.the-variants.{BadBase, BadBundle, BadCo
 use Rattle.types.specs.Names.{mostBundles, mostCommands, bundleLength, baseBound, numberOf, answer, refusal}
 use Rattle.spec.specs.Layouts.{rightLayout}
 use Rattle.spec.specs.Words.{kindOf}
-use Rattle.spec.specs.Bundles.{addressOf, readOff, bundleAt, isBundle, shapedAt, passesAt, checkFrom, baseRight, countRight, checkAnswer}
+use Rattle.spec.specs.Bundles.{addressOf, decodeBundle, bundleAt, isBundle, shapedAt, passesAt, checkFrom, baseRight, countRight, checkAnswer}
 use Rattle.spec.proofs.Bools.{both}
 use Rattle.spec.proofs.Masks.{base-room as list-room}
 
@@ -22,7 +22,7 @@ use Rattle.spec.proofs.Masks.{base-room as list-room}
 
 module _ (l : Layout) (n : ℕ) (ws : List ℕ) (h : ℕ) where
   pub passing-at : (r : Bool) → (w x y z : ℕ) → w ≡ getD ws (bundleLength * h) 0 → x ≡ getD ws (bundleLength * h + 1) 0 → y ≡ getD ws (bundleLength * h + 2) 0 → z ≡ getD ws (bundleLength * h + 3) 0
-      → r ≡ (isBundle l n (readOff l w y z) w x y z && (ltb (h + 1) n || eqb (kindOf w) 1)) → r ≡ passesAt l n ws h
+      → r ≡ (isBundle l n (decodeBundle l w y z) w x y z && (ltb (h + 1) n || eqb (kindOf w) 1)) → r ≡ passesAt l n ws h
   unfolding passesAt shapedAt bundleAt
   passing-at r w x y z ew ex ey ez p = p ∙ rw (ew, ex, ey, ez)
 

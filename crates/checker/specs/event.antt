@@ -1,1 +1,1 @@
-pub mod Looked
+pub mod Event

@@ -1,1 +1,1 @@
-pub mod Sameness
+pub mod FourWords

@@ -5,12 +5,12 @@ use types::Command;
 use types::PolicyNumbers;
 use words::field;
 ghost use mathlib.Core.Path.{_≡_};
-ghost use Rattle.checker.specs.event.Looked.{eventWords};
+ghost use Rattle.checker.specs.event.Event.{eventWords};
 
 const EVENTS: u64 = PolicyNumbers::EVENTS as u64;
 
 // An event: one number throughout.
-pub fn sends(w: u64, x: u64, y: u64, z: u64) -> bool
+pub fn is_event(w: u64, x: u64, y: u64, z: u64) -> bool
     ensures { λ r. ⌜ r ≡ eventWords w x y z ⌝ }
 {
     let e = field::v(w);

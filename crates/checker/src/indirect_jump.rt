@@ -23,7 +23,7 @@ fn address(l: Layout, g: u64) -> u64
 }
 
 // GOX, with the last address of n bundles and the first.
-pub fn goes(l: Layout, n: usize, w: u64, x: u64, y: u64, z: u64) -> bool
+pub fn is_gox(l: Layout, n: usize, w: u64, x: u64, y: u64, z: u64) -> bool
     requires { ⌜ (0 < n) × (addressOf l n ≤ 2 ^ 32) ⌝ }
     ensures { λ r. ⌜ r ≡ isBundle l n (GOX (aOf w) (aOf z) (bOf z) (cOf z)) w x y z ⌝ }
 {

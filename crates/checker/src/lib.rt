@@ -12,7 +12,7 @@ use types::Layout;
 use types::Refusal;
 use words::count::base_right;
 use words::count::count_right;
-use words::memory::right;
+use words::memory::layout_right;
 ghost use mathlib.Core.Path.{_≡_};
 ghost use Prim.Native.Nat.{_*_, _≤_, _<_, _^_};
 ghost use lib.ListN.{length};
@@ -54,7 +54,7 @@ fn scan(l: Layout, n: usize, commands: &[u64]) -> Answer
 pub fn check(layout: Layout, commands: &[u64]) -> Answer
     ensures { λ r. ⌜ r ≡ checkAnswer layout (now (commands .entry)) ⌝ }
 {
-    if !right(layout) {
+    if !layout_right(layout) {
         return Answer::refused(Refusal::BAD_LAYOUT);
     }
     let count = commands.len();

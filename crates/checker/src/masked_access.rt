@@ -6,11 +6,11 @@ use types::Layout;
 use words::field;
 ghost use mathlib.Core.Path.{_≡_};
 ghost use Rattle.spec.specs.Bundles.{isBundle};
-ghost use Rattle.checker.specs.masked_access.Masked.{masksOf, loadOf, storeOf, accessOf};
+ghost use Rattle.checker.specs.masked_access.MaskedAccess.{maskWords, loadOf, storeOf, accessOf};
 
 // The first two words of both: the hidden register becomes the mask of a guest register's address.
-fn masks(l: Layout, w: u64, x: u64) -> bool
-    ensures { λ r. ⌜ r ≡ masksOf l w x ⌝ }
+fn is_mask(l: Layout, w: u64, x: u64) -> bool
+    ensures { λ r. ⌜ r ≡ maskWords l w x ⌝ }
 {
     let a = field::a(w);
     (a < HIDDEN)
@@ -19,7 +19,7 @@ fn masks(l: Layout, w: u64, x: u64) -> bool
 }
 
 // The third word of a LOAD.
-fn loads(y: u64) -> bool
+fn is_load(y: u64) -> bool
     ensures { λ r. ⌜ r ≡ loadOf y ⌝ }
 {
     let to = field::d(y);
@@ -27,7 +27,7 @@ fn loads(y: u64) -> bool
 }
 
 // The third word of a STORE.
-fn stores(y: u64) -> bool
+fn is_store(y: u64) -> bool
     ensures { λ r. ⌜ r ≡ storeOf y ⌝ }
 {
     let from = field::b(y);
@@ -35,12 +35,12 @@ fn stores(y: u64) -> bool
 }
 
 // LOAD or STORE, by the third word.
-pub fn accesses(l: Layout, w: u64, x: u64, y: u64, z: u64) -> bool
+pub fn is_access(l: Layout, w: u64, x: u64, y: u64, z: u64) -> bool
     ensures { λ r. ⌜ r ≡ isBundle l 0 (accessOf w y) w x y z ⌝ }
 {
-    let masked = masks(l, w, x);
+    let masked = is_mask(l, w, x);
     if field::kind(y) == Command::LOAD {
-        return masked & loads(y) & (z == 0);
+        return masked & is_load(y) & (z == 0);
     }
-    masked & stores(y) & (z == 0)
+    masked & is_store(y) & (z == 0)
 }

@@ -1,10 +1,10 @@
 // Whether four words are a bundle of one of the known shapes.
-use crate::event::sends;
-use crate::indirect_jump::goes;
-use crate::masked_access::accesses;
-use crate::single::goes_if;
-use crate::single::halts;
-use crate::single::plain;
+use crate::event::is_event;
+use crate::indirect_jump::is_gox;
+use crate::masked_access::is_access;
+use crate::single::is_goif;
+use crate::single::is_halt;
+use crate::single::is_plain;
 use types::Command;
 use types::Layout;
 use words::field;
@@ -12,7 +12,7 @@ ghost use mathlib.Core.Path.{_≡_};
 ghost use Prim.Native.Nat.{_≤_, _<_, _^_};
 ghost use Rattle.types.specs.Names.{mostBundles};
 ghost use Rattle.spec.specs.Bundles.{addressOf};
-ghost use Rattle.checker.specs.shapes.Sameness.{passesOf};
+ghost use Rattle.checker.specs.shapes.FourWords.{passesOf};
 
 // Whether four words are a bundle, and a HALT where no more follow: by the kind of the first. The plain ones, which are
 // most, come first.
@@ -21,18 +21,18 @@ pub fn passes_words(l: Layout, n: usize, w: u64, x: u64, y: u64, z: u64, more: b
     ensures { λ r. ⌜ r ≡ passesOf l n w x y z more ⌝ }
 {
     if !more {
-        return halts(w, x, y, z);
+        return is_halt(w, x, y, z);
     }
     let kind = field::kind(w);
     if (Command::SET <= kind) & (kind <= Command::SAR) {
-        return plain(w, x, y, z);
+        return is_plain(w, x, y, z);
     }
     match kind {
-        Command::HALT => halts(w, x, y, z),
-        Command::ANDI => accesses(l, w, x, y, z),
-        Command::SHL => goes(l, n, w, x, y, z),
-        Command::GOIF => goes_if(l, n, w, x, y, z),
-        Command::LOOK => sends(w, x, y, z),
+        Command::HALT => is_halt(w, x, y, z),
+        Command::ANDI => is_access(l, w, x, y, z),
+        Command::SHL => is_gox(l, n, w, x, y, z),
+        Command::GOIF => is_goif(l, n, w, x, y, z),
+        Command::LOOK => is_event(w, x, y, z),
         _ => false,
     }
 }

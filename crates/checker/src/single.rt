@@ -4,32 +4,32 @@ use types::Command;
 use types::Layout;
 use words::command::is_command;
 use words::field;
-use words::fields::guests;
+use words::fields::only_guest_registers;
 ghost use mathlib.Core.Path.{_≡_};
 ghost use Prim.Native.Nat.{_<_, _^_};
 ghost use Rattle.types.specs.Names.{command};
-ghost use Rattle.checker.specs.single.Alone.{alone, plainWords, landsOf, goifWords};
+ghost use Rattle.checker.specs.single.Single.{singleWords, plainWords, isBundleAddress, goifWords};
 
 const LENGTH: u64 = Bundle::LENGTH as u64;
 
 // HALT, and three that do nothing.
-pub fn halts(w: u64, x: u64, y: u64, z: u64) -> bool
-    ensures { λ r. ⌜ r ≡ alone w x y z (command .halt) ⌝ }
+pub fn is_halt(w: u64, x: u64, y: u64, z: u64) -> bool
+    ensures { λ r. ⌜ r ≡ singleWords w x y z (command .halt) ⌝ }
 {
     (w == Command::HALT) & (x == 0) & (y == 0) & (z == 0)
 }
 
 // A plain command on the guest's registers, and three that do nothing.
-pub fn plain(w: u64, x: u64, y: u64, z: u64) -> bool
+pub fn is_plain(w: u64, x: u64, y: u64, z: u64) -> bool
     ensures { λ r. ⌜ r ≡ plainWords w x y z ⌝ }
 {
-    is_command(w) & guests(w) & (x == 0) & (y == 0) & (z == 0)
+    is_command(w) & only_guest_registers(w) & (x == 0) & (y == 0) & (z == 0)
 }
 
 // Whether an address is that of one of n bundles.
-fn lands(l: Layout, n: usize, v: u64) -> bool
+fn is_bundle_address(l: Layout, n: usize, v: u64) -> bool
     requires { ⌜ v < 2 ^ 32 ⌝ }
-    ensures { λ r. ⌜ r ≡ landsOf l n v ⌝ }
+    ensures { λ r. ⌜ r ≡ isBundleAddress l n v ⌝ }
 {
     let base = l.base as u64;
     if v < base {
@@ -40,8 +40,13 @@ fn lands(l: Layout, n: usize, v: u64) -> bool
 }
 
 // GOIF to one of n bundles, and three that do nothing.
-pub fn goes_if(l: Layout, n: usize, w: u64, x: u64, y: u64, z: u64) -> bool
+pub fn is_goif(l: Layout, n: usize, w: u64, x: u64, y: u64, z: u64) -> bool
     ensures { λ r. ⌜ r ≡ goifWords l n w x y z ⌝ }
 {
-    is_command(w) & guests(w) & lands(l, n, field::v(w)) & (x == 0) & (y == 0) & (z == 0)
+    is_command(w)
+        & only_guest_registers(w)
+        & is_bundle_address(l, n, field::v(w))
+        & (x == 0)
+        & (y == 0)
+        & (z == 0)
 }

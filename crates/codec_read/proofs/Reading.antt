@@ -9,11 +9,11 @@ use lib.ListN.{length, take, drop, set, length-drop}
 use lib.Seq.{sets as stores, sets-eq, length-sets, take-all, take-at, length-take-le}
 use borrow.Author.Tests.{eq-eqb, ne-eqb}
 use Rattle.types.specs.declared.Answer.{Answer}
-use Rattle.types.specs.declared.One.{One}
-use Rattle.types.specs.declared.One.the-variants.{Word, RefusedWith}
+use Rattle.types.specs.declared.Decoded.{Decoded}
+use Rattle.types.specs.declared.Decoded.the-variants.{Word, RefusedWith}
 use Rattle.types.specs.declared.Refusal.the-variants.{Taken, Trailing}
 use Rattle.types.specs.Names.{mostInstructions, numberOf, answer, refusal}
-use Rattle.spec.specs.Bytes.{oneOf, scanOf, wordsOf, countOf, wordsIn, readAnswer, readOutput}
+use Rattle.spec.specs.Bytes.{decodeOne, scanOf, wordsOf, countOf, wordsIn, readAnswer, readOutput}
 use Rattle.spec.proofs.Refusals.{output-kept, output-written}
 use Rattle.spec.proofs.Bytes.{one-read, read-scan, ReadOk, read-ok}
 
@@ -23,11 +23,11 @@ use Rattle.spec.proofs.Bytes.{one-read, read-scan, ReadOk, read-ok}
 rest : (u : ℕ) (t : List ℕ) → u ≤ length t → take (length t - u) (drop u t) ≡ drop u t
 rest u t h = take-all (length t - u) (drop u t) (le-of-eq (length-drop u t))
 
-pub used : (t : List ℕ) (o : One) (w u : ℕ) → o ≡ Word w u → o ≡ oneOf t → u ≤ length t
+pub used : (t : List ℕ) (o : Decoded) (w u : ℕ) → o ≡ Word w u → o ≡ decodeOne t → u ≤ length t
 used t o w u eo e = one-read t w u (sym eo ∙ e) .fits
 
--- z is what the whole is to be, and does not change from turn to turn
-module _ (n i : ℕ) (t : List ℕ) (o : One) (e : o ≡ oneOf t) (h : i < n) where
+-- z is what the whole is to be, and does not change from step to step
+module _ (n i : ℕ) (t : List ℕ) (o : Decoded) (e : o ≡ decodeOne t) (h : i < n) where
   left : n - i ≡ suc (n - (i + 1))
   left = omega arith
 

@@ -1,17 +1,17 @@
-// One instruction read from its bytes, with every refusal.
+// The full path of reading: one instruction from its bytes, with every refusal.
 use crate::bytes::quad;
 use crate::bytes::wide;
 use crate::map::map_of;
 use crate::map::size_of;
+use types::Decoded;
 use types::Fields;
-use types::One;
 use types::Refusal;
 use words::fields::pack;
-use words::refusals::judge;
+use words::refusals::fields_refusal;
 ghost use mathlib.Core.Path.{_≡_};
 ghost use Prim.Native.Nat.{_+_, _*_, _/_, _%_, _≤_};
 ghost use lib.ListN.{length};
-ghost use Rattle.spec.specs.Bytes.{sizeOf, byteAt, fieldsAt, oneFields, oneOf};
+ghost use Rattle.spec.specs.Bytes.{sizeOf, byteAt, fieldsAt, decodeFields, decodeOne};
 ghost use Rattle.codec_read.specs.careful.Parts.{fieldsFrom};
 
 // The greatest map of fields.
@@ -58,33 +58,33 @@ fn fields_of(s: &[u8], m: usize) -> Fields
 }
 
 // A field that stands and is 0 makes the map another than the fields', which is foreign.
-fn judge_fields(m: usize, size: usize, f: Fields) -> One
+fn decode_fields(m: usize, size: usize, f: Fields) -> Decoded
     requires { ⌜ size ≡ sizeOf m ⌝ }
-    ensures { λ r. ⌜ r ≡ oneFields m f ⌝ }
+    ensures { λ r. ⌜ r ≡ decodeFields m f ⌝ }
 {
     let foreign = m != map_of(f);
-    let judged = judge(foreign, f);
+    let judged = fields_refusal(foreign, f);
     if judged == Refusal::TAKEN {
-        One::Word(pack(f), size)
+        Decoded::Word(pack(f), size)
     } else {
-        One::RefusedWith(judged)
+        Decoded::RefusedWith(judged)
     }
 }
 
 // The instruction at the front of s: its word and its bytes, or the refusal.
-pub fn careful(s: &[u8]) -> One
-    ensures { λ r. ⌜ r ≡ oneOf (now (s .entry)) ⌝ }
+pub fn read_full(s: &[u8]) -> Decoded
+    ensures { λ r. ⌜ r ≡ decodeOne (now (s .entry)) ⌝ }
 {
     if s.len() == 0 {
-        return One::RefusedWith(Refusal::SHORT);
+        return Decoded::RefusedWith(Refusal::SHORT);
     }
     let m = wide(s[0]) as usize;
     if m > TOP_MAP {
-        return One::RefusedWith(Refusal::FOREIGN);
+        return Decoded::RefusedWith(Refusal::FOREIGN);
     }
     let size = size_of(m);
     if s.len() < size {
-        return One::RefusedWith(Refusal::SHORT);
+        return Decoded::RefusedWith(Refusal::SHORT);
     }
-    judge_fields(m, size, fields_of(s, m))
+    decode_fields(m, size, fields_of(s, m))
 }

@@ -1,21 +1,21 @@
-// One instruction read from its bytes: the common case, or with every refusal.
-use crate::careful::careful;
+// One instruction read from its bytes: by the fast path, or by the full one with every refusal.
+use crate::careful::read_full;
 use crate::sure::LONGEST;
-use crate::sure::sure;
-use types::One;
+use crate::sure::read_fast;
+use types::Decoded;
 ghost use mathlib.Core.Path.{_≡_};
-ghost use Rattle.spec.specs.Bytes.{oneOf};
+ghost use Rattle.spec.specs.Bytes.{decodeOne};
 
-// The instruction at the front of s: its word and its bytes, or the refusal. The common case first.
-pub fn read_one(s: &[u8]) -> One
-    ensures { λ r. ⌜ r ≡ oneOf (now (s .entry)) ⌝ }
+// The instruction at the front of s: its word and its bytes, or the refusal. The fast path first.
+pub fn read_one(s: &[u8]) -> Decoded
+    ensures { λ r. ⌜ r ≡ decodeOne (now (s .entry)) ⌝ }
 {
     if s.len() < LONGEST {
-        return careful(s);
+        return read_full(s);
     }
-    let o = sure(s);
+    let o = read_fast(s);
     match o {
-        One::Word(w, size) => One::Word(w, size),
-        One::RefusedWith(_) => careful(s),
+        Decoded::Word(w, size) => Decoded::Word(w, size),
+        Decoded::RefusedWith(_) => read_full(s),
     }
 }

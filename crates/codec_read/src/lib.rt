@@ -9,8 +9,8 @@ use crate::decode::read_one;
 use buffers::cells::index_of;
 use buffers::stores::store_words;
 use types::Answer;
+use types::Decoded;
 use types::Instr;
-use types::One;
 use types::Refusal;
 ghost use mathlib.Core.Path.{_≡_};
 ghost use Prim.Native.Nat.{_≤_};
@@ -30,12 +30,12 @@ fn scan(s: &[u8], n: usize, words: &mut [u64]) -> Answer
     while i < n {
         let o = read_one(t);
         match o {
-            One::Word(w, used) => {
+            Decoded::Word(w, used) => {
                 words[i] = w;
                 t = &t[used..];
                 i += 1;
             }
-            One::RefusedWith(refused) => {
+            Decoded::RefusedWith(refused) => {
                 return Answer::refused_at(refused, i);
             }
         }

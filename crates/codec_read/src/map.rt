@@ -5,7 +5,7 @@ ghost use Prim.Native.Nat.{_+_, _*_, _<_};
 ghost use Rattle.spec.specs.Bytes.{bitOf, mapOf, sizeOf};
 
 // A map of the fields before x, and x's bit below them.
-fn below(m: usize, x: u64) -> usize
+fn append(m: usize, x: u64) -> usize
     requires { ⌜ m < 64 ⌝ }
     ensures { λ r. ⌜ r ≡ 2 * m + bitOf x ⌝ }
 {
@@ -16,8 +16,8 @@ fn below(m: usize, x: u64) -> usize
 pub fn map_of(f: Fields) -> usize
     ensures { λ r. ⌜ r ≡ mapOf f ⌝ }
 {
-    below(
-        below(below(below(below(below(0, f.v), f.c), f.b), f.a), f.d),
+    append(
+        append(append(append(append(append(0, f.v), f.c), f.b), f.a), f.d),
         f.kind,
     )
 }

@@ -1,23 +1,23 @@
-// The common case of reading: an instruction that is taken, with bytes enough after it.
+// The fast path of reading: an instruction that is taken, with bytes enough after it.
 use crate::bytes::quad;
 use crate::bytes::wide;
-use types::One;
+use types::Decoded;
 use types::Refusal;
 use words::field;
-use words::guest::clean;
+use words::guest::is_instruction;
 ghost use mathlib.Core.Path.{_≡_};
 ghost use Prim.Native.Nat.{_+_, _*_, _≤_, _<_};
 ghost use lib.ListN.{length};
 ghost use Rattle.spec.specs.Words.{packOf};
-ghost use Rattle.codec_read.specs.sure.Parts.{longest, gotAt, gotFour, Begun, Sure};
+ghost use Rattle.codec_read.specs.sure.Parts.{longest, bytePart, quadPart, ReadPrefix, FastAnswer};
 
 // The greatest map of fields, and the most bytes of an instruction.
 const TOP_MAP: usize = 63;
 
 pub const LONGEST: usize = 10;
 
-// No answer of the common case, which refuses nothing itself.
-const UNSURE: u8 = Refusal::TAKEN;
+// No answer of the fast path, which refuses nothing itself.
+const NO_ANSWER: u8 = Refusal::TAKEN;
 
 // A field, the place after it, and whether it stands though it is 0.
 struct Part {
@@ -26,9 +26,9 @@ struct Part {
     zero: bool,
 }
 
-fn got(s: &[u8], at: usize, bit: usize) -> Part
+fn byte_part(s: &[u8], at: usize, bit: usize) -> Part
     requires { ⌜ (bit ≤ 1) × (at + bit ≤ length (now s)) ⌝ }
-    ensures { λ r. ⌜ (r ≡ gotAt bit (now (s .entry)) at) × (r .value < 256) × (r .next ≤ at + 1) ⌝ }
+    ensures { λ r. ⌜ (r ≡ bytePart bit (now (s .entry)) at) × (r .value < 256) × (r .next ≤ at + 1) ⌝ }
 {
     if bit == 0 {
         return Part {
@@ -45,9 +45,9 @@ fn got(s: &[u8], at: usize, bit: usize) -> Part
     }
 }
 
-fn got_four(s: &[u8], at: usize, bit: usize) -> Part
+fn quad_part(s: &[u8], at: usize, bit: usize) -> Part
     requires { ⌜ (bit ≤ 1) × (at + 4 * bit ≤ length (now s)) ⌝ }
-    ensures { λ r. ⌜ (r ≡ gotFour bit (now (s .entry)) at) × (r .value < 4294967296) ⌝ }
+    ensures { λ r. ⌜ (r ≡ quadPart bit (now (s .entry)) at) × (r .value < 4294967296) ⌝ }
 {
     if bit == 0 {
         return Part {
@@ -78,53 +78,53 @@ fn join(kind: u64, d: u64, a: u64, b: u64, c: u64, v: u64) -> u64
 }
 
 // The fields from b on, and the instruction where it is plain that it is taken, or no answer.
-fn sure_rest(s: &[u8], m: usize, at: usize, kind: u64, d: u64, a: u64) -> One
-    requires { ⌜ Begun (now s) m at kind d a ⌝ }
-    ensures { λ r. ⌜ Sure r (now (s .entry)) ⌝ }
+fn read_fast_rest(s: &[u8], m: usize, at: usize, kind: u64, d: u64, a: u64) -> Decoded
+    requires { ⌜ ReadPrefix (now s) m at kind d a ⌝ }
+    ensures { λ r. ⌜ FastAnswer r (now (s .entry)) ⌝ }
 {
-    let b = got(s, at, m / 2 / 2 / 2 % 2);
+    let b = byte_part(s, at, m / 2 / 2 / 2 % 2);
     if b.zero {
-        return One::RefusedWith(UNSURE);
+        return Decoded::RefusedWith(NO_ANSWER);
     }
-    let c = got(s, b.next, m / 2 / 2 / 2 / 2 % 2);
+    let c = byte_part(s, b.next, m / 2 / 2 / 2 / 2 % 2);
     if c.zero {
-        return One::RefusedWith(UNSURE);
+        return Decoded::RefusedWith(NO_ANSWER);
     }
-    let v = got_four(s, c.next, m / 2 / 2 / 2 / 2 / 2);
+    let v = quad_part(s, c.next, m / 2 / 2 / 2 / 2 / 2);
     if v.zero {
-        return One::RefusedWith(UNSURE);
+        return Decoded::RefusedWith(NO_ANSWER);
     }
     let w = join(kind, d, a, b.value, c.value, v.value);
     let fits = (d < field::FOUR_BITS)
         & (a < field::FOUR_BITS)
         & (b.value < field::FOUR_BITS)
         & (c.value < field::FOUR_BITS);
-    if fits & clean(w) {
-        return One::Word(w, v.next);
+    if fits & is_instruction(w) {
+        return Decoded::Word(w, v.next);
     }
-    One::RefusedWith(UNSURE)
+    Decoded::RefusedWith(NO_ANSWER)
 }
 
 // The instruction at the front of s where it is plain that it is taken, or no answer.
-pub fn sure(s: &[u8]) -> One
+pub fn read_fast(s: &[u8]) -> Decoded
     requires { ⌜ longest ≤ length (now s) ⌝ }
-    ensures { λ r. ⌜ Sure r (now (s .entry)) ⌝ }
+    ensures { λ r. ⌜ FastAnswer r (now (s .entry)) ⌝ }
 {
     let m = wide(s[0]) as usize;
     if m > TOP_MAP {
-        return One::RefusedWith(UNSURE);
+        return Decoded::RefusedWith(NO_ANSWER);
     }
-    let kind = got(s, 1, m % 2);
+    let kind = byte_part(s, 1, m % 2);
     if kind.zero {
-        return One::RefusedWith(UNSURE);
+        return Decoded::RefusedWith(NO_ANSWER);
     }
-    let d = got(s, kind.next, m / 2 % 2);
+    let d = byte_part(s, kind.next, m / 2 % 2);
     if d.zero {
-        return One::RefusedWith(UNSURE);
+        return Decoded::RefusedWith(NO_ANSWER);
     }
-    let a = got(s, d.next, m / 2 / 2 % 2);
+    let a = byte_part(s, d.next, m / 2 / 2 % 2);
     if a.zero {
-        return One::RefusedWith(UNSURE);
+        return Decoded::RefusedWith(NO_ANSWER);
     }
-    sure_rest(s, m, a.next, kind.value, d.value, a.value)
+    read_fast_rest(s, m, a.next, kind.value, d.value, a.value)
 }

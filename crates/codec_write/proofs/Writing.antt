@@ -12,8 +12,8 @@ use Rattle.types.specs.declared.Answer.{Answer}
 use Rattle.types.specs.declared.Fields.{Fields}
 use Rattle.types.specs.declared.Refusal.the-variants.{SmallOutput, Taken}
 use Rattle.types.specs.Names.{mostInstructions, numberOf, answer, refusal, roomFor}
-use Rattle.spec.specs.Words.{fieldsOf, judgeWord, firstRefused}
-use Rattle.spec.specs.Bytes.{bitOf, mapOf, sizeOf, fieldsOut, oneOut, bytesOf, routineOf, writeAnswer, writeOutput}
+use Rattle.spec.specs.Words.{fieldsOf, wordRefusal, firstRefused}
+use Rattle.spec.specs.Bytes.{bitOf, mapOf, sizeOf, fieldsOut, encodeOne, bytesOf, routineOf, writeAnswer, writeOutput}
 use Rattle.spec.proofs.Bytes.{length-fields, length-routine, WriteOk, write-ok}
 use Rattle.spec.proofs.Refusals.{refused-done, output-kept, output-written}
 use Rattle.codec_write.proofs.encode.Storing.{sets-append}
@@ -47,7 +47,7 @@ few : (n p q r t x y : ℕ) → n ≡ 1 + p + q + r + t + x + 4 * y → p ≤ 1 
 few n p q r t x y e hp hq hr ht hx hy = omega arith
 
 module _ (w : ℕ) (f : Fields) (e : f ≡ fieldsOf w) (m : ℕ) (em : m ≡ mapOf f) (n : ℕ) (en : n ≡ sizeOf m) where
-  pub word-size : n ≡ length (oneOut w)
+  pub word-size : n ≡ length (encodeOne w)
   word-size = en ∙ ap sizeOf em ∙ size-fields f ∙ rw e
 
   pub word-short : n ≤ 10
@@ -60,30 +60,30 @@ module _ (ws : List ℕ) (i : ℕ) (h : i < length ws) (w : ℕ) (ew : w ≡ get
   next : drop i ws ≡ w ∷ drop (i + 1) ws
   next = rw (ew, add-one) (drop-cons ws i 0 h)
 
-  emit-length : length (bytesOf (drop i ws)) ≡ length (oneOut w) + length (bytesOf (drop (i + 1) ws))
+  emit-length : length (bytesOf (drop i ws)) ≡ length (encodeOne w) + length (bytesOf (drop (i + 1) ws))
   unfolding bytesOf
   emit-length = rw (next, length-append)
 
-  pub weigh-more : (n z y : ℕ) → n ≡ z + length (bytesOf (drop i ws)) → y ≡ length (oneOut w) → n ≡ z + y + length (bytesOf (drop (i + 1) ws))
+  pub weigh-more : (n z y : ℕ) → n ≡ z + length (bytesOf (drop i ws)) → y ≡ length (encodeOne w) → n ≡ z + y + length (bytesOf (drop (i + 1) ws))
   weigh-more n z y e ey = omega (arith, emit-length)
 
-  pub emit-more : (to b : ℕ) (o o₁ r : List ℕ) → o₁ ≡ stores o to (oneOut w) → b ≡ to + length (oneOut w) → r ≡ stores o to (bytesOf (drop i ws))
+  pub emit-more : (to b : ℕ) (o o₁ r : List ℕ) → o₁ ≡ stores o to (encodeOne w) → b ≡ to + length (encodeOne w) → r ≡ stores o to (bytesOf (drop i ws))
       → r ≡ stores o₁ b (bytesOf (drop (i + 1) ws))
   unfolding bytesOf
   emit-more to b o o₁ r eo eb er = er ∙ rw (next, sets-append, ← eo, ← eb)
 
-  pub emit-room : (to n l : ℕ) → l ≡ n → to + length (bytesOf (drop i ws)) ≤ n → to + length (oneOut w) ≤ l
+  pub emit-room : (to n l : ℕ) → l ≡ n → to + length (bytesOf (drop i ws)) ≤ n → to + length (encodeOne w) ≤ l
   emit-room to n l el f = omega (arith, emit-length)
 
-  pub emit-rest : (to b n : ℕ) → b ≡ to + length (oneOut w) → to + length (bytesOf (drop i ws)) ≤ n → b + length (bytesOf (drop (i + 1) ws)) ≤ n
+  pub emit-rest : (to b n : ℕ) → b ≡ to + length (encodeOne w) → to + length (bytesOf (drop i ws)) ≤ n → b + length (bytesOf (drop (i + 1) ws)) ≤ n
   emit-rest to b n eb f = omega (arith, emit-length)
 
 module _ (ws : List ℕ) (i : ℕ) (h : length ws ≤ i) where
   -- all weighed: what is left is the room
-  module _ (n z : ℕ) (e : n ≡ z + length (bytesOf (drop i ws))) (room : ℕ) (r : Answer) (er : r ≡ firstRefused judgeWord (drop i ws) i (roomFor room n)) where
+  module _ (n z : ℕ) (e : n ≡ z + length (bytesOf (drop i ws))) (room : ℕ) (r : Answer) (er : r ≡ firstRefused wordRefusal (drop i ws) i (roomFor room n)) where
     weigh-done : roomFor room z ≡ r
     unfolding bytesOf
-    weigh-done = let last : n ≡ z = e ∙ rw (drop-of-length-le ws h, add-zero) in rw (← last) (refused-done judgeWord ws i _ r er h)
+    weigh-done = let last : n ≡ z = e ∙ rw (drop-of-length-le ws h, add-zero) in rw (← last) (refused-done wordRefusal ws i _ r er h)
 
     pub weigh-small : room < z → refusal SmallOutput 0 ≡ r
     weigh-small l = rw (lt-ltb room z l) at weigh-done

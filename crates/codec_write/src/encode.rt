@@ -7,8 +7,8 @@ ghost use mathlib.Core.List.{_++_};
 ghost use Prim.Native.Nat.{_+_, _*_, _/_, _%_, _≤_, _<_};
 ghost use lib.ListN.{length, set};
 ghost use lib.Seq.{sets as stores};
-ghost use Rattle.spec.specs.Bytes.{bitOf, byteOut, quadOut, regsOut, fieldsOut, oneOut};
-ghost use Rattle.codec_write.specs.encode.Widths.{weightOf, Small};
+ghost use Rattle.spec.specs.Bytes.{bitOf, byteOut, quadOut, regsOut, fieldsOut, encodeOne};
+ghost use Rattle.codec_write.specs.encode.Widths.{encodedSize, Small};
 
 // A field of one byte, left out where it is 0.
 fn put_byte(bytes: &mut [u8], at: usize, x: u64) -> usize
@@ -74,8 +74,8 @@ fn put_regs(bytes: &mut [u8], at: usize, f: Fields) -> usize
 }
 
 fn put_fields(bytes: &mut [u8], at: usize, f: Fields) -> usize
-    requires { ⌜ (at + weightOf f ≤ length (now bytes)) × Small f ⌝ }
-    ensures next { λ r. ⌜ r ≡ at + weightOf f ⌝ }
+    requires { ⌜ (at + encodedSize f ≤ length (now bytes)) × Small f ⌝ }
+    ensures next { λ r. ⌜ r ≡ at + encodedSize f ⌝ }
     ensures content { λ _. ⌜ now (bytes .exit) ≡ stores (now (bytes .entry)) at (fieldsOut f) ⌝ }
 {
     let p = store(bytes, at, map_of(f));
@@ -86,9 +86,9 @@ fn put_fields(bytes: &mut [u8], at: usize, f: Fields) -> usize
 
 // The bytes of a word, from the place at on; the place after them.
 pub fn put_one(bytes: &mut [u8], at: usize, w: u64) -> usize
-    requires { ⌜ at + length (oneOut w) ≤ length (now bytes) ⌝ }
-    ensures next { λ r. ⌜ r ≡ at + length (oneOut w) ⌝ }
-    ensures content { λ _. ⌜ now (bytes .exit) ≡ stores (now (bytes .entry)) at (oneOut w) ⌝ }
+    requires { ⌜ at + length (encodeOne w) ≤ length (now bytes) ⌝ }
+    ensures next { λ r. ⌜ r ≡ at + length (encodeOne w) ⌝ }
+    ensures content { λ _. ⌜ now (bytes .exit) ≡ stores (now (bytes .entry)) at (encodeOne w) ⌝ }
 {
     put_fields(bytes, at, fields(w))
 }

@@ -8,36 +8,36 @@ use types::Answer;
 use types::Instr;
 use types::Refusal;
 use words::fields::fields;
-use words::guest::judge_word;
+use words::guest::word_refusal;
 ghost use mathlib.Core.Path.{_≡_};
 ghost use Prim.Native.Nat.{_+_, _≤_};
 ghost use lib.ListN.{length};
 ghost use lib.Seq.{sets as stores};
 ghost use Rattle.types.specs.Names.{mostInstructions, roomFor};
-ghost use Rattle.spec.specs.Words.{judgeWord, firstRefused};
-ghost use Rattle.spec.specs.Bytes.{oneOut, bytesOf, routineOf, writeAnswer, writeOutput};
+ghost use Rattle.spec.specs.Words.{wordRefusal, firstRefused};
+ghost use Rattle.spec.specs.Bytes.{encodeOne, bytesOf, routineOf, writeAnswer, writeOutput};
 
 // How many bytes a word takes.
-fn weight_word(w: u64) -> usize
-    ensures { λ r. ⌜ (r ≡ length (oneOut w)) × (r ≤ 10) ⌝ }
+fn encoded_size(w: u64) -> usize
+    ensures { λ r. ⌜ (r ≡ length (encodeOne w)) × (r ≤ 10) ⌝ }
 {
     size_of(map_of(fields(w)))
 }
 
 // The first refusal among the words, or the number of the routine's bytes, or 9 where there is no room for these.
-fn weigh(words: &[u64], room: usize) -> Answer
+fn measure(words: &[u64], room: usize) -> Answer
     requires { ⌜ length (now words) ≤ mostInstructions ⌝ }
-    ensures { λ r. ⌜ r ≡ firstRefused judgeWord (now (words .entry)) 0 (roomFor room (length (routineOf (now (words .entry))))) ⌝ }
+    ensures { λ r. ⌜ r ≡ firstRefused wordRefusal (now (words .entry)) 0 (roomFor room (length (routineOf (now (words .entry))))) ⌝ }
 {
     let mut i: usize = 0;
     let mut z: usize = 2;
     while i < words.len() {
         let w = words[i];
-        let refused = judge_word(w);
+        let refused = word_refusal(w);
         if refused != Refusal::TAKEN {
             return Answer::refused_at(refused, i);
         }
-        z += weight_word(w);
+        z += encoded_size(w);
         i += 1;
     }
     if room < z {
@@ -75,7 +75,7 @@ fn write_check(words: &[u64], room: usize) -> Answer
     if words.len() > Instr::MOST {
         return Answer::refused(Refusal::OVERSIZE);
     }
-    weigh(words, room)
+    measure(words, room)
 }
 
 // Writes a routine: its bytes from the start of the output, which a refusal leaves as it was.

@@ -4,12 +4,12 @@ use types::Instr;
 use types::Layout;
 use types::Refusal;
 use words::memory::fits;
-use words::routine::judge_all;
+use words::routine::first_refusal;
 ghost use mathlib.Core.Path.{_≡_};
 ghost use Rattle.engine_spec.specs.Engines.{refusalBy};
 
 // The refusal of a run with these words and so many cells of memory, or 0.
-pub fn judge(layout: Layout, words: &[u64], cells: usize) -> Answer
+pub fn run_refusal(layout: Layout, words: &[u64], cells: usize) -> Answer
     ensures { λ r. ⌜ r ≡ refusalBy layout (now (words .entry)) cells ⌝ }
 {
     let n = words.len();
@@ -19,5 +19,5 @@ pub fn judge(layout: Layout, words: &[u64], cells: usize) -> Answer
     if n > Instr::MOST {
         return Answer::refused(Refusal::OVERSIZE);
     }
-    judge_all(words, Answer::taken(0))
+    first_refusal(words, Answer::taken(0))
 }

@@ -2,7 +2,7 @@
 pub mod judge;
 pub mod run_loop;
 
-use crate::run_loop::turns;
+use crate::run_loop::run_loop;
 use engine_spec::Engine;
 use engine_spec::EngineOutcome;
 use machine_step::points::Point;
@@ -17,8 +17,8 @@ ghost use Prim.Native.Nat.{_+_, _≤_};
 ghost use Rattle.types.specs.declared.Status.the-variants.{Running};
 ghost use Rattle.types.specs.Names.{mostInstructions};
 ghost use Rattle.spec.specs.Words.{bundlesFor};
-ghost use Rattle.spec.specs.Machines.{stateOf, ranOf};
-ghost use Rattle.engine_spec.specs.Engines.{engineOf, Clean, Judged, outcomeOf, endAnswer, runFrom, startOf, runOf};
+ghost use Rattle.spec.specs.Machines.{stateOf, runResultOf};
+ghost use Rattle.engine_spec.specs.Engines.{engineOf, ValidWords, ValidatedWords, outcomeOf, endAnswer, runFrom, startOf, runOf};
 
 // ---- what a run answers
 
@@ -27,7 +27,7 @@ fn end_answer(ending: Ending) -> Answer
     ensures { λ r. ⌜ r ≡ endAnswer ending ⌝ }
 {
     Answer {
-        number: machine_step::endings::number(ending),
+        number: machine_step::endings::ending_number(ending),
         place: 0,
     }
 }
@@ -49,8 +49,8 @@ fn finish(regs: [u32; Engine::REGISTERS], at: Point, ending: Ending, steps: u32)
     }
 }
 
-// A run of an engine that is running, on words that were judged.
-fn go(
+// A run of an engine that is running, on words that were validated.
+fn run_running(
     layout: Layout,
     words: &[u64],
     top: u32,
@@ -60,11 +60,11 @@ fn go(
     readings: &[u32],
     log: &mut [u32],
 ) -> EngineOutcome
-    requires { ⌜ Judged (now words) top ⌝ }
-    ensures { λ r. ⌜ ranOf r (now (memory .exit)) (now (log .exit)) ≡ runFrom layout (now (words .entry)) (now (readings .entry)) budget 0 (stateOf (engine .regs) (engine .at) Running (now (memory .entry)) (now (log .entry)) 0 0) ⌝ }
+    requires { ⌜ ValidatedWords (now words) top ⌝ }
+    ensures { λ r. ⌜ runResultOf r (now (memory .exit)) (now (log .exit)) ≡ runFrom layout (now (words .entry)) (now (readings .entry)) budget 0 (stateOf (engine .regs) (engine .at) Running (now (memory .entry)) (now (log .entry)) 0 0) ⌝ }
 {
     let mut regs = engine.regs;
-    let stand = turns(
+    let loop_exit = run_loop(
         layout,
         words,
         top,
@@ -75,9 +75,9 @@ fn go(
         readings,
         log,
     );
-    let at = stand.at;
-    let ending = stand.ending;
-    finish(regs, at, ending, stand.steps)
+    let at = loop_exit.at;
+    let ending = loop_exit.ending;
+    finish(regs, at, ending, loop_exit.steps)
 }
 
 // N − 1, the last index.
@@ -89,7 +89,7 @@ fn last_index(n: usize) -> u32
     (count - 1) as u32
 }
 
-// A run of an engine in any status, on words that were judged.
+// A run of an engine in any status, on words that were validated.
 fn run_on(
     layout: Layout,
     words: &[u64],
@@ -99,24 +99,24 @@ fn run_on(
     readings: &[u32],
     log: &mut [u32],
 ) -> EngineOutcome
-    requires { ⌜ Clean (now words) ⌝ }
-    ensures { λ r. ⌜ ranOf r (now (memory .exit)) (now (log .exit)) ≡ runFrom layout (now (words .entry)) (now (readings .entry)) budget 0 (startOf engine (now (memory .entry)) (now (log .entry))) ⌝ }
+    requires { ⌜ ValidWords (now words) ⌝ }
+    ensures { λ r. ⌜ runResultOf r (now (memory .exit)) (now (log .exit)) ≡ runFrom layout (now (words .entry)) (now (readings .entry)) budget 0 (startOf engine (now (memory .entry)) (now (log .entry))) ⌝ }
 {
     let status = engine.status;
     if let Status::Running = status {
         let top = last_index(words.len());
-        return go(layout, words, top, engine, memory, budget, readings, log);
+        return run_running(layout, words, top, engine, memory, budget, readings, log);
     }
     EngineOutcome {
         engine,
-        answer: end_answer(machine_step::endings::of(status)),
+        answer: end_answer(machine_step::endings::ending_of(status)),
         steps: 0,
         pairs: 0,
         used: 0,
     }
 }
 
-// A run, the record by value: 7, 5, then per word 3, 2, 4, 8 with its place refuse it before any instruction, and nothing changes.
+// A run, the record by value. Before any instruction it is refused with 7 (bad layout), 5 (oversize), or per word with 3, 2, 4 or 8 and its place; then nothing changes.
 pub fn run(
     layout: Layout,
     words: &[u64],
@@ -126,9 +126,9 @@ pub fn run(
     readings: &[u32],
     log: &mut [u32],
 ) -> EngineOutcome
-    ensures { λ r. ⌜ ranOf r (now (memory .exit)) (now (log .exit)) ≡ runOf layout (now (words .entry)) engine (now (memory .entry)) budget (now (readings .entry)) (now (log .entry)) ⌝ }
+    ensures { λ r. ⌜ runResultOf r (now (memory .exit)) (now (log .exit)) ≡ runOf layout (now (words .entry)) engine (now (memory .entry)) budget (now (readings .entry)) (now (log .entry)) ⌝ }
 {
-    let answer = crate::judge::judge(layout, words, memory.len());
+    let answer = crate::judge::run_refusal(layout, words, memory.len());
     let refused = answer.number;
     if refused == Refusal::TAKEN {
         return run_on(layout, words, engine, memory, budget, readings, log);

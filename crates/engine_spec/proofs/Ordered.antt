@@ -15,51 +15,51 @@ use Rattle.types.specs.declared.Status.the-variants.{Running, Ended, Stopped, F
 use Rattle.types.specs.declared.Ending.{Ending}
 use Rattle.types.specs.declared.Ending.the-variants.{LogFull, Silent, Spent}
 use Rattle.types.specs.declared.Effect.{Effect}
-use Rattle.types.specs.declared.Effect.the-variants.{Go, Put, Cell, Order, Probe, End, Wait}
+use Rattle.types.specs.declared.Effect.the-variants.{Go, SetReg, SetCell, Order, Probe, End, Wait}
 use Rattle.types.specs.declared.Answer.{Answer}
 use Rattle.types.specs.Names.{orders, noArrow, mostInstructions, answer, orElse}
 use Rattle.spec.specs.Layouts.{rightLayout}
-use Rattle.spec.specs.Words.{judgeAt, routine, bundlesFor}
-use Rattle.spec.specs.Bundles.{placeAnswer, rewriteAnswer}
-use Rattle.spec.specs.Machines.{State, applyOf, seen, endingOf, eventEffect}
+use Rattle.spec.specs.Words.{refusalAt, routine, bundlesFor}
+use Rattle.spec.specs.Bundles.{baseRoomAnswer, rewriteAnswer}
+use Rattle.spec.specs.Machines.{State, applyOf, viewAt, endingOf, eventEffect}
 use Rattle.spec.proofs.Bools.{no, cases}
 use Rattle.spec.proofs.Loops.{over-from, wait-from, go-from, keeps}
 use Rattle.spec.proofs.Refusals.{refused-map, else-kept, else-none}
-use Rattle.engine_spec.specs.Engines.{sendOf, actOf, nextFor, nextOf, entryAddress, entryAt, movedOf, effectOn, Ran, endedIn, leftIn, runFrom, startOf, refusalBy, runOf}
-use Rattle.engine_spec.specs.Order.{only, EngineOrder, EngineRefuses, EngineRewriter, EngineTakes}
+use Rattle.engine_spec.specs.Engines.{checkedEvent, instrEffect, instrEffectAt, nextOf, entryAddress, entryAt, withState, applyEffect, RunResult, resultIn, finalState, runFrom, startOf, refusalBy, runOf}
+use Rattle.engine_spec.specs.Order.{withStatus, EngineOrder, EngineRefuses, EngineRewriter, EngineTakes}
 use Rattle.engine_spec.proofs.Runs.{engineLoop, taken-size}
-use Rattle.engine_spec.proofs.Moments.{engine-splits}
+use Rattle.engine_spec.proofs.Prefixes.{engine-runs-compose}
 
 pub engine-refuses : EngineRefuses
 unfolding runOf
 engine-refuses lay ws m mem budget rd log z = rw (ne-eqb _ _ z)
 
 -- ---- no instruction changes the memory's length
-move-length : (lay : Layout) (e : Effect) (mem : List ℕ) → length (movedOf lay e mem) ≡ length mem
-unfolding movedOf
+move-length : (lay : Layout) (e : Effect) (mem : List ℕ) → length (withState lay e mem) ≡ length mem
+unfolding withState
 move-length lay (Go to) mem = refl
-move-length lay (Put d x) mem = refl
-move-length lay (Cell i x) mem = refl
+move-length lay (SetReg d x) mem = refl
+move-length lay (SetCell i x) mem = refl
 move-length lay (Order v) mem = length-set mem (lay .cell) (entryAt lay mem v)
 move-length lay (Probe v) mem = length-set mem (lay .cell) (entryAt lay mem v)
 move-length lay (End t) mem = refl
 move-length lay (Wait w) mem = refl
 
-step-length : (lay : Layout) (rd : List ℕ) (e : Effect) (s : State) → length (effectOn lay rd e s .mem) ≡ length (s .mem)
-unfolding effectOn applyOf
+step-length : (lay : Layout) (rd : List ℕ) (e : Effect) (s : State) → length (applyEffect lay rd e s .mem) ≡ length (s .mem)
+unfolding applyEffect applyOf
 step-length lay rd (Go to) s = move-length lay (Go to) (s .mem)
-step-length lay rd (Put d x) s = move-length lay (Put d x) (s .mem)
-step-length lay rd (Cell i x) s = length-set (movedOf lay (Cell i x) (s .mem)) i x ∙ move-length lay (Cell i x) (s .mem)
+step-length lay rd (SetReg d x) s = move-length lay (SetReg d x) (s .mem)
+step-length lay rd (SetCell i x) s = length-set (withState lay (SetCell i x) (s .mem)) i x ∙ move-length lay (SetCell i x) (s .mem)
 step-length lay rd (Order v) s = move-length lay (Order v) (s .mem)
 step-length lay rd (Probe v) s = move-length lay (Probe v) (s .mem)
 step-length lay rd (End t) s = move-length lay (End t) (s .mem)
 step-length lay rd (Wait w) s = move-length lay (Wait w) (s .mem)
 
 -- what a run of at most j instructions leaves: a memory as long as it was; if it is no longer running, as its status says; if it is and counted j, spent
-record Left (j len : ℕ) (r : Ran) : Type 0 where
+record Left (j len : ℕ) (r : RunResult) : Type 0 where
   size : length (r .mem) ≡ len
-  over : (r .outcome .engine .status ≡ Running → ⊥) → r ≡ endedIn (endingOf (r .outcome .engine .status)) (r .outcome .steps) (leftIn r)
-  spent : r .outcome .engine .status ≡ Running → r .outcome .steps ≡ j → r ≡ endedIn Spent j (leftIn r)
+  over : (r .outcome .engine .status ≡ Running → ⊥) → r ≡ resultIn (endingOf (r .outcome .engine .status)) (r .outcome .steps) (finalState r)
+  spent : r .outcome .engine .status ≡ Running → r .outcome .steps ≡ j → r ≡ resultIn Spent j (finalState r)
 
 left-of : (lay : Layout) (ws rd : List ℕ) (j : ℕ) (s : State) → Left j (length (s .mem)) (runFrom lay ws rd j 0 s)
 left-of lay ws rd j s₀ =
@@ -71,23 +71,23 @@ left-of lay ws rd j s₀ =
 -- ---- a run from any state
 module _ (lay : Layout) (ws rd : List ℕ) (k : ℕ) (s : State) (size : length (s .mem) ≡ lay .size) where
   -- an instruction that ends the run
-  ends : (n : ℕ) (t : Status) → s .status ≡ Running → (t ≡ Running → ⊥) → nextOf lay ws rd s ≡ End t → runFrom lay ws rd (suc n) k s ≡ only s t (endingOf t) (k + 1)
-  unfolding effectOn applyOf movedOf
+  ends : (n : ℕ) (t : Status) → s .status ≡ Running → (t ≡ Running → ⊥) → nextOf lay ws rd s ≡ End t → runFrom lay ws rd (suc n) k s ≡ withStatus s t (endingOf t) (k + 1)
+  unfolding applyEffect applyOf withState
   ends n t run h e =
       let l = engineLoop lay ws rd in
-      go-from l n k s run (λ w z. no (cc)) ∙ ap (λ (x : Effect). runFrom lay ws rd n (k + 1) (effectOn lay rd x s)) e ∙ over-from l n (k + 1) (effectOn lay rd (End t) s) h
+      go-from l n k s run (λ w z. no (cc)) ∙ ap (λ (x : Effect). runFrom lay ws rd n (k + 1) (applyEffect lay rd x s)) e ∙ over-from l n (k + 1) (applyEffect lay rd (End t) s) h
 
   -- a pause
-  waits : (n : ℕ) (e : Ending) → s .status ≡ Running → nextOf lay ws rd s ≡ Wait e → runFrom lay ws rd (suc n) k s ≡ only s Running e k
+  waits : (n : ℕ) (e : Ending) → s .status ≡ Running → nextOf lay ws rd s ≡ Wait e → runFrom lay ws rd (suc n) k s ≡ withStatus s Running e k
   waits n e run h = wait-from (engineLoop lay ws rd) n k s e run h ∙ rw run
 
   module _ (v : ℕ) (l : s .pc < bundlesFor (length ws)) (e : routine ws (s .pc) ≡ EVENT v) where
-    sends : nextOf lay ws rd s ≡ sendOf v (seen lay rd s)
-    unfolding nextFor actOf
+    sends : nextOf lay ws rd s ≡ checkedEvent v (viewAt lay rd s)
+    unfolding instrEffectAt instrEffect
     sends = rw (lt-ltb _ _ l, e)
 
     faulted : lay .size ≤ entryAddress lay (s .mem) v → nextOf lay ws rd s ≡ End Faulted
-    unfolding sendOf
+    unfolding checkedEvent
     faulted h = sends ∙ rw (le-ltb (entryAddress lay (s .mem) v) (length (s .mem)) (omega (arith, size)))
 
     module _ (h : entryAddress lay (s .mem) v < lay .size) where
@@ -95,11 +95,11 @@ module _ (lay : Layout) (ws rd : List ℕ) (k : ℕ) (s : State) (size : length 
       inside = omega (arith, size)
 
       stopped : entryAt lay (s .mem) v ≡ noArrow → nextOf lay ws rd s ≡ End Stopped
-      unfolding sendOf
+      unfolding checkedEvent
       stopped a = sends ∙ rw (lt-ltb _ _ inside, eq-eqb (entryAt lay (s .mem) v) noArrow a)
 
       pub paused : (entryAt lay (s .mem) v ≡ noArrow → ⊥) → nextOf lay ws rd s ≡ eventEffect v (length (s .log) - 2 * s .pairs) (length rd - s .used)
-      unfolding sendOf
+      unfolding checkedEvent
       paused a = sends ∙ rw (lt-ltb _ _ inside, ne-eqb (entryAt lay (s .mem) v) noArrow a)
 
 silent-by : (v free left : ℕ) → orders ≤ v → left ≡ 0 → eventEffect v free left ≡ Wait Silent
@@ -114,22 +114,22 @@ full-by v free left (inr o) r =
     ⊎-elim (λ t. full-order v free left (ltb-true v orders t) r) (λ t. rw (t, ne-eqb left 0 (λ y. omega arith), lt-ltb free 2 r)) (cases (ltb v orders))
 
 -- a run that is over stays so, whatever its budget
-over-on : (lay : Layout) (ws rd : List ℕ) (j n : ℕ) (first : State) → Left j (length (first .mem)) (runFrom lay ws rd j 0 first) → let s = leftIn (runFrom lay ws rd j 0 first) in (s .status ≡ Running → ⊥) → runFrom lay ws rd (j + n) 0 first ≡ endedIn (endingOf (s .status)) (runFrom lay ws rd j 0 first .outcome .steps) s
+over-on : (lay : Layout) (ws rd : List ℕ) (j n : ℕ) (first : State) → Left j (length (first .mem)) (runFrom lay ws rd j 0 first) → let s = finalState (runFrom lay ws rd j 0 first) in (s .status ≡ Running → ⊥) → runFrom lay ws rd (j + n) 0 first ≡ resultIn (endingOf (s .status)) (runFrom lay ws rd j 0 first .outcome .steps) s
 over-on lay ws rd j zero first left h = let e : j + 0 ≡ j = omega arith in ap (λ (i : ℕ). runFrom lay ws rd i 0 first) e ∙ left .over h
-over-on lay ws rd j (suc n) first left h = engine-splits lay ws rd j n 0 first ∙ over-from (engineLoop lay ws rd) (suc n) _ (leftIn (runFrom lay ws rd j 0 first)) h
+over-on lay ws rd j (suc n) first left h = engine-runs-compose lay ws rd j n 0 first ∙ over-from (engineLoop lay ws rd) (suc n) _ (finalState (runFrom lay ws rd j 0 first)) h
 
 pub engine-order : EngineOrder
-unfolding runOf nextFor actOf
+unfolding runOf instrEffectAt instrEffect
 engine-order lay ws m mem rd log j z =
     let first = startOf m mem log in
     let r = runFrom lay ws rd j 0 first in
     let k = r .outcome .steps in
-    let s = leftIn r in
+    let s = finalState r in
     let left = left-of lay ws rd j first in
     let size : length (s .mem) ≡ lay .size = left .size ∙ taken-size lay ws mem z in
     -- the run with more: it goes on from here
     let on : (n : ℕ) → runFrom lay ws rd (j + (n + 1)) 0 first ≡ runFrom lay ws rd (suc n) k s =
-    λ n. let e : j + (n + 1) ≡ j + suc n = omega arith in ap (λ (i : ℕ). runFrom lay ws rd i 0 first) e ∙ engine-splits lay ws rd j n 0 first in
+    λ n. let e : j + (n + 1) ≡ j + suc n = omega arith in ap (λ (i : ℕ). runFrom lay ws rd i 0 first) e ∙ engine-runs-compose lay ws rd j n 0 first in
     let none : j + 0 ≡ j = omega arith in
     let free = length (s .log) - 2 * s .pairs in
     let rest = length rd - s .used in
@@ -147,17 +147,17 @@ engine-order lay ws m mem rd log j z =
     })
 
 -- ---- the rewriter's refusals
-refusals : (lay : Layout) (ws : List ℕ) (room : ℕ) (r m : Bool) → rightLayout lay ≡ r → ltb mostInstructions (length ws) ≡ m → rewriteAnswer lay ws room ≡ orElse (refusalBy lay ws (lay .size)) (placeAnswer lay (length ws) room)
+refusals : (lay : Layout) (ws : List ℕ) (room : ℕ) (r m : Bool) → rightLayout lay ≡ r → ltb mostInstructions (length ws) ≡ m → rewriteAnswer lay ws room ≡ orElse (refusalBy lay ws (lay .size)) (baseRoomAnswer lay (length ws) room)
 unfolding rewriteAnswer refusalBy
 refusals lay ws room false m er em = rw er
 refusals lay ws room true true er em = rw (er, eq-eqb (lay .size) (lay .size) refl, em)
 refusals lay ws room true false er em =
-    let z = placeAnswer lay (length ws) room in
-    rw (er, eq-eqb (lay .size) (lay .size) refl, em) (sym (refused-map (judgeAt (length ws)) (λ a. orElse a z) (λ x p h. else-kept (answer x p) z h) ws 0 (answer 0 0)))
+    let z = baseRoomAnswer lay (length ws) room in
+    rw (er, eq-eqb (lay .size) (lay .size) refl, em) (sym (refused-map (refusalAt (length ws)) (λ a. orElse a z) (λ x p h. else-kept (answer x p) z h) ws 0 (answer 0 0)))
 
 pub engine-rewriter : EngineRewriter
 engine-rewriter lay ws room = refusals lay ws room _ _ refl refl
 
 pub engine-takes : EngineTakes
 engine-takes lay ws room mem e size =
-    ap (λ (k : ℕ). refusalBy lay ws k .number) size ∙ else-none (refusalBy lay ws (lay .size)) (placeAnswer lay (length ws) room) (ap (λ (x : Answer). x .number) (sym (engine-rewriter lay ws room)) ∙ e) .0
+    ap (λ (k : ℕ). refusalBy lay ws k .number) size ∙ else-none (refusalBy lay ws (lay .size)) (baseRoomAnswer lay (length ws) room) (ap (λ (x : Answer). x .number) (sym (engine-rewriter lay ws room)) ∙ e) .0

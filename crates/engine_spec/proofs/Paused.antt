@@ -22,18 +22,18 @@ use Rattle.spec.specs.Policies.{arrow}
 use Rattle.spec.specs.Words.{routine, bundlesFor}
 use Rattle.spec.specs.Commands.{fetchOf}
 use Rattle.spec.specs.Bundles.{shapeOf, addressOf, commandsOf, rewriteAnswer}
-use Rattle.spec.specs.Machines.{State, applyOf, effectOf, eventEffect, endingOf, unlessWait, seen, fits, nextOf as machineNext, stepOf as machineStep, Ran as MachineRan, startOf as machineStart, runFrom as machineFrom, runOf as machineRun, installMemory, loopFrom}
+use Rattle.spec.specs.Machines.{State, applyOf, effectOf, eventEffect, endingOf, unlessWait, viewAt, fits, nextOf as machineNext, stepOf as machineStep, RunResult as MachineResult, startOf as machineStart, runFrom as machineFrom, runOf as machineRun, installMemory, loopFrom}
 use Rattle.spec.specs.Guests.{Guest, guestAfter, guestStart}
 use Rattle.spec.specs.Runs.{runOn as machineOn, after as machineAfter}
 use Rattle.spec.proofs.Bools.{cond-ind}
 use Rattle.spec.proofs.Facts.{Valid}
 use Rattle.spec.proofs.Loops.{Goes, loop-ind, machineLoop}
 use Rattle.spec.proofs.Conditions.{bundled-routine}
-use Rattle.spec.proofs.Sim.{arrow-entry}
-use Rattle.spec.proofs.Track.{lent-cell}
+use Rattle.spec.proofs.Simulation.{arrow-entry}
+use Rattle.spec.proofs.RunSimulation.{lent-cell}
 use Rattle.spec.proofs.Pauses.{pause-rule}
-use Rattle.engine_spec.specs.Engines.{nextOf, withMemory, effectOn, movedOf, stepOf, entryAt, Ran, startOf, runFrom, runOf, refusalOf, refusalBy}
-use Rattle.engine_spec.specs.Claims.{after, runOn, Follows, EnginePauses}
+use Rattle.engine_spec.specs.Engines.{nextOf, withMemory, applyEffect, withState, stepOf, entryAt, RunResult, startOf, runFrom, runOf, refusalOf, refusalBy}
+use Rattle.engine_spec.specs.Claims.{after, runOn, EngineSimulates, EnginePauses}
 use Rattle.engine_spec.proofs.Runs.{engineLoop, taken-size, enter}
 use Rattle.engine_spec.proofs.Rule.{taken-of, ready-of, routine-of, stays, engine-rule, meet}
 use Rattle.engine_spec.proofs.Ordered.{paused}
@@ -60,7 +60,7 @@ sent caps rd s v f u =
 machine-one : (lay : Layout) (ws rd : List ℕ) (s : State) (v f u : ℕ) → s .status ≡ Running → machineNext lay ws rd s ≡ eventEffect v f u → endingNumber (machineFrom lay ws rd 1 0 s .outcome .answer .ending) ≡ numberBy (eventEffect v f u)
 unfolding loopFrom
 machine-one lay ws rd s v f u run z =
-    loop-ind (machineLoop lay ws rd) 0 0 s (λ (r : MachineRan). endingNumber (r .outcome .answer .ending) ≡ numberBy (eventEffect v f u)) (λ o. absurd (o run))
+    loop-ind (machineLoop lay ws rd) 0 0 s (λ (r : MachineResult). endingNumber (r .outcome .answer .ending) ≡ numberBy (eventEffect v f u)) (λ o. absurd (o run))
     (λ _ w y. ap numberBy (sym y ∙ z))
     (λ _ go.
     let q = sent (lay .ceilings) rd s v f u (subst Goes z go) in
@@ -68,14 +68,14 @@ machine-one lay ws rd s v f u run z =
     ap (λ (x : Status). endingNumber (endingOf x)) t ∙ sym (q .0))
 
 engine-one : (lay : Layout) (ws rd : List ℕ) (s : State) (v f u : ℕ) → s .status ≡ Running → nextOf lay ws rd s ≡ eventEffect v f u → runFrom lay ws rd 1 0 s .outcome .answer .number ≡ numberBy (eventEffect v f u)
-unfolding loopFrom effectOn
+unfolding loopFrom applyEffect
 engine-one lay ws rd s v f u run z =
-    loop-ind (engineLoop lay ws rd) 0 0 s (λ (r : Ran). r .outcome .answer .number ≡ numberBy (eventEffect v f u)) (λ o. absurd (o run))
+    loop-ind (engineLoop lay ws rd) 0 0 s (λ (r : RunResult). r .outcome .answer .number ≡ numberBy (eventEffect v f u)) (λ o. absurd (o run))
     (λ _ w y. ap numberBy (sym y ∙ z))
     (λ _ go.
     let e = eventEffect v f u in
-    let q = sent (lay .ceilings) rd (withMemory s (movedOf lay e (s .mem))) v f u (subst Goes z go) in
-    let t : stepOf lay ws rd s .status ≡ Running = ap (λ (x : Effect). effectOn lay rd x s .status) z ∙ q .1 ∙ run in
+    let q = sent (lay .ceilings) rd (withMemory s (withState lay e (s .mem))) v f u (subst Goes z go) in
+    let t : stepOf lay ws rd s .status ≡ Running = ap (λ (x : Effect). applyEffect lay rd x s .status) z ∙ q .1 ∙ run in
     ap (λ (x : Status). endingNumber (endingOf x)) t ∙ sym (q .0))
 
 -- the machine on the third command of an event's bundle
@@ -85,7 +85,7 @@ machine-next lay code rd room s h v z l e pc =
     let N = bundlesFor (length code) in
     let at : fetchOf (commandsOf lay code) (lay .base) (s .pc) ≡ Event v =
     ap (fetchOf (commandsOf lay code) (lay .base)) pc ∙ bundled-routine lay code room z .each h 2 l (lit< tt) ∙ ap (λ (i : Instr). shapeOf lay N i 2) e in
-    ap (λ (c : Command). effectOf c (seen lay rd s)) at
+    ap (λ (c : Command). effectOf c (viewAt lay rd s)) at
 
 pub engine-pauses : EnginePauses
 unfolding machineOn machineRun runOn runOf
@@ -98,10 +98,10 @@ engine-pauses lay pol code mem room gs es v w count g h sg sh lent logs readings
     let p = pause-rule lay pol code mem room gs (v .rewritten) (v .machine) w in
     let k : n .counted ≡ c .begun - 1 = omega (arith, count) in
     let G = guestAfter lay pol N (routine code) (c .consumed) g0 (c .begun - 1) in
-    let f : Follows lay (guestAfter lay pol N (routine code) (n .consumed) g0 (c .begun - 1)) n = subst (λ (j : ℕ). Follows lay (guestAfter lay pol N (routine code) (n .consumed) g0 j) n) k (engine-rule lay pol code mem es (v .engine)) in
-    let same = meet lay pol N (routine code) g0 (c .consumed) (n .consumed) (c .begun - 1) (v .readings) (p .agrees .used) (f .used) in
+    let f : EngineSimulates lay (guestAfter lay pol N (routine code) (n .consumed) g0 (c .begun - 1)) n = subst (λ (j : ℕ). EngineSimulates lay (guestAfter lay pol N (routine code) (n .consumed) g0 j) n) k (engine-rule lay pol code mem es (v .engine)) in
+    let same = meet lay pol N (routine code) g0 (c .consumed) (n .consumed) (c .begun - 1) (v .readings) (p .simulates .used) (f .used) in
     let at : n .engine .at ≡ G .at = f .at ∙ sym (ap (λ (x : Guest). x .at) same) in
-    let run : n .engine .status ≡ Running = f .ending ∙ sym (ap (λ (x : Guest). x .status) same) ∙ sym (p .agrees .ending) ∙ w .running in
+    let run : n .engine .status ≡ Running = f .ending ∙ sym (ap (λ (x : Guest). x .status) same) ∙ sym (p .simulates .ending) ∙ w .running in
     let t = taken-of lay code mem (v .engine .taken) in
     let ok = ready-of lay pol code mem t (v .engine .installed) in
     let rt = routine-of code (t .sound) in
@@ -122,7 +122,7 @@ engine-pauses lay pol code mem room gs es v w count g h sg sh lent logs readings
     let fit : fits lay (g .memory) ≡ true = rw (t .right, eq-eqb (length (g .memory)) (lay .size) sg) in
     let s = machineStart (c .machine) (g .memory) (g .log) in
     let here : machineNext lay ws (g .readings) s ≡ eventEffect e (length (g .log) - 2 * 0) (length (g .readings) - 0) =
-    machine-next lay code (g .readings) room s (G .at) e (v .rewritten) (subst (λ (x : ℕ). x < N) at within) (p .event) (p .agrees .next (w .running)) in
+    machine-next lay code (g .readings) room s (G .at) e (v .rewritten) (subst (λ (x : ℕ). x < N) at within) (p .event) (p .simulates .next (w .running)) in
     let there = paused lay code (h .readings) 0 (startOf (n .engine) (h .memory) (h .log)) sh e within event inside (λ y. p .arrow (sym entry ∙ y)) in
     rw (fit, eq-eqb _ _ z)
     (machine-one lay ws (g .readings) s e (length (g .log) - 2 * 0) (length (g .readings) - 0) (w .running) here

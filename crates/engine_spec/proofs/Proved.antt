@@ -1,9 +1,9 @@
 -- Every claim of this crate is proved.
 use Rattle.engine_spec.specs.Proved.{Proved}
 use Rattle.engine_spec.proofs.Rule.{engine-rule, engine-machine, engine-paused}
-use Rattle.engine_spec.proofs.Together.{engine-next, engine-endings}
+use Rattle.engine_spec.proofs.StepTogether.{engine-next, engine-endings}
 use Rattle.engine_spec.proofs.Isolation.{engine-reaches, engine-recorded, engine-ceilings, engine-isolation, engine-cell}
-use Rattle.engine_spec.proofs.Moments.{engine-splits, engine-cuts}
+use Rattle.engine_spec.proofs.Prefixes.{engine-runs-compose, engine-prefix-closed}
 use Rattle.engine_spec.proofs.Paused.{engine-pauses}
 use Rattle.engine_spec.proofs.Waits.{engine-waits}
 use Rattle.engine_spec.proofs.Ordered.{engine-order, engine-refuses, engine-rewriter, engine-takes}
@@ -22,8 +22,8 @@ proved =
       engineWaits = engine-waits;
       engineNext = engine-next;
       engineReaches = engine-reaches;
-      engineSplits = engine-splits;
-      engineCuts = engine-cuts;
+      engineRunsCompose = engine-runs-compose;
+      enginePrefixClosed = engine-prefix-closed;
       engineEndings = engine-endings;
       engineRecorded = engine-recorded;
       engineCeilings = engine-ceilings;

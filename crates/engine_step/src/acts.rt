@@ -1,10 +1,10 @@
 // What the instruction at the index would do: a pure decision.
-use crate::events::send;
+use crate::events::checked_event;
+use crate::fields::a_value;
 use crate::fields::address;
-use crate::fields::left_of;
-use crate::fields::number;
-use crate::fields::right_of;
-use crate::fields::target;
+use crate::fields::b_value;
+use crate::fields::d_field;
+use crate::fields::v_field;
 use crate::jumps::branch;
 use crate::jumps::jump;
 use engine_spec::Engine;
@@ -19,11 +19,11 @@ ghost use Prim.Native.Nat.{_+_};
 ghost use Rattle.spec.specs.Words.{instrOf, bundlesFor};
 ghost use Rattle.spec.specs.Machines.{viewOf};
 ghost use Rattle.engine_step.specs.fields.Named.{GuestFields};
-ghost use Rattle.engine_spec.specs.Engines.{Judged, actOf, nextFor};
+ghost use Rattle.engine_spec.specs.Engines.{ValidatedWords, instrEffect, instrEffectAt};
 
 // What the word of an instruction would do, n of them in all. Single numbers, no range: so the match becomes one jump; and each arm takes
 // only the fields that it uses, so that none is taken before the jump.
-fn act(
+fn instruction_effect(
     layout: Layout,
     w: u64,
     n: usize,
@@ -35,44 +35,44 @@ fn act(
     left: usize,
 ) -> Effect
     requires { ⌜ GuestFields w × (top + 1 ≡ bundlesFor n) ⌝ }
-    ensures { λ r. ⌜ r ≡ actOf layout (bundlesFor n) (instrOf w) (viewOf (now (regs .entry)) at (now (memory .entry)) (layout .cell) (layout .table) (layout .base) (layout .landings) free left) ⌝ }
+    ensures { λ r. ⌜ r ≡ instrEffect layout (bundlesFor n) (instrOf w) (viewOf (now (regs .entry)) at (now (memory .entry)) (layout .cell) (layout .table) (layout .base) (layout .landings) free left) ⌝ }
 {
     match w % field::BYTE {
         Instr::KIND_HALT => Effect::End(Status::Ended),
-        Instr::KIND_SET => Effect::Put(target(w), number(w)),
-        Instr::KIND_MOVE => Effect::Put(target(w), left_of(w, regs)),
-        Instr::KIND_ADD => Effect::Put(target(w), alu::add(left_of(w, regs), right_of(w, regs))),
-        Instr::KIND_SUB => Effect::Put(target(w), alu::sub(left_of(w, regs), right_of(w, regs))),
-        Instr::KIND_AND => Effect::Put(target(w), alu::and(left_of(w, regs), right_of(w, regs))),
-        Instr::KIND_OR => Effect::Put(target(w), alu::or(left_of(w, regs), right_of(w, regs))),
-        Instr::KIND_SAR => Effect::Put(target(w), alu::sar(left_of(w, regs), number(w))),
-        Instr::KIND_LOAD => Effect::Put(
-            target(w),
+        Instr::KIND_SET => Effect::SetReg(d_field(w), v_field(w)),
+        Instr::KIND_MOVE => Effect::SetReg(d_field(w), a_value(w, regs)),
+        Instr::KIND_ADD => Effect::SetReg(d_field(w), alu::add(a_value(w, regs), b_value(w, regs))),
+        Instr::KIND_SUB => Effect::SetReg(d_field(w), alu::sub(a_value(w, regs), b_value(w, regs))),
+        Instr::KIND_AND => Effect::SetReg(d_field(w), alu::and(a_value(w, regs), b_value(w, regs))),
+        Instr::KIND_OR => Effect::SetReg(d_field(w), alu::or(a_value(w, regs), b_value(w, regs))),
+        Instr::KIND_SAR => Effect::SetReg(d_field(w), alu::sar(a_value(w, regs), v_field(w))),
+        Instr::KIND_LOAD => Effect::SetReg(
+            d_field(w),
             buffers::cells::peek(memory, address(w, layout.low, layout.high, regs)),
         ),
-        Instr::KIND_STORE => Effect::Cell(
+        Instr::KIND_STORE => Effect::SetCell(
             address(w, layout.low, layout.high, regs),
-            right_of(w, regs),
+            b_value(w, regs),
         ),
         Instr::KIND_GOIF => branch(
             (w >> field::AT_C) % field::FOUR_BITS,
-            left_of(w, regs),
-            right_of(w, regs),
-            number(w),
+            a_value(w, regs),
+            b_value(w, regs),
+            v_field(w),
             at,
         ),
         Instr::KIND_GOX => jump(
             (w >> field::AT_C) % field::FOUR_BITS,
-            left_of(w, regs),
-            right_of(w, regs),
-            regs[target(w)],
+            a_value(w, regs),
+            b_value(w, regs),
+            regs[d_field(w)],
             at,
             n,
             top,
             layout.landings,
             memory,
         ),
-        _ => send(layout, number(w), regs, at, memory, free, left),
+        _ => checked_event(layout, v_field(w), regs, at, memory, free, left),
     }
 }
 
@@ -87,12 +87,12 @@ pub fn next_effect(
     free: usize,
     left: usize,
 ) -> Effect
-    requires { ⌜ Judged (now words) top ⌝ }
-    ensures { λ r. ⌜ r ≡ nextFor layout (now (words .entry)) (viewOf (now (regs .entry)) at (now (memory .entry)) (layout .cell) (layout .table) (layout .base) (layout .landings) free left) ⌝ }
+    requires { ⌜ ValidatedWords (now words) top ⌝ }
+    ensures { λ r. ⌜ r ≡ instrEffectAt layout (now (words .entry)) (viewOf (now (regs .entry)) at (now (memory .entry)) (layout .cell) (layout .table) (layout .base) (layout .landings) free left) ⌝ }
 {
     let i = at as usize;
     if i < words.len() {
-        return act(
+        return instruction_effect(
             layout,
             words[i],
             words.len(),

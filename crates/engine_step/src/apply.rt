@@ -2,8 +2,8 @@
 use engine_spec::Engine;
 use machine_step::points::Point;
 use machine_step::points::ended;
-use machine_step::points::landed;
-use machine_step::points::onward;
+use machine_step::points::jumped;
+use machine_step::points::next_pc;
 use machine_step::points::ordered;
 use machine_step::points::probed;
 use machine_step::points::read;
@@ -14,11 +14,11 @@ ghost use Prim.Native.Nat.{_<_, _^_};
 ghost use lib.ListN.{length, getD, set};
 ghost use Rattle.types.specs.Names.{guestRegisters};
 ghost use Rattle.spec.specs.Machines.{withPair};
-ghost use Rattle.engine_spec.specs.Engines.{Puts, entryAt, effectOn};
+ghost use Rattle.engine_spec.specs.Engines.{RegInRange, entryAt, applyEffect};
 ghost use Rattle.machine_step.specs.points.Points.{stateAt};
 
 // A register set.
-fn put(regs: &mut [u32; Engine::REGISTERS], i: usize, x: u32)
+fn set_register(regs: &mut [u32; Engine::REGISTERS], i: usize, x: u32)
     requires { ⌜ (i < guestRegisters) × (length (now regs) ≡ guestRegisters) ⌝ }
     ensures { λ _. ⌜ now (regs .exit) ≡ set (now (regs .entry)) i x ⌝ }
 {
@@ -26,7 +26,7 @@ fn put(regs: &mut [u32; Engine::REGISTERS], i: usize, x: u32)
 }
 
 // The state cell moves with event v.
-fn keep(layout: Layout, v: u32, memory: &mut [u32])
+fn move_state(layout: Layout, v: u32, memory: &mut [u32])
     ensures { λ _. ⌜ now (memory .exit) ≡ set (now (memory .entry)) (layout .cell) (entryAt layout (now (memory .entry)) v) ⌝ }
 {
     let x = buffers::cells::peek(memory, crate::events::entry(layout, v, memory));
@@ -39,10 +39,10 @@ fn probe(v: u32, regs: &mut [u32; Engine::REGISTERS], at: Point, readings: &[u32
     ensures { λ _. ⌜ (now (regs .exit) ≡ set (now (regs .entry)) 0 (getD (now (readings .entry)) (at .used) 0)) × (now (log .exit) ≡ withPair (now (log .entry)) (at .pairs) v (getD (now (readings .entry)) (at .used) 0)) ⌝ }
 {
     let x = read(v, at, readings, log);
-    put(regs, 0, x);
+    set_register(regs, 0, x);
 }
 
-// The state after an effect. Words that were judged set no register that there is not, so none is tested here.
+// The state after an effect. Words that were validated set no register that there is not, so none is tested here.
 pub fn apply(
     e: Effect,
     layout: Layout,
@@ -52,27 +52,27 @@ pub fn apply(
     readings: &[u32],
     log: &mut [u32],
 ) -> Point
-    requires { ⌜ Puts e × (at .pairs < 2 ^ 62) × (at .used < 2 ^ 63) × (length (now regs) ≡ guestRegisters) ⌝ }
-    ensures { λ r. ⌜ stateAt (now (regs .exit)) r (now (memory .exit)) (now (log .exit)) ≡ effectOn layout (now (readings .entry)) e (stateAt (now (regs .entry)) at (now (memory .entry)) (now (log .entry))) ⌝ }
+    requires { ⌜ RegInRange e × (at .pairs < 2 ^ 62) × (at .used < 2 ^ 63) × (length (now regs) ≡ guestRegisters) ⌝ }
+    ensures { λ r. ⌜ stateAt (now (regs .exit)) r (now (memory .exit)) (now (log .exit)) ≡ applyEffect layout (now (readings .entry)) e (stateAt (now (regs .entry)) at (now (memory .entry)) (now (log .entry))) ⌝ }
 {
-    let next = onward(at);
+    let next = next_pc(at);
     match e {
-        Effect::Go(to) => landed(at, to),
-        Effect::Put(d, x) => {
-            put(regs, d, x);
+        Effect::Go(to) => jumped(at, to),
+        Effect::SetReg(d, x) => {
+            set_register(regs, d, x);
             next
         }
-        Effect::Cell(i, x) => {
+        Effect::SetCell(i, x) => {
             buffers::cells::poke(memory, i, x);
             next
         }
         Effect::Order(v) => {
-            keep(layout, v, memory);
+            move_state(layout, v, memory);
             buffers::pairs::order(&layout.ceilings, v, regs[0], log, at.pairs);
             ordered(at)
         }
         Effect::Probe(v) => {
-            keep(layout, v, memory);
+            move_state(layout, v, memory);
             probe(v, regs, at, readings, log);
             probed(at)
         }

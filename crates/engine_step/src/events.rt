@@ -9,7 +9,7 @@ ghost use Prim.Native.Nat.{_+_, _*_};
 ghost use lib.ListN.{getD};
 ghost use Rattle.types.specs.Names.{events};
 ghost use Rattle.spec.specs.Machines.{viewOf};
-ghost use Rattle.engine_spec.specs.Engines.{sendOf};
+ghost use Rattle.engine_spec.specs.Engines.{checkedEvent};
 
 // The address of the policy's entry for event v in the present state, summed without wrap.
 pub fn entry(layout: Layout, v: u32, memory: &[u32]) -> usize
@@ -20,7 +20,7 @@ pub fn entry(layout: Layout, v: u32, memory: &[u32]) -> usize
 }
 
 // An event: the fault, then the stop, then the pauses.
-pub fn send(
+pub fn checked_event(
     layout: Layout,
     v: u32,
     regs: &[u32; Engine::REGISTERS],
@@ -29,7 +29,7 @@ pub fn send(
     free: usize,
     left: usize,
 ) -> Effect
-    ensures { λ r. ⌜ r ≡ sendOf v (viewOf (now (regs .entry)) at (now (memory .entry)) (layout .cell) (layout .table) (layout .base) (layout .landings) free left) ⌝ }
+    ensures { λ r. ⌜ r ≡ checkedEvent v (viewOf (now (regs .entry)) at (now (memory .entry)) (layout .cell) (layout .table) (layout .base) (layout .landings) free left) ⌝ }
 {
     let i = entry(layout, v, memory);
     if i >= memory.len() {

@@ -1,4 +1,4 @@
-// The fields of a word that was judged, and what the registers that they name hold.
+// The fields of a word that was validated, and what the registers that they name hold.
 use engine_spec::Engine;
 use words::field;
 use words::memory;
@@ -8,26 +8,26 @@ ghost use Rattle.spec.specs.Layouts.{maskOf};
 ghost use Rattle.spec.specs.Words.{dOf, aOf, bOf, vOf};
 ghost use Rattle.engine_step.specs.fields.Named.{GuestFields};
 
-pub fn target(w: u64) -> usize
+pub fn d_field(w: u64) -> usize
     ensures { λ r. ⌜ r ≡ dOf w ⌝ }
 {
     ((w >> field::AT_D) % field::FOUR_BITS) as usize
 }
 
-pub fn number(w: u64) -> u32
+pub fn v_field(w: u64) -> u32
     ensures { λ r. ⌜ r ≡ vOf w ⌝ }
 {
     (w >> field::AT_V) as u32
 }
 
-pub fn left_of(w: u64, regs: &[u32; Engine::REGISTERS]) -> u32
+pub fn a_value(w: u64, regs: &[u32; Engine::REGISTERS]) -> u32
     requires { ⌜ GuestFields w ⌝ }
     ensures { λ r. ⌜ r ≡ getD (now (regs .entry)) (aOf w) 0 ⌝ }
 {
     regs[((w >> field::AT_A) % field::FOUR_BITS) as usize]
 }
 
-pub fn right_of(w: u64, regs: &[u32; Engine::REGISTERS]) -> u32
+pub fn b_value(w: u64, regs: &[u32; Engine::REGISTERS]) -> u32
     requires { ⌜ GuestFields w ⌝ }
     ensures { λ r. ⌜ r ≡ getD (now (regs .entry)) (bOf w) 0 ⌝ }
 {
@@ -39,5 +39,5 @@ pub fn address(w: u64, low: u32, high: u32, regs: &[u32; Engine::REGISTERS]) -> 
     requires { ⌜ GuestFields w ⌝ }
     ensures { λ r. ⌜ r ≡ maskOf low high (getD (now (regs .entry)) (aOf w) 0) ⌝ }
 {
-    memory::mask(left_of(w, regs), low, high) as usize
+    memory::mask(a_value(w, regs), low, high) as usize
 }

@@ -10,12 +10,12 @@ ghost use Rattle.types.specs.declared.Effect.the-variants.{Go};
 ghost use Rattle.spec.specs.Landings.{marked};
 ghost use Rattle.spec.specs.Words.{bundlesFor};
 ghost use Rattle.spec.specs.Commands.{holdsOf};
-ghost use Rattle.spec.specs.Machines.{onward};
-ghost use Rattle.engine_spec.specs.Engines.{jumpOf};
+ghost use Rattle.spec.specs.Machines.{nextPc};
+ghost use Rattle.engine_spec.specs.Engines.{indirectEffect};
 
 // A jump if the condition holds, else on to the next instruction.
 pub fn branch(c: u64, x: u32, y: u32, to: u32, at: u32) -> Effect
-    ensures { λ r. ⌜ r ≡ cond (holdsOf c x y) (Go to) (Go (onward at)) ⌝ }
+    ensures { λ r. ⌜ r ≡ cond (holdsOf c x y) (Go to) (Go (nextPc at)) ⌝ }
 {
     if alu::holds(c, x, y) {
         return Effect::Go(to);
@@ -24,7 +24,7 @@ pub fn branch(c: u64, x: u32, y: u32, to: u32, at: u32) -> Effect
 }
 
 // Whether the bit of instruction j stands in the landing cells.
-fn lands(j: u32, landings: u32, memory: &[u32]) -> bool
+fn has_landing(j: u32, landings: u32, memory: &[u32]) -> bool
     ensures { λ r. ⌜ r ≡ marked (now (memory .entry)) landings j ⌝ }
 {
     let bits = buffers::cells::peek(memory, landings as usize + (j / Layout::CELL_BITS) as usize);
@@ -32,12 +32,12 @@ fn lands(j: u32, landings: u32, memory: &[u32]) -> bool
 }
 
 // A GOX that is taken, among the N of n words: N is a power of two, so rd modulo N is the bits below it. It goes to a landing, or stops.
-fn land(n: usize, top: u32, to: u32, landings: u32, memory: &[u32]) -> Effect
+fn jump_to_landing(n: usize, top: u32, to: u32, landings: u32, memory: &[u32]) -> Effect
     requires { ⌜ top + 1 ≡ bundlesFor n ⌝ }
-    ensures { λ r. ⌜ r ≡ jumpOf (now (memory .entry)) landings (bundlesFor n) to ⌝ }
+    ensures { λ r. ⌜ r ≡ indirectEffect (now (memory .entry)) landings (bundlesFor n) to ⌝ }
 {
     let j = to & top;
-    if lands(j, landings, memory) {
+    if has_landing(j, landings, memory) {
         return Effect::Go(j);
     }
     Effect::End(Status::Strayed)
@@ -56,10 +56,10 @@ pub fn jump(
     memory: &[u32],
 ) -> Effect
     requires { ⌜ top + 1 ≡ bundlesFor n ⌝ }
-    ensures { λ r. ⌜ r ≡ cond (holdsOf c x y) (jumpOf (now (memory .entry)) landings (bundlesFor n) to) (Go (onward at)) ⌝ }
+    ensures { λ r. ⌜ r ≡ cond (holdsOf c x y) (indirectEffect (now (memory .entry)) landings (bundlesFor n) to) (Go (nextPc at)) ⌝ }
 {
     if alu::holds(c, x, y) {
-        return land(n, top, to, landings, memory);
+        return jump_to_landing(n, top, to, landings, memory);
     }
     Effect::Go(alu::add(at, 1))
 }

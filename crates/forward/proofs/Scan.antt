@@ -10,7 +10,7 @@ use Rattle.types.specs.declared.Instr.{Instr}
 use Rattle.types.specs.declared.Instr.the-variants.{GOIF}
 use Rattle.types.specs.declared.Refusal.the-variants.{Taken, Oversize, NotForward}
 use Rattle.types.specs.Names.{mostInstructions, numberOf, answer, refusal}
-use Rattle.spec.specs.Words.{judgeAt, firstRefused, instrOf, routine}
+use Rattle.spec.specs.Words.{refusalAt, firstRefused, instrOf, routine}
 use Rattle.forward_spec.specs.Forward.{forwardAt, forwardFrom, forwardAnswer}
 use Rattle.forward_spec.proofs.Laws.{scan-more, scan-stop, scan-done, judged, words-long, words-refused, words-taken}
 
@@ -40,9 +40,9 @@ module _ (ws : List ℕ) where
   pub oversize : mostInstructions < length ws → refusal Oversize 0 ≡ forwardAnswer ws
   oversize h = sym (words-long ws h)
 
-  module _ (h : length ws ≤ mostInstructions) (z a : Answer) (ez : z ≡ answer (numberOf Taken) 0) (ea : a ≡ firstRefused (judgeAt (length ws)) ws 0 z) where
+  module _ (h : length ws ≤ mostInstructions) (z a : Answer) (ez : z ≡ answer (numberOf Taken) 0) (ea : a ≡ firstRefused (refusalAt (length ws)) ws 0 z) where
     is-judged : a ≡ judged ws
-    is-judged = ea ∙ ap (firstRefused (judgeAt (length ws)) ws 0) ez
+    is-judged = ea ∙ ap (firstRefused (refusalAt (length ws)) ws 0) ez
 
     pub judge-refused : (a .number ≡ 0 → ⊥) → a ≡ forwardAnswer ws
     judge-refused f = is-judged ∙ sym (words-refused ws h (λ e. f (ap (λ (x : Answer). x .number) is-judged ∙ e)))

@@ -6,7 +6,7 @@ use types::Answer;
 use types::Instr;
 use types::Refusal;
 use words::fields::instruction;
-use words::routine::judge_all;
+use words::routine::first_refusal;
 ghost use mathlib.Core.Path.{_≡_};
 ghost use lib.ListN.{length};
 ghost use Rattle.spec.specs.Words.{routine};
@@ -48,7 +48,7 @@ pub fn forward(words: &[u64]) -> Answer
     if words.len() > Instr::MOST {
         return Answer::refused(Refusal::OVERSIZE);
     }
-    let judged = judge_all(words, Answer::taken(0));
+    let judged = first_refusal(words, Answer::taken(0));
     let refused = judged.number;
     if refused != Refusal::TAKEN {
         return judged;

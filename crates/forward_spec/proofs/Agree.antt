@@ -13,20 +13,20 @@ use Rattle.types.specs.declared.Answer.{Answer}
 use Rattle.types.specs.declared.Instr.{Instr}
 use Rattle.types.specs.declared.Instr.the-variants.{HALT, PLAIN, LOAD, STORE, GOIF, GOX, EVENT}
 use Rattle.types.specs.declared.Command.{Command}
-use Rattle.types.specs.declared.Command.the-variants.{Nop, Halt, Plain, Load, Store, GoIf, GoReg, Look, StopIf, Keep, Event, Stray}
+use Rattle.types.specs.declared.Command.the-variants.{Nop, Halt, Plain, Load, Store, GoIf, GoReg, Look, StopIf, Keep, Event, Invalid}
 use Rattle.types.specs.Names.{bundleLength, answer}
-use Rattle.spec.specs.Words.{judgeAt, routine, bundlesFor}
+use Rattle.spec.specs.Words.{refusalAt, routine, bundlesFor}
 use Rattle.spec.specs.Commands.{fetchOf}
 use Rattle.spec.specs.Bundles.{addressOf, shapeOf, commandsOf, rewriteAnswer, bundleAt, checkAnswer}
 use Rattle.spec.specs.Policies.{Policy}
-use Rattle.spec.specs.Runs.{Given, after, Served}
+use Rattle.spec.specs.Runs.{RunInput, after, HostPremise}
 use Rattle.spec.proofs.Bools.{cases}
 use Rattle.spec.proofs.Refusals.{none-refused}
 use Rattle.spec.proofs.Counts.{length-commands}
 use Rattle.spec.proofs.Conditions.{taken-of, size-laws, past-end, bundled-routine}
 use Rattle.spec.proofs.Passing.{rewritten-passes, passed-decodes, passed-rewrites}
 use Rattle.forward_spec.specs.Forward.{forwardAt, forwardFrom, forwardAnswer, checkForwardAnswer}
-use Rattle.forward_spec.specs.Claims.{ChecksAgree, ForwardWritten, ForwardRead, Finished, AlwaysFinish, FinishesResumed, FinishesServed, Over}
+use Rattle.forward_spec.specs.Claims.{ChecksAgree, ForwardWritten, ForwardRead, Finished, AlwaysFinish, FinishesResumed, RewrittenFinishesIn, Terminated}
 use Rattle.forward_spec.proofs.Laws.{words-taken, list-passed}
 use Rattle.forward_spec.proofs.Class.{checked, forward-zero}
 use Rattle.forward_spec.proofs.Bound.{bounded}
@@ -45,7 +45,7 @@ noJump (Look d v) = true
 noJump (StopIf d) = true
 noJump (Keep d) = true
 noJump (Event v) = true
-noJump Stray = true
+noJump Invalid = true
 
 abbrev shown : ℕ → Command → Command → Bool
 shown at Nop z = noJump z
@@ -59,7 +59,7 @@ shown at (Look d v) z = noJump z
 shown at (StopIf d) z = noJump z
 shown at (Keep d) z = noJump z
 shown at (Event v) z = noJump z
-shown at Stray z = noJump z
+shown at Invalid z = noJump z
 
 higher : (base h v : ℕ) → ltb h v ≡ ltb (base + bundleLength * h) (base + bundleLength * v)
 higher base h v =
@@ -124,7 +124,7 @@ module _ (lay : Layout) (code : List ℕ) (room : ℕ) (z : rewriteAnswer lay co
   words-scan : forwardAnswer code ≡ forwardFrom (routine code) 0 (length code)
   words-scan =
       let t = taken-of lay code room z in
-      words-taken code (t .most) (ap (λ (a : Answer). a .number) (none-refused (judgeAt (length code)) code 0 (answer 0 0) (t .each)))
+      words-taken code (t .most) (ap (λ (a : Answer). a .number) (none-refused (refusalAt (length code)) code 0 (answer 0 0) (t .each)))
 
   list-scan : checkForwardAnswer lay ws ≡ forwardFrom (bundleAt lay ws) 0 (bundlesFor (length code))
   list-scan = list-passed lay ws passed ∙ ap (forwardFrom (bundleAt lay ws) 0) count-is
@@ -157,9 +157,9 @@ forward-read lay ws e =
     }
 
 -- what is over by the list's words is so by the routine's
-finished : (lay : Layout) (pol : Policy) (code mem : List ℕ) (room : ℕ) (gs : List Given) → rewriteAnswer lay code room .number ≡ 0 → forwardAnswer code .number ≡ 0 →
+finished : (lay : Layout) (pol : Policy) (code mem : List ℕ) (room : ℕ) (gs : List RunInput) → rewriteAnswer lay code room .number ≡ 0 → forwardAnswer code .number ≡ 0 →
     let ws = commandsOf lay code in
-    Served lay pol ws mem gs → (length ws / bundleLength ≡ bundlesFor (length code) → checkForwardAnswer lay ws .number ≡ 0 → Over (after lay pol ws mem gs .machine)) → Finished lay pol code mem gs
+    HostPremise lay pol ws mem gs → (length ws / bundleLength ≡ bundlesFor (length code) → checkForwardAnswer lay ws .number ≡ 0 → Terminated (after lay pol ws mem gs .machine)) → Finished lay pol code mem gs
 finished lay pol code mem room gs z f v o =
     let e = count-is lay code room z in
     let c : checkForwardAnswer lay (commandsOf lay code) .number ≡ 0 = ap (λ (a : Answer). a .number) (agree lay code room z) ∙ f in
@@ -167,13 +167,13 @@ finished lay pol code mem room gs z f v o =
     record { over = o e c; within = rw e at b }
 
 pub always-finish : AlwaysFinish
-always-finish lay pol code mem room gs z f v paid =
-    finished lay pol code mem room gs z f v (λ e c. finishes lay pol (commandsOf lay code) mem gs c v (rw e paid))
+always-finish lay pol code mem room gs z f v charged =
+    finished lay pol code mem room gs z f v (λ e c. finishes lay pol (commandsOf lay code) mem gs c v (rw e charged))
 
 pub finishes-resumed : FinishesResumed
 finishes-resumed lay pol code mem room gs z f v ok m b l =
     finished lay pol code mem room gs z f v (λ e c. over-resumed lay pol (commandsOf lay code) mem gs c v ok m b (rw e (omega arith)))
 
-pub finishes-served : FinishesServed
-finishes-served lay pol code mem room gs z f v ok b l =
+pub rewritten-finishes-in : RewrittenFinishesIn
+rewritten-finishes-in lay pol code mem room gs z f v ok b l =
     finished lay pol code mem room gs z f v (λ e c. finishes-in lay pol (commandsOf lay code) mem gs c v ok b (rw e (omega arith)))

@@ -14,17 +14,17 @@ use Rattle.types.specs.declared.Machine.{Machine}
 use Rattle.types.specs.declared.Instr.{Instr}
 use Rattle.types.specs.declared.Instr.the-variants.{HALT, PLAIN, LOAD, STORE, GOIF, GOX, EVENT}
 use Rattle.types.specs.declared.Command.{Command}
-use Rattle.types.specs.declared.Command.the-variants.{Nop, Halt, Plain, Load, Store, GoIf, GoReg, Look, StopIf, Keep, Event, Stray}
+use Rattle.types.specs.declared.Command.the-variants.{Nop, Halt, Plain, Load, Store, GoIf, GoReg, Look, StopIf, Keep, Event, Invalid}
 use Rattle.types.specs.declared.Status.{Status}
 use Rattle.types.specs.declared.Status.the-variants.{Running, Ended, Stopped, Faulted, Strayed}
 use Rattle.types.specs.declared.Effect.{Effect}
-use Rattle.types.specs.declared.Effect.the-variants.{Go, Put, Cell, Order, Probe, End, Wait}
+use Rattle.types.specs.declared.Effect.the-variants.{Go, SetReg, SetCell, Order, Probe, End, Wait}
 use Rattle.types.specs.Names.{orders, noArrow, bundleLength}
 use Rattle.spec.specs.Policies.{Policy}
 use Rattle.spec.specs.Commands.{fetchOf, holdsOf}
 use Rattle.spec.specs.Bundles.{at4, addressOf, shapeOf, bundleAt}
-use Rattle.spec.specs.Machines.{View, State, Ran, regAt, entryOf, onward, effectOf, applyOf, seen, nextOf, stepOf, runFrom, startOf, runOf, fits, loopFrom}
-use Rattle.spec.specs.Runs.{Given, eachRun, afterAll, Carried, atFirst, runOn, afterTaken, afterRun, Served}
+use Rattle.spec.specs.Machines.{View, State, RunResult, regAt, entryOf, nextPc, effectOf, applyOf, viewAt, nextOf, stepOf, runFrom, startOf, runOf, fits, loopFrom}
+use Rattle.spec.specs.Runs.{RunInput, eachRun, afterAll, Session, initialSession, runOn, afterTaken, afterRun, HostPremise}
 use Rattle.spec.proofs.Bools.{no, cases, cond-ind}
 use Rattle.spec.proofs.Facts.{Valid, Bundled}
 use Rattle.spec.proofs.Loops.{Goes}
@@ -42,8 +42,8 @@ Ends t = (t ≡ Running → ⊥) × (t ≡ Strayed → ⊥)
 -- ---- where an effect leads from pc: on by one or further, to `top` at most, or out of running
 abbrev pub Leads : ℕ → ℕ → Effect → Type 0
 Leads pc top (Go to) = (pc < to) × (to ≤ top)
-Leads pc top (Put d x) = pc < top
-Leads pc top (Cell i x) = pc < top
+Leads pc top (SetReg d x) = pc < top
+Leads pc top (SetCell i x) = pc < top
 Leads pc top (Order v) = pc < top
 Leads pc top (Probe v) = pc < top
 Leads pc top (End t) = Ends t
@@ -62,7 +62,7 @@ Straight (Look d v) = Unit {0}
 Straight (StopIf d) = Unit {0}
 Straight (Keep d) = Unit {0}
 Straight (Event v) = Unit {0}
-Straight Stray = Unit {0}
+Straight Invalid = Unit {0}
 
 at4-straight : (a b c d : Command) (p : ℕ) → Straight a → Straight b → Straight c → Straight d → Straight (at4 p a b c d)
 at4-straight a b c d zero x y z w = x
@@ -83,11 +83,11 @@ runs-on : (t : Status) → t ≡ Running → t ≡ Strayed → ⊥
 runs-on t r e = no (cc)
 
 -- no pc of a list wraps
-pub on-by-one : (pc top : ℕ) → pc < top → top < 2 ^ 32 → onward pc ≡ pc + 1
+pub on-by-one : (pc top : ℕ) → pc < top → top < 2 ^ 32 → nextPc pc ≡ pc + 1
 on-by-one pc top l b = omega arith
 
 module _ (v : View) (top : ℕ) (below : top < 2 ^ 32) where
-  leads-on : v .pc < top → Leads (v .pc) top (Go (onward (v .pc)))
+  leads-on : v .pc < top → Leads (v .pc) top (Go (nextPc (v .pc)))
   leads-on l = let e = on-by-one (v .pc) top l below in (omega arith, omega arith)
 
   leads-straight : (c : Command) → Straight c → v .pc < top → Leads (v .pc) top (effectOf c v)
@@ -107,7 +107,7 @@ module _ (v : View) (top : ℕ) (below : top < 2 ^ 32) where
   leads-straight (Event x) s l =
       cond-ind (Leads (v .pc) top) (ltb x orders) (λ _. cond-ind (Leads (v .pc) top) (ltb (v .free) 2) (λ _. tt) (λ _. l))
       (λ _. cond-ind (Leads (v .pc) top) (eqb (v .left) 0) (λ _. tt) (λ _. cond-ind (Leads (v .pc) top) (ltb (v .free) 2) (λ _. tt) (λ _. l)))
-  leads-straight Stray s l = faulted
+  leads-straight Invalid s l = faulted
 
   -- a jump to an instruction of a higher place
   leads-jump : (a b c to : ℕ) → v .pc < top → v .pc < to → to ≤ top → Leads (v .pc) top (effectOf (GoIf a b c to) v)
@@ -157,8 +157,8 @@ pub ahead-step : (caps rd : List ℕ) (base n t : ℕ) (s : State) (e : Effect) 
     → Ahead base n (t + 1) (applyOf caps rd e s .pc) (applyOf caps rd e s .status)
 unfolding applyOf
 ahead-step caps rd base n t s (Go to) b g r l u d = record { most = omega arith; on = λ _. (omega (arith, d .0), d .1); lands = runs-on _ r }
-ahead-step caps rd base n t s (Put i x) b g r l u d = let e = on-by-one (s .pc) _ d b in record { most = omega arith; on = λ _. (omega arith, omega arith); lands = runs-on _ r }
-ahead-step caps rd base n t s (Cell i x) b g r l u d = let e = on-by-one (s .pc) _ d b in record { most = omega arith; on = λ _. (omega arith, omega arith); lands = runs-on _ r }
+ahead-step caps rd base n t s (SetReg i x) b g r l u d = let e = on-by-one (s .pc) _ d b in record { most = omega arith; on = λ _. (omega arith, omega arith); lands = runs-on _ r }
+ahead-step caps rd base n t s (SetCell i x) b g r l u d = let e = on-by-one (s .pc) _ d b in record { most = omega arith; on = λ _. (omega arith, omega arith); lands = runs-on _ r }
 ahead-step caps rd base n t s (Order v) b g r l u d = let e = on-by-one (s .pc) _ d b in record { most = omega arith; on = λ _. (omega arith, omega arith); lands = runs-on _ r }
 ahead-step caps rd base n t s (Probe v) b g r l u d = let e = on-by-one (s .pc) _ d b in record { most = omega arith; on = λ _. (omega arith, omega arith); lands = runs-on _ r }
 ahead-step caps rd base n t s (End st) b g r l u d = record { most = omega arith; on = λ e. absurd (d .0 e); lands = d .1 }
@@ -188,7 +188,7 @@ module _ (lay : Layout) (ws : List ℕ) (n : ℕ) (is : ℕ → Instr) (room : l
       let w = split (lay .base) n (s .pc) l u (bs .some) in
       ⊎-elim
       (λ (x : ltb (s .pc) (lay .base + bundleLength * (n - 1)) ≡ true).
-      rw (fetched (s .pc) l u) (leads lay n _ (seen lay rd s) below-end (ltb-true _ _ x) _ _ (fw _ (w .0)) (bs .valid _ (w .0)) (w .1) (w .2)))
+      rw (fetched (s .pc) l u) (leads lay n _ (viewAt lay rd s) below-end (ltb-true _ _ x) _ _ (fw _ (w .0)) (bs .valid _ (w .0)) (w .1) (w .2)))
       (λ (x : ltb (s .pc) (lay .base + bundleLength * (n - 1)) ≡ false).
       let e : s .pc ≡ lay .base + bundleLength * (n - 1) = omega (arith, ltb-false (s .pc) (lay .base + bundleLength * (n - 1)) x) in
       rw (next-last rd s e) ended)
@@ -201,7 +201,7 @@ module _ (lay : Layout) (ws : List ℕ) (n : ℕ) (is : ℕ → Instr) (room : l
   unfolding loopFrom
   ahead-run rd t zero k s a = a
   ahead-run rd t (suc j) k s a =
-      run-ind lay ws rd j k s (λ (r : Ran). Ahead (lay .base) n (t + r .outcome .answer .steps) (r .outcome .machine .pc) (r .outcome .machine .status))
+      run-ind lay ws rd j k s (λ (r : RunResult). Ahead (lay .base) n (t + r .outcome .answer .steps) (r .outcome .machine .pc) (r .outcome .machine .status))
       (λ f. a) (λ _ w z. a)
       (λ r g.
       let o = a .on r in
@@ -209,22 +209,22 @@ module _ (lay : Layout) (ws : List ℕ) (n : ℕ) (is : ℕ → Instr) (room : l
       ahead-run rd t j (k + 1) (stepOf lay ws rd s)
       (rw z at (ahead-step (lay .ceilings) rd (lay .base) n (t + k) s (nextOf lay ws rd s) below-end g r (o .0) (o .1) (next-leads rd s (omega arith) (o .1)))))
 
-  abbrev Behind : ℕ → Machine → Type 0
-  Behind t m = Ahead (lay .base) n t (m .pc) (m .status)
+  abbrev InTail : ℕ → Machine → Type 0
+  InTail t m = Ahead (lay .base) n t (m .pc) (m .status)
 
   -- ---- a run of a list, and all of them
-  ahead-on : (t : ℕ) (c : Carried) (g : Given) → Behind t (c .machine) → Behind (t + runOn lay ws c g .outcome .answer .steps) (afterRun lay ws c g .machine)
+  ahead-on : (t : ℕ) (c : Session) (g : RunInput) → InTail t (c .machine) → InTail (t + runOn lay ws c g .outcome .answer .steps) (afterRun lay ws c g .machine)
   unfolding afterRun afterTaken runOn runOf
   ahead-on t c g a = by (fits lay (g .memory)) refl
     where
       z : t + 0 ≡ t
       z = omega arith
 
-      by : (b : Bool) → fits lay (g .memory) ≡ b → Behind (t + runOn lay ws c g .outcome .answer .steps) (afterRun lay ws c g .machine)
+      by : (b : Bool) → fits lay (g .memory) ≡ b → InTail (t + runOn lay ws c g .outcome .answer .steps) (afterRun lay ws c g .machine)
       by true e = rw e (ahead-run (g .readings) t (g .budget) 0 (startOf (c .machine) (g .memory) (g .log)) (rw z a))
       by false e = rw (e, z) a
 
-  pub ahead-runs : (t : ℕ) (c : Carried) (gs : List Given) → Behind t (c .machine) → Behind (t + stepsIn (runsOf lay ws c gs)) (afterRuns lay ws c gs .machine)
+  pub ahead-runs : (t : ℕ) (c : Session) (gs : List RunInput) → InTail t (c .machine) → InTail (t + stepsIn (runsOf lay ws c gs)) (afterRuns lay ws c gs .machine)
   unfolding afterAll eachRun
   ahead-runs t c [] a = let z : t + 0 ≡ t = omega arith in rw z a
   ahead-runs t c (g ∷ gs) a =
@@ -234,15 +234,15 @@ module _ (lay : Layout) (ws : List ℕ) (n : ℕ) (is : ℕ → Instr) (room : l
       rw z at (ahead-runs (t + x) (afterRun lay ws c g) gs (ahead-on t c g a))
 
 -- ---- from an installation
-pub ahead-all : (lay : Layout) (pol : Policy) (ws mem : List ℕ) (gs : List Given) → checkForwardAnswer lay ws .number ≡ 0 → Served lay pol ws mem gs →
-    Ahead (lay .base) (length ws / bundleLength) (stepsIn (runsOf lay ws (atFirst lay pol mem) gs)) (afterRuns lay ws (atFirst lay pol mem) gs .machine .pc) (afterRuns lay ws (atFirst lay pol mem) gs .machine .status)
+pub ahead-all : (lay : Layout) (pol : Policy) (ws mem : List ℕ) (gs : List RunInput) → checkForwardAnswer lay ws .number ≡ 0 → HostPremise lay pol ws mem gs →
+    Ahead (lay .base) (length ws / bundleLength) (stepsIn (runsOf lay ws (initialSession lay pol mem) gs)) (afterRuns lay ws (initialSession lay pol mem) gs .machine .pc) (afterRuns lay ws (initialSession lay pol mem) gs .machine .status)
 ahead-all lay pol ws mem gs f v =
     let n = length ws / bundleLength in
     let bs = bundled-of lay ws (v .passed) in
     let ok = right-of lay pol ws mem (v .passed) (v .installed) in
     let m = machine-of lay pol mem (v .installed) in
     rw zero-add at
-    (ahead-runs lay ws n (bundleAt lay ws) (ok .room) bs (class-of lay ws f) 0 (atFirst lay pol mem) gs
+    (ahead-runs lay ws n (bundleAt lay ws) (ok .room) bs (class-of lay ws f) 0 (initialSession lay pol mem) gs
     (rw m (record { most = omega arith; on = λ _. (omega arith, omega arith); lands = runs-on Running refl })))
 
 pub bounded : Bounded

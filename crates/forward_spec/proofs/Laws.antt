@@ -11,7 +11,7 @@ use Rattle.types.specs.declared.Answer.{Answer}
 use Rattle.types.specs.declared.Instr.{Instr}
 use Rattle.types.specs.declared.Refusal.the-variants.{Taken, Oversize, NotForward}
 use Rattle.types.specs.Names.{mostInstructions, bundleLength, numberOf, answer, refusal}
-use Rattle.spec.specs.Words.{judgeAt, firstRefused, routine}
+use Rattle.spec.specs.Words.{refusalAt, firstRefused, routine}
 use Rattle.spec.specs.Bundles.{bundleAt, checkAnswer}
 use Rattle.spec.proofs.Refusals.{else-next, else-kept}
 use Rattle.forward_spec.specs.Forward.{forwardAt, forwardFrom, forwardAnswer, checkForwardAnswer}
@@ -45,7 +45,7 @@ module _ (is : ℕ → Instr) (n h : ℕ) (a : Answer) (ea : a ≡ forwardFrom i
 -- ---- guest words: 5, the words' own refusals, the class
 module _ (ws : List ℕ) where
   abbrev pub judged : Answer
-  judged = firstRefused (judgeAt (length ws)) ws 0 (answer (numberOf Taken) 0)
+  judged = firstRefused (refusalAt (length ws)) ws 0 (answer (numberOf Taken) 0)
 
   pub words-long : mostInstructions < length ws → forwardAnswer ws ≡ refusal Oversize 0
   unfolding forwardAnswer

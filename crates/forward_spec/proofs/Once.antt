@@ -14,12 +14,12 @@ use Rattle.types.specs.declared.Machine.{Machine}
 use Rattle.types.specs.declared.Status.{Status}
 use Rattle.types.specs.declared.Status.the-variants.{Running}
 use Rattle.types.specs.declared.Effect.{Effect}
-use Rattle.types.specs.declared.Effect.the-variants.{Go, Put, Cell, Order, Probe, End, Wait}
+use Rattle.types.specs.declared.Effect.the-variants.{Go, SetReg, SetCell, Order, Probe, End, Wait}
 use Rattle.types.specs.Names.{bundleLength}
 use Rattle.spec.specs.Commands.{fetchOf}
 use Rattle.spec.specs.Bundles.{shapeOf, bundleAt}
-use Rattle.spec.specs.Machines.{View, State, Ran, effectOf, applyOf, seen, nextOf, stepOf, runFrom, startOf, runOf, fits, loopFrom}
-use Rattle.spec.specs.Runs.{Given, eachRun, afterAll, Carried, atFirst, runOn, afterTaken, afterRun, after, Served}
+use Rattle.spec.specs.Machines.{View, State, RunResult, effectOf, applyOf, viewAt, nextOf, stepOf, runFrom, startOf, runOf, fits, loopFrom}
+use Rattle.spec.specs.Runs.{RunInput, eachRun, afterAll, Session, initialSession, runOn, afterTaken, afterRun, after, HostPremise}
 use Rattle.spec.proofs.Bools.{cases}
 use Rattle.spec.proofs.Facts.{Bundled}
 use Rattle.spec.proofs.Loops.{Goes}
@@ -63,9 +63,9 @@ one-on base q pc l h e = omega arith
 few-step : (caps rd : List ℕ) (base top size : ℕ) (s : State) (e : Effect) → top < 2 ^ 32 → Goes e → s .status ≡ Running → base ≤ s .pc → Few base size s → Leads (s .pc) top e → Third ((s .pc - base) % bundleLength) e → Few base size (applyOf caps rd e s)
 unfolding applyOf
 few-step caps rd base top size s (Go to) b g r l f d q = let x = f .pairs r in let y = f .used r in record { log = f .log; pairs = λ _. omega (arith, d .0); used = λ _. omega (arith, d .0) }
-few-step caps rd base top size s (Put i v) b g r l f d q =
+few-step caps rd base top size s (SetReg i v) b g r l f d q =
     let x = f .pairs r in let y = f .used r in let e = on-by-one (s .pc) top d b in record { log = f .log; pairs = λ _. omega arith; used = λ _. omega arith }
-few-step caps rd base top size s (Cell i v) b g r l f d q =
+few-step caps rd base top size s (SetCell i v) b g r l f d q =
     let x = f .pairs r in let y = f .used r in let e = on-by-one (s .pc) top d b in record { log = f .log; pairs = λ _. omega arith; used = λ _. omega arith }
 few-step caps rd base top size s (Order v) b g r l f d q =
     let p = order-third _ v q in let x = one-on base (s .pairs) (s .pc) l (f .pairs r) p in let y = f .used r in let e = on-by-one (s .pc) top d b in
@@ -90,7 +90,7 @@ module _ (lay : Layout) (ws : List ℕ) (n : ℕ) (is : ℕ → Instr) (room : l
       let p = (s .pc - lay .base) % bundleLength in
       let w = split (lay .base) n (s .pc) l u (bs .some) in
       let e : fetchOf ws (lay .base) (s .pc) ≡ shapeOf lay n (is h) p = ap (fetchOf ws (lay .base)) (w .2) ∙ bs .each h p (w .0) (w .1) in
-      rw e (third lay n (is h) p (seen lay rd s))
+      rw e (third lay n (is h) p (viewAt lay rd s))
 
   no-wait : (s : State) → s .status ≡ Running → lay .base ≤ s .pc → s .pc ≤ top → Few (lay .base) size s → Goes (nextOf lay ws rd s)
   no-wait s r l u f =
@@ -99,14 +99,14 @@ module _ (lay : Layout) (ws : List ℕ) (n : ℕ) (is : ℕ → Instr) (room : l
       (λ p.
       let z = f .log in
       let m = room-for (lay .base) n (s .pairs) (s .used) (s .pc) size (length rd) l p (f .pairs r) (f .used r) u ls lr in
-      goes (fetchOf ws (lay .base) (s .pc)) (seen lay rd s) (omega (arith, m .0)) (m .1))
+      goes (fetchOf ws (lay .base) (s .pc)) (viewAt lay rd s) (omega (arith, m .0)) (m .1))
       (next-third s l u)
 
   never-pauses : (j k : ℕ) (s : State) → Ahead (lay .base) n k (s .pc) (s .status) → Few (lay .base) size s → pauses (runFrom lay ws rd j k s .outcome .answer .ending) ≡ false
   unfolding loopFrom
   never-pauses zero k s a f = ending-plain (s .status)
   never-pauses (suc j) k s a f =
-      run-ind lay ws rd j k s (λ (r : Ran). pauses (r .outcome .answer .ending) ≡ false)
+      run-ind lay ws rd j k s (λ (r : RunResult). pauses (r .outcome .answer .ending) ≡ false)
       (λ _. ending-plain (s .status))
       (λ r w z. let o = a .on r in absurd (no-wait s r (omega (arith, o .0)) (o .1) f w z))
       (λ r g.
@@ -120,7 +120,7 @@ module _ (lay : Layout) (ws : List ℕ) (n : ℕ) (is : ℕ → Instr) (room : l
 
 -- ---- a further run of a list
 module _ (lay : Layout) (ws : List ℕ) where
-  steps-last : (c : Carried) (gs : List Given) (g : Given) → runOn lay ws (afterRuns lay ws c gs) g .outcome .answer .steps ≤ stepsIn (runsOf lay ws c (gs ++ (g ∷ [])))
+  steps-last : (c : Session) (gs : List RunInput) (g : RunInput) → runOn lay ws (afterRuns lay ws c gs) g .outcome .answer .steps ≤ stepsIn (runsOf lay ws c (gs ++ (g ∷ [])))
   unfolding afterAll eachRun
   steps-last c [] g = omega arith
   steps-last c (x ∷ gs) g = omega (arith, steps-last (afterRun lay ws c x) gs g)
@@ -136,7 +136,7 @@ finishes-at-once lay pol ws mem gs g f v am =
     let is = bundleAt lay ws in
     let bs = bundled-of lay ws (v .passed) in
     let ok = right-of lay pol ws mem (v .passed) (v .installed) in
-    let v₀ : Served lay pol ws mem gs = record { passed = v .passed; installed = v .installed; lends = lends-first (afterRun lay ws) lay (λ (c : Carried). c .memory) (atFirst lay pol mem) gs (g ∷ []) (v .lends) } in
+    let v₀ : HostPremise lay pol ws mem gs = record { passed = v .passed; installed = v .installed; preserved = lends-first (afterRun lay ws) lay (λ (c : Session). c .memory) (initialSession lay pol mem) gs (g ∷ []) (v .preserved) } in
     let c = after lay pol ws mem gs in
     let s = startOf (c .machine) (g .memory) (g .log) in
     let t : fits lay (g .memory) ≡ true = rw (layout-of lay ws (v .passed), eq-eqb (length (g .memory)) (lay .size) (am .memory)) in
@@ -146,13 +146,13 @@ finishes-at-once lay pol ws mem gs g f v am =
     (record { log = refl; pairs = λ r. omega (arith, a₀ .on r .0); used = λ r. omega (arith, a₀ .on r .0) }) in
     let a = ahead-all lay pol ws mem (gs ++ (g ∷ [])) f v in
     let ran : runOn lay ws c g ≡ runFrom lay ws (g .readings) (g .budget) 0 s = rw t in
-    let left : after lay pol ws mem (gs ++ (g ∷ [])) .machine ≡ runFrom lay ws (g .readings) (g .budget) 0 s .outcome .machine = ap (λ (x : Carried). x .machine) (after-more (afterRun lay ws) (atFirst lay pol mem) gs g) ∙ rw t in
+    let left : after lay pol ws mem (gs ++ (g ∷ [])) .machine ≡ runFrom lay ws (g .readings) (g .budget) 0 s .outcome .machine = ap (λ (x : Session). x .machine) (after-more (afterRun lay ws) (initialSession lay pol mem) gs g) ∙ rw t in
     ⊎-elim
     (λ run.
     let o = a .on run in
     let spent = all-spent lay ws (g .readings) (g .budget) 0 s (ap (λ (m : Machine). m .status) (sym left) ∙ run) calm in
-    let last = steps-last lay ws (atFirst lay pol mem) gs g in
-    let same = ap (λ (r : Ran). r .outcome .answer .steps) ran in
+    let last = steps-last lay ws (initialSession lay pol mem) gs g in
+    let same = ap (λ (r : RunResult). r .outcome .answer .steps) ran in
     absurd (omega (arith, o .0, o .1, am .budget)))
     (λ x. x)
     (going-or-over lay pol ws mem (gs ++ (g ∷ [])) f v)

@@ -1,9 +1,9 @@
 -- Every claim of this crate is proved.
 use Rattle.forward_spec.specs.Proved.{Proved}
 use Rattle.forward_spec.proofs.Bound.{bounded}
-use Rattle.forward_spec.proofs.Finish.{goes-on, finishes, finishes-in}
+use Rattle.forward_spec.proofs.Finish.{takes-step, finishes, finishes-in}
 use Rattle.forward_spec.proofs.Once.{finishes-at-once}
-use Rattle.forward_spec.proofs.Agree.{checks-agree, forward-written, forward-read, always-finish, finishes-resumed, finishes-served}
+use Rattle.forward_spec.proofs.Agree.{checks-agree, forward-written, forward-read, always-finish, finishes-resumed, rewritten-finishes-in}
 use Rattle.forward_spec.proofs.Samples.{answers, reaches, stepwise-holds}
 
 pub proved : Proved
@@ -13,13 +13,13 @@ proved =
       forwardWritten = forward-written;
       forwardRead = forward-read;
       bounded = bounded;
-      goesOn = goes-on;
+      takesStep = takes-step;
       finishes = finishes;
       finishesIn = finishes-in;
       finishesAtOnce = finishes-at-once;
       alwaysFinish = always-finish;
       finishesResumed = finishes-resumed;
-      finishesServed = finishes-served;
+      rewrittenFinishesIn = rewritten-finishes-in;
       answers = answers;
       reaches = reaches;
       stepwise = stepwise-holds;

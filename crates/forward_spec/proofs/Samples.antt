@@ -7,59 +7,59 @@ use lib.Dec.{lit≤}
 use Rattle.spec.specs.Layouts.{rightLayout}
 use Rattle.spec.specs.Policies.{rightPolicy}
 use Rattle.spec.specs.Landings.{rightLandings, landingsOf}
-use Rattle.spec.specs.Words.{judgeOf, judgeAt, firstRefused, instrOf, routine, bundlesFor}
+use Rattle.spec.specs.Words.{fieldsRefusal, refusalAt, firstRefused, instrOf, routine, bundlesFor}
 use Rattle.spec.specs.Commands.{isCommand, commandOf, wordOf, fetchOf, plainOf}
-use Rattle.spec.specs.Bundles.{shapeOf, valid, readOff, bundleAt, isBundle, shapedAt, passesAt, checkFrom, checkAnswer, placeAnswer, rewriteAnswer}
+use Rattle.spec.specs.Bundles.{shapeOf, valid, decodeBundle, bundleAt, isBundle, shapedAt, passesAt, checkFrom, checkAnswer, baseRoomAnswer, rewriteAnswer}
 use Rattle.spec.specs.Machines.{installAnswer, installMemory, installMachine, effectOf, applyOf, runOf, loopFrom}
-use Rattle.spec.specs.Runs.{Carried, atFirst, runOn, afterTaken, afterRun, Lends, Served, eachRun}
+use Rattle.spec.specs.Runs.{Session, initialSession, runOn, afterTaken, afterRun, MemoriesPreserved, HostPremise, eachRun}
 use Rattle.spec.proofs.Bools.{no}
 use Rattle.forward_spec.specs.Forward.{forwardAt, forwardFrom, forwardAnswer, checkForwardAnswer}
 use Rattle.forward_spec.specs.Sample.{layout, policy, commands, memory, runs, Answers, SampleReaches, shortCommands, oneStep, oneStepEach, fourthAlone, stepwise, Stepwise}
 
 pub answers : Answers
-unfolding ones leadingZeros rightLayout judgeOf judgeAt firstRefused instrOf routine bundlesFor wordOf shapeOf valid readOff bundleAt isBundle shapedAt passesAt checkFrom checkAnswer forwardAt forwardFrom forwardAnswer checkForwardAnswer
+unfolding ones leadingZeros rightLayout fieldsRefusal refusalAt firstRefused instrOf routine bundlesFor wordOf shapeOf valid decodeBundle bundleAt isBundle shapedAt passesAt checkFrom checkAnswer forwardAt forwardFrom forwardAnswer checkForwardAnswer
 answers =
     record { none = refl; end = refl; self = refl; back = refl; unreached = refl; indirect = refl; last = refl; grade = refl; long = refl; list = refl; listSelf = refl; listLowest = refl; listLayout = refl; listCount = refl; listBase = refl; listShape = refl }
 
 passed : checkAnswer layout commands .number ≡ 0
-unfolding ones leadingZeros rightLayout instrOf routine bundlesFor wordOf shapeOf valid readOff bundleAt isBundle shapedAt passesAt checkFrom checkAnswer
+unfolding ones leadingZeros rightLayout instrOf routine bundlesFor wordOf shapeOf valid decodeBundle bundleAt isBundle shapedAt passesAt checkFrom checkAnswer
 passed = refl
 
-served : Served layout policy commands memory runs
+premise : HostPremise layout policy commands memory runs
 unfolding ones rightLayout rightPolicy rightLandings installAnswer eachRun
-served = record { passed = passed; installed = refl; lends = (λ l i s. refl, (λ l i s. refl, tt)) }
+premise = record { passed = passed; installed = refl; preserved = (λ l i s. refl, (λ l i s. refl, tt)) }
 
 pub reaches : SampleReaches
-unfolding ones leadingZeros rightLayout rightPolicy rightLandings landingsOf judgeOf judgeAt firstRefused instrOf routine bundlesFor wordOf shapeOf isCommand commandOf fetchOf plainOf installAnswer installMemory installMachine effectOf applyOf loopFrom runOf runOn afterTaken afterRun eachRun placeAnswer rewriteAnswer forwardAt forwardFrom forwardAnswer
+unfolding ones leadingZeros rightLayout rightPolicy rightLandings landingsOf fieldsRefusal refusalAt firstRefused instrOf routine bundlesFor wordOf shapeOf isCommand commandOf fetchOf plainOf installAnswer installMemory installMachine effectOf applyOf loopFrom runOf runOn afterTaken afterRun eachRun baseRoomAnswer rewriteAnswer forwardAt forwardFrom forwardAnswer
 reaches =
     record {
       rewritten = refl;
       forward = refl;
-      served = served;
+      premise = premise;
       resumed = (record { memory = refl; log = lit≤ tt; readings = lit≤ tt }, (record { memory = refl; log = lit≤ tt; readings = lit≤ tt }, tt));
-      paid = lit≤ tt;
+      charged = lit≤ tt;
       answers = refl;
       reached = refl;
     }
 
 -- each run of one step is lent what the last one left
-lends : (c : Carried) (bs : List Bool) → Lends layout shortCommands c (oneStepEach c bs)
+lends : (c : Session) (bs : List Bool) → MemoriesPreserved layout shortCommands c (oneStepEach c bs)
 unfolding eachRun
 lends c [] = tt
 lends c (b ∷ bs) = (λ l i s. refl, lends (afterRun layout shortCommands c (oneStep (c .memory) b)) bs)
 
 short-passed : checkAnswer layout shortCommands .number ≡ 0
-unfolding ones leadingZeros rightLayout instrOf routine bundlesFor wordOf shapeOf valid readOff bundleAt isBundle shapedAt passesAt checkFrom checkAnswer
+unfolding ones leadingZeros rightLayout instrOf routine bundlesFor wordOf shapeOf valid decodeBundle bundleAt isBundle shapedAt passesAt checkFrom checkAnswer
 short-passed = refl
 
-short-served : Served layout policy shortCommands memory stepwise
-short-served = record { passed = short-passed; installed = served .installed; lends = lends (atFirst layout policy memory) fourthAlone }
+short-premise : HostPremise layout policy shortCommands memory stepwise
+short-premise = record { passed = short-passed; installed = premise .installed; preserved = lends (initialSession layout policy memory) fourthAlone }
 
 pub stepwise-holds : Stepwise
-unfolding ones leadingZeros rightLayout rightPolicy rightLandings landingsOf judgeOf judgeAt firstRefused instrOf routine bundlesFor wordOf shapeOf isCommand commandOf fetchOf plainOf installAnswer installMemory installMachine effectOf applyOf loopFrom runOf runOn afterTaken afterRun eachRun placeAnswer rewriteAnswer forwardAt forwardFrom forwardAnswer
+unfolding ones leadingZeros rightLayout rightPolicy rightLandings landingsOf fieldsRefusal refusalAt firstRefused instrOf routine bundlesFor wordOf shapeOf isCommand commandOf fetchOf plainOf installAnswer installMemory installMachine effectOf applyOf loopFrom runOf runOn afterTaken afterRun eachRun baseRoomAnswer rewriteAnswer forwardAt forwardFrom forwardAnswer
 stepwise-holds =
     record {
-      served = short-served;
+      premise = short-premise;
       rewritten = refl;
       forward = refl;
       resumed = (λ e. no e, (λ e. no e, (λ e. no e, (λ e. record { memory = refl; log = lit≤ tt; readings = lit≤ tt }, (λ e. no e, (λ e. no e, (λ e. no e, (λ e. no e, (λ e. no e, (λ e. no e, tt))))))))));

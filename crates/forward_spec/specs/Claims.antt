@@ -15,8 +15,8 @@ use Rattle.types.specs.Names.{bundleLength, answer}
 use Rattle.spec.specs.Policies.{Policy}
 use Rattle.spec.specs.Words.{bundlesFor}
 use Rattle.spec.specs.Bundles.{commandsOf, rewriteAnswer}
-use Rattle.spec.specs.Claims.{Enough}
-use Rattle.spec.specs.Runs.{Given, Every, Run, runOn, allRuns, after, Served}
+use Rattle.spec.specs.Claims.{Resumable}
+use Rattle.spec.specs.Runs.{RunInput, Every, Run, runOn, allRuns, after, HostPremise}
 use Rattle.forward_spec.specs.Forward.{forwardAnswer, checkForwardAnswer}
 
 -- ---- the two checks agree
@@ -51,12 +51,12 @@ mostSteps N = bundleLength * (N - 1) + 1
 -- the 'counted steps over all its runs'; a refused run answers 0
 abbrev pub stepsIn : List (Run Outcome) → ℕ
 stepsIn [] = 0
-stepsIn (r ∷ rs) = r .ran .outcome .answer .steps + stepsIn rs
+stepsIn (r ∷ rs) = r .result .outcome .answer .steps + stepsIn rs
 
 -- a list of the class, on demand 3's premise, whatever budgets, logs and readings the runs have
 abbrev pub Bounded : Type 0
 Bounded =
-    (lay : Layout) (pol : Policy) (ws mem : List ℕ) (gs : List Given) → checkForwardAnswer lay ws .number ≡ 0 → Served lay pol ws mem gs →
+    (lay : Layout) (pol : Policy) (ws mem : List ℕ) (gs : List RunInput) → checkForwardAnswer lay ws .number ≡ 0 → HostPremise lay pol ws mem gs →
     stepsIn (allRuns lay pol ws mem gs) ≤ mostSteps (length ws / bundleLength)
 
 -- ---- that it goes on
@@ -76,55 +76,55 @@ pauses Refused = false
 abbrev pub ResumedAfter : Layout → Bool → List (Run Outcome) → Type 0
 ResumedAfter lay paused [] = Unit {0}
 ResumedAfter lay paused (r ∷ rs) =
-    (paused ≡ true → Enough lay (r .given)) × ResumedAfter lay (pauses (r .ran .outcome .answer .ending)) rs
+    (paused ≡ true → Resumable lay (r .input)) × ResumedAfter lay (pauses (r .result .outcome .answer .ending)) rs
 
 -- a machine that still runs takes a step, if it is lent enough and has a budget
-abbrev pub GoesOn : Type 0
-GoesOn =
-    (lay : Layout) (pol : Policy) (ws mem : List ℕ) (gs : List Given) → Served lay pol ws mem gs →
+abbrev pub TakesStep : Type 0
+TakesStep =
+    (lay : Layout) (pol : Policy) (ws mem : List ℕ) (gs : List RunInput) → HostPremise lay pol ws mem gs →
     let c = after lay pol ws mem gs in
-    c .machine .status ≡ Running → (g : Given) → Enough lay g → 1 ≤ g .budget → 1 ≤ runOn lay ws c g .outcome .answer .steps
+    c .machine .status ≡ Running → (g : RunInput) → Resumable lay g → 1 ≤ g .budget → 1 ≤ runOn lay ws c g .outcome .answer .steps
 
 -- ---- that it finishes
 
 -- 'ends or stops'
-abbrev pub Over : Machine → Type 0
-Over m = (m .status ≡ Ended) ⊎ (m .status ≡ Stopped)
+abbrev pub Terminated : Machine → Type 0
+Terminated m = (m .status ≡ Ended) ⊎ (m .status ≡ Stopped)
 
--- what a run pays, by its answer, of its counted steps and its budget: a refused run nothing; one that pauses, 23 or 24, the steps
+-- what a run is charged, by its answer, of its counted steps and its budget: a refused run nothing; one that pauses, 23 or 24, the steps
 -- that it counted; any other its budget, which it has used up if the machine is still running after it
-abbrev pub paidFor : Ending → ℕ → ℕ → ℕ
-paidFor Refused steps budget = 0
-paidFor LogFull steps budget = steps
-paidFor Silent steps budget = steps
-paidFor Spent steps budget = budget
-paidFor Done steps budget = budget
-paidFor NoArrow steps budget = budget
-paidFor Fault steps budget = budget
-paidFor NoLanding steps budget = budget
+abbrev pub stepsChargedFor : Ending → ℕ → ℕ → ℕ
+stepsChargedFor Refused steps budget = 0
+stepsChargedFor LogFull steps budget = steps
+stepsChargedFor Silent steps budget = steps
+stepsChargedFor Spent steps budget = budget
+stepsChargedFor Done steps budget = budget
+stepsChargedFor NoArrow steps budget = budget
+stepsChargedFor Fault steps budget = budget
+stepsChargedFor NoLanding steps budget = budget
 
-abbrev pub paidBy : Run Outcome → ℕ
-paidBy r = paidFor (r .ran .outcome .answer .ending) (r .ran .outcome .answer .steps) (r .given .budget)
+abbrev pub stepsChargedBy : Run Outcome → ℕ
+stepsChargedBy r = stepsChargedFor (r .result .outcome .answer .ending) (r .result .outcome .answer .steps) (r .input .budget)
 
-abbrev pub paidIn : List (Run Outcome) → ℕ
-paidIn [] = 0
-paidIn (r ∷ rs) = paidBy r + paidIn rs
+abbrev pub stepsCharged : List (Run Outcome) → ℕ
+stepsCharged [] = 0
+stepsCharged (r ∷ rs) = stepsChargedBy r + stepsCharged rs
 
--- a list of the class, after runs whose 'budgets suffice': they pay 4 × (N − 1) + 1 steps, whatever logs and readings they began with
+-- a list of the class, after runs whose 'budgets suffice': they are charged 4 × (N − 1) + 1 steps, whatever logs and readings they began with
 abbrev pub Finishes : Type 0
 Finishes =
-    (lay : Layout) (pol : Policy) (ws mem : List ℕ) (gs : List Given) → checkForwardAnswer lay ws .number ≡ 0 → Served lay pol ws mem gs →
-    mostSteps (length ws / bundleLength) ≤ paidIn (allRuns lay pol ws mem gs) → Over (after lay pol ws mem gs .machine)
+    (lay : Layout) (pol : Policy) (ws mem : List ℕ) (gs : List RunInput) → checkForwardAnswer lay ws .number ≡ 0 → HostPremise lay pol ws mem gs →
+    mostSteps (length ws / bundleLength) ≤ stepsCharged (allRuns lay pol ws mem gs) → Terminated (after lay pol ws mem gs .machine)
 
 -- the same by the count of runs, each resumed and with a budget of at least 1: however small the budgets and however often it pauses
 abbrev pub FinishesIn : Type 0
 FinishesIn =
-    (lay : Layout) (pol : Policy) (ws mem : List ℕ) (gs : List Given) → checkForwardAnswer lay ws .number ≡ 0 → Served lay pol ws mem gs →
-    Every (Enough lay) gs → Every (λ (g : Given). 1 ≤ g .budget) gs → mostSteps (length ws / bundleLength) ≤ length gs →
-    Over (after lay pol ws mem gs .machine)
+    (lay : Layout) (pol : Policy) (ws mem : List ℕ) (gs : List RunInput) → checkForwardAnswer lay ws .number ≡ 0 → HostPremise lay pol ws mem gs →
+    Every (Resumable lay) gs → Every (λ (g : RunInput). 1 ≤ g .budget) gs → mostSteps (length ws / bundleLength) ≤ length gs →
+    Terminated (after lay pol ws mem gs .machine)
 
 -- budget for every step that can be left, and log and readings for an event in each bundle but the last
-pub record AmpleFor (lay : Layout) (N : ℕ) (g : Given) : Type 0 where
+pub record SufficesFor (lay : Layout) (N : ℕ) (g : RunInput) : Type 0 where
   pub memory : length (g .memory) ≡ lay .size
   pub budget : mostSteps N ≤ g .budget
   pub log : 2 * (N - 1) ≤ length (g .log)
@@ -133,40 +133,40 @@ pub record AmpleFor (lay : Layout) (N : ℕ) (g : Given) : Type 0 where
 -- the same by one run, after any others
 abbrev pub FinishesAtOnce : Type 0
 FinishesAtOnce =
-    (lay : Layout) (pol : Policy) (ws mem : List ℕ) (gs : List Given) (g : Given) → checkForwardAnswer lay ws .number ≡ 0 →
-    Served lay pol ws mem (gs ++ (g ∷ [])) → AmpleFor lay (length ws / bundleLength) g → Over (after lay pol ws mem (gs ++ (g ∷ [])) .machine)
+    (lay : Layout) (pol : Policy) (ws mem : List ℕ) (gs : List RunInput) (g : RunInput) → checkForwardAnswer lay ws .number ≡ 0 →
+    HostPremise lay pol ws mem (gs ++ (g ∷ [])) → SufficesFor lay (length ws / bundleLength) g → Terminated (after lay pol ws mem (gs ++ (g ∷ [])) .machine)
 
 -- ---- the same of rewritten words
 
 -- 'A rewritten routine of this class ends or stops within 4 × (N − 1) + 1 counted steps over all its runs'
-pub record Finished (lay : Layout) (pol : Policy) (code mem : List ℕ) (gs : List Given) : Type 0 where
-  pub over : Over (after lay pol (commandsOf lay code) mem gs .machine)
+pub record Finished (lay : Layout) (pol : Policy) (code mem : List ℕ) (gs : List RunInput) : Type 0 where
+  pub over : Terminated (after lay pol (commandsOf lay code) mem gs .machine)
   pub within : stepsIn (allRuns lay pol (commandsOf lay code) mem gs) ≤ mostSteps (bundlesFor (length code))
 
--- 'provided that demand 3's premise holds .. and the budgets suffice', by what the runs pay: a pause, resumed or not, pays the steps that it
+-- 'provided that demand 3's premise holds .. and the budgets suffice', by what the runs are charged: a pause, resumed or not, is charged the steps that it
 -- counted; that it is resumed is the premise of `FinishesResumed`
 abbrev pub AlwaysFinish : Type 0
 AlwaysFinish =
-    (lay : Layout) (pol : Policy) (code mem : List ℕ) (room : ℕ) (gs : List Given) →
-    rewriteAnswer lay code room .number ≡ 0 → forwardAnswer code .number ≡ 0 → Served lay pol (commandsOf lay code) mem gs →
-    mostSteps (bundlesFor (length code)) ≤ paidIn (allRuns lay pol (commandsOf lay code) mem gs) → Finished lay pol code mem gs
+    (lay : Layout) (pol : Policy) (code mem : List ℕ) (room : ℕ) (gs : List RunInput) →
+    rewriteAnswer lay code room .number ≡ 0 → forwardAnswer code .number ≡ 0 → HostPremise lay pol (commandsOf lay code) mem gs →
+    mostSteps (bundlesFor (length code)) ≤ stepsCharged (allRuns lay pol (commandsOf lay code) mem gs) → Finished lay pol code mem gs
 
 -- the same where 'each pause is resumed with a free pair and a reading', and 'the budgets suffice' by the count of
 -- runs: none refused for its memory, each with a budget of at least 1; only a run that pauses at once counts no step, and the next one,
 -- resumed, counts one, so that two runs for each step are enough
 abbrev pub FinishesResumed : Type 0
 FinishesResumed =
-    (lay : Layout) (pol : Policy) (code mem : List ℕ) (room : ℕ) (gs : List Given) →
+    (lay : Layout) (pol : Policy) (code mem : List ℕ) (room : ℕ) (gs : List RunInput) →
     let ws = commandsOf lay code in
-    rewriteAnswer lay code room .number ≡ 0 → forwardAnswer code .number ≡ 0 → Served lay pol ws mem gs →
+    rewriteAnswer lay code room .number ≡ 0 → forwardAnswer code .number ≡ 0 → HostPremise lay pol ws mem gs →
     ResumedAfter lay false (allRuns lay pol ws mem gs) →
-    Every (λ (g : Given). length (g .memory) ≡ lay .size) gs → Every (λ (g : Given). 1 ≤ g .budget) gs →
+    Every (λ (g : RunInput). length (g .memory) ≡ lay .size) gs → Every (λ (g : RunInput). 1 ≤ g .budget) gs →
     2 * mostSteps (bundlesFor (length code)) ≤ length gs → Finished lay pol code mem gs
 
 -- and if each run has a free pair and a reading, one run for each step
-abbrev pub FinishesServed : Type 0
-FinishesServed =
-    (lay : Layout) (pol : Policy) (code mem : List ℕ) (room : ℕ) (gs : List Given) →
+abbrev pub RewrittenFinishesIn : Type 0
+RewrittenFinishesIn =
+    (lay : Layout) (pol : Policy) (code mem : List ℕ) (room : ℕ) (gs : List RunInput) →
     let ws = commandsOf lay code in
-    rewriteAnswer lay code room .number ≡ 0 → forwardAnswer code .number ≡ 0 → Served lay pol ws mem gs →
-    Every (Enough lay) gs → Every (λ (g : Given). 1 ≤ g .budget) gs → mostSteps (bundlesFor (length code)) ≤ length gs → Finished lay pol code mem gs
+    rewriteAnswer lay code room .number ≡ 0 → forwardAnswer code .number ≡ 0 → HostPremise lay pol ws mem gs →
+    Every (Resumable lay) gs → Every (λ (g : RunInput). 1 ≤ g .budget) gs → mostSteps (bundlesFor (length code)) ≤ length gs → Finished lay pol code mem gs

@@ -10,7 +10,7 @@ use Rattle.types.specs.declared.Instr.{Instr}
 use Rattle.types.specs.declared.Instr.the-variants.{HALT, PLAIN, LOAD, STORE, GOIF, GOX, EVENT}
 use Rattle.types.specs.declared.Refusal.the-variants.{Taken, Oversize, NotForward}
 use Rattle.types.specs.Names.{mostInstructions, bundleLength, numberOf, answer, refusal, orElse, first, command}
-use Rattle.spec.specs.Words.{kindOf, vOf, judgeAt, firstRefused, routine}
+use Rattle.spec.specs.Words.{kindOf, vOf, refusalAt, firstRefused, routine}
 use Rattle.spec.specs.Bundles.{bundleAt, checkAnswer}
 
 -- 'no GOX and .. every GOIF going to a higher instruction than its own': of instruction h
@@ -32,7 +32,7 @@ forwardFrom is h (suc m) = cond (forwardAt h (is h)) (forwardFrom is (h + 1) m) 
 unfoldable pub forwardAnswer : List ℕ → Answer
 forwardAnswer ws =
     first ((ltb mostInstructions (length ws), refusal Oversize 0) ∷ [])
-    (orElse (firstRefused (judgeAt (length ws)) ws 0 (answer (numberOf Taken) 0)) (forwardFrom (routine ws) 0 (length ws)))
+    (orElse (firstRefused (refusalAt (length ws)) ws 0 (answer (numberOf Taken) 0)) (forwardFrom (routine ws) 0 (length ws)))
 
 -- the check of command lists: 'after all the checker's refusals'
 unfoldable pub checkForwardAnswer : Layout → List ℕ → Answer

@@ -1,5 +1,5 @@
 -- Every claim of this crate, a field each: its one term is `proved`, in proofs/Proved.antt.
-use Rattle.forward_spec.specs.Claims.{ChecksAgree, ForwardWritten, ForwardRead, Bounded, GoesOn, Finishes, FinishesIn, FinishesAtOnce, AlwaysFinish, FinishesResumed, FinishesServed}
+use Rattle.forward_spec.specs.Claims.{ChecksAgree, ForwardWritten, ForwardRead, Bounded, TakesStep, Finishes, FinishesIn, FinishesAtOnce, AlwaysFinish, FinishesResumed, RewrittenFinishesIn}
 use Rattle.forward_spec.specs.Sample.{Answers, SampleReaches, Stepwise}
 
 pub record Proved : Type 0 where
@@ -7,13 +7,13 @@ pub record Proved : Type 0 where
   pub forwardWritten : ForwardWritten
   pub forwardRead : ForwardRead
   pub bounded : Bounded
-  pub goesOn : GoesOn
+  pub takesStep : TakesStep
   pub finishes : Finishes
   pub finishesIn : FinishesIn
   pub finishesAtOnce : FinishesAtOnce
   pub alwaysFinish : AlwaysFinish
   pub finishesResumed : FinishesResumed
-  pub finishesServed : FinishesServed
+  pub rewrittenFinishesIn : RewrittenFinishesIn
   pub answers : Answers
   pub reaches : SampleReaches
   pub stepwise : Stepwise

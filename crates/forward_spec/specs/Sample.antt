@@ -14,10 +14,10 @@ use Rattle.spec.specs.Policies.{Policy, policyOf}
 use Rattle.spec.specs.Words.{packOf, bundlesFor}
 use Rattle.spec.specs.Bundles.{commandsOf, rewriteAnswer}
 use Rattle.spec.specs.Machines.{installMemory}
-use Rattle.spec.specs.Runs.{Given, Carried, atFirst, afterRun, Served, allRuns, Every}
-use Rattle.spec.specs.Claims.{Enough}
+use Rattle.spec.specs.Runs.{RunInput, Session, initialSession, afterRun, HostPremise, allRuns, Every}
+use Rattle.spec.specs.Claims.{Resumable}
 use Rattle.forward_spec.specs.Forward.{forwardAnswer, checkForwardAnswer}
-use Rattle.forward_spec.specs.Claims.{mostSteps, stepsIn, ResumedAfter, paidIn}
+use Rattle.forward_spec.specs.Claims.{mostSteps, stepsIn, ResumedAfter, stepsCharged}
 
 -- SET r0, 70; always to instruction v; GOX on r0; order v
 abbrev pub plain : ℕ
@@ -69,25 +69,25 @@ abbrev pub memory : List ℕ
 memory = replicate 64 0
 
 -- a log of one pair, one reading
-abbrev pub given : List ℕ → Given
-given mem = record { memory = mem; budget = 100; readings = 1800 ∷ []; log = 0 ∷ 0 ∷ [] }
+abbrev pub runInput : List ℕ → RunInput
+runInput mem = record { memory = mem; budget = 100; readings = 1800 ∷ []; log = 0 ∷ 0 ∷ [] }
 
-abbrev pub firstRun : Given
-firstRun = given (installMemory layout policy memory)
+abbrev pub firstRun : RunInput
+firstRun = runInput (installMemory layout policy memory)
 
-abbrev pub secondRun : Given
-secondRun = given (afterRun layout commands (atFirst layout policy memory) firstRun .memory)
+abbrev pub secondRun : RunInput
+secondRun = runInput (afterRun layout commands (initialSession layout policy memory) firstRun .memory)
 
-abbrev pub runs : List Given
+abbrev pub runs : List RunInput
 runs = firstRun ∷ secondRun ∷ []
 
 pub record SampleReaches : Type 0 where
   pub rewritten : rewriteAnswer layout code 16 ≡ answer 0 16
   pub forward : forwardAnswer code ≡ answer 0 0
-  pub served : Served layout policy commands memory runs
-  pub resumed : Every (Enough layout) runs
-  pub paid : mostSteps 4 ≤ paidIn (allRuns layout policy commands memory runs)
-  pub answers : map (λ r. r .ran .outcome .answer) (allRuns layout policy commands memory runs) ≡ runAnswer LogFull 6 1 0 ∷ runAnswer Done 7 1 0 ∷ []
+  pub premise : HostPremise layout policy commands memory runs
+  pub resumed : Every (Resumable layout) runs
+  pub charged : mostSteps 4 ≤ stepsCharged (allRuns layout policy commands memory runs)
+  pub answers : map (λ r. r .result .outcome .answer) (allRuns layout policy commands memory runs) ≡ runAnswer LogFull 6 1 0 ∷ runAnswer Done 7 1 0 ∷ []
   pub reached : stepsIn (allRuns layout policy commands memory runs) ≡ mostSteps 4
 
 -- one order: N is 2, and five steps are the most
@@ -98,10 +98,10 @@ abbrev pub shortCommands : List ℕ
 shortCommands = commandsOf layout short
 
 -- runs with budgets of one, lent the memory that the last one left; where `true` stands with a free pair and a reading, else with none
-abbrev pub oneStep : List ℕ → Bool → Given
+abbrev pub oneStep : List ℕ → Bool → RunInput
 oneStep mem b = record { memory = mem; budget = 1; readings = cond b (1800 ∷ []) []; log = cond b (0 ∷ 0 ∷ []) [] }
 
-abbrev pub oneStepEach : Carried → List Bool → List Given
+abbrev pub oneStepEach : Session → List Bool → List RunInput
 oneStepEach c [] = []
 oneStepEach c (b ∷ bs) = oneStep (c .memory) b ∷ oneStepEach (afterRun layout shortCommands c (oneStep (c .memory) b)) bs
 
@@ -109,18 +109,18 @@ oneStepEach c (b ∷ bs) = oneStep (c .memory) b ∷ oneStepEach (afterRun layou
 abbrev pub fourthAlone : List Bool
 fourthAlone = false ∷ false ∷ false ∷ true ∷ replicate 6 false
 
-abbrev pub stepwise : List Given
-stepwise = oneStepEach (atFirst layout policy memory) fourthAlone
+abbrev pub stepwise : List RunInput
+stepwise = oneStepEach (initialSession layout policy memory) fourthAlone
 
 -- the premises of FinishesResumed
 pub record Stepwise : Type 0 where
-  pub served : Served layout policy shortCommands memory stepwise
+  pub premise : HostPremise layout policy shortCommands memory stepwise
   pub rewritten : rewriteAnswer layout short 8 ≡ answer 0 8
   pub forward : forwardAnswer short ≡ answer 0 0
   pub resumed : ResumedAfter layout false (allRuns layout policy shortCommands memory stepwise)
-  pub memories : Every (λ (g : Given). length (g .memory) ≡ layout .size) stepwise
-  pub budgets : Every (λ (g : Given). 1 ≤ g .budget) stepwise
+  pub memories : Every (λ (g : RunInput). length (g .memory) ≡ layout .size) stepwise
+  pub budgets : Every (λ (g : RunInput). 1 ≤ g .budget) stepwise
   pub enough : 2 * mostSteps (bundlesFor (length short)) ≤ length stepwise
   pub answers :
-      map (λ r. r .ran .outcome .answer) (allRuns layout policy shortCommands memory stepwise)
+      map (λ r. r .result .outcome .answer) (allRuns layout policy shortCommands memory stepwise)
       ≡ runAnswer Spent 1 0 0 ∷ runAnswer Spent 1 0 0 ∷ runAnswer LogFull 0 0 0 ∷ runAnswer Spent 1 1 0 ∷ runAnswer Spent 1 0 0 ∷ runAnswer Done 1 0 0 ∷ replicate 4 (runAnswer Done 0 0 0)

@@ -24,7 +24,7 @@ ghost use Rattle.spec.specs.Policies.{lentPolicy, rightPolicy};
 ghost use Rattle.spec.specs.Machines.{installOf, installMemory};
 ghost use Rattle.types.specs.Records.{machineRefused};
 
-// Whether a policy can be installed under a layout: 10's four conditions.
+// Whether a policy can be installed under a layout: the four conditions of refusal 10 (bad policy).
 fn policy_right(layout: Layout, policy: PolicyNumbers, table: &[u8]) -> bool
     ensures { λ r. ⌜ r ≡ rightPolicy layout (lentPolicy policy (now (table .entry)) []) ⌝ }
 {

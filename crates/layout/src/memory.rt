@@ -7,7 +7,7 @@ ghost use lib.Dec.{eqb};
 ghost use Rattle.spec.specs.Layouts.{rightLayout, maskOf, widthOf};
 
 // Whether a layout is right. SH < U is tested before SH − SL + 1 is formed, which could wrap otherwise.
-pub fn right(l: Layout) -> bool
+pub fn layout_right(l: Layout) -> bool
     ensures { λ r. ⌜ r ≡ rightLayout l ⌝ }
 {
     let size = l.size;
@@ -45,11 +45,11 @@ pub fn right(l: Layout) -> bool
     in_range & (aligned & (in_memory & apart))
 }
 
-// Whether a layout is right and a memory of so many cells has its size: what 7 does not refuse.
+// Whether a layout is right and a memory of so many cells has its size: what is not refused with 7 (bad layout).
 pub fn fits(l: Layout, cells: usize) -> bool
     ensures { λ r. ⌜ r ≡ (rightLayout l && eqb cells (l .size)) ⌝ }
 {
-    right(l) & (cells == l.size as usize)
+    layout_right(l) & (cells == l.size as usize)
 }
 
 // The mask of an address, for data and code alike.

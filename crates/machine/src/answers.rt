@@ -33,6 +33,6 @@ pub fn over(regs: [u32; Machine::REGISTERS], at: Point, steps: u32) -> Outcome
     ensures { λ r. ⌜ r ≡ outcomeOf (machineOf regs (at .pc) (at .status)) (endingOf (at .status)) steps (at .pairs) (at .used) ⌝ }
 {
     let status = at.status;
-    let end = machine_step::endings::of(status);
+    let end = machine_step::endings::ending_of(status);
     finish(regs, at, end, steps)
 }

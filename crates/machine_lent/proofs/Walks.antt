@@ -9,7 +9,7 @@ use denote.Slice.{sliceVal}
 use denote.Struct.Laws as LL
 use Rattle.types.specs.declared.Layout.{Layout}
 use Rattle.types.specs.declared.Machine.{Machine}
-use Rattle.spec.specs.Machines.{Ran, runOf}
+use Rattle.spec.specs.Machines.{RunResult, runOf}
 use Rattle.types.proofs.Layout as L
 use Rattle.types.proofs.Layout.Laws as L′
 use Rattle.types.proofs.Machine as T
@@ -44,5 +44,5 @@ module _ (y : Layout) (cs ms : RefT (List ℕ)) (n : ℕ) (rs gs : RefT (List �
   vals v = (lay y ∷ [], (sl cs ∷ [], (v ∷ [], (sl ms ∷ [], (vint w32 n ∷ [], (sl rs ∷ [], (sl gs ∷ [], tt)))))))
 
   -- what the definition is applied to
-  abbrev pub ran : Machine → Ran
+  abbrev pub ran : Machine → RunResult
   ran h = runOf y (cs .now) h (ms .now) n (rs .now) (gs .now)

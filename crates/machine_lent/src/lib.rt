@@ -4,7 +4,7 @@ use types::Machine;
 use types::Outcome;
 use types::RunAnswer;
 ghost use mathlib.Core.Path.{_≡_};
-ghost use Rattle.spec.specs.Machines.{ranOf, runOf};
+ghost use Rattle.spec.specs.Machines.{runResultOf, runOf};
 ghost use Rattle.machine_lent.specs.Lent.{asOutcome};
 
 // A run of a lent record: it is copied out, run by value, and stored back whole.
@@ -17,7 +17,7 @@ pub fn run_lent(
     readings: &[u32],
     log: &mut [u32],
 ) -> RunAnswer
-    ensures { λ r. ⌜ ranOf (asOutcome (now (machine .exit)) r) (now (memory .exit)) (now (log .exit)) ≡ runOf layout (now (commands .entry)) (now (machine .entry)) (now (memory .entry)) budget (now (readings .entry)) (now (log .entry)) ⌝ }
+    ensures { λ r. ⌜ runResultOf (asOutcome (now (machine .exit)) r) (now (memory .exit)) (now (log .exit)) ≡ runOf layout (now (commands .entry)) (now (machine .entry)) (now (memory .entry)) budget (now (readings .entry)) (now (log .entry)) ⌝ }
 {
     let out = machine::run_value(layout, commands, *machine, memory, budget, readings, log);
     *machine = out.machine;
@@ -34,7 +34,7 @@ pub fn run(
     readings: &[u32],
     log: &mut [u32],
 ) -> Outcome
-    ensures { λ r. ⌜ ranOf r (now (memory .exit)) (now (log .exit)) ≡ runOf layout (now (commands .entry)) machine (now (memory .entry)) budget (now (readings .entry)) (now (log .entry)) ⌝ }
+    ensures { λ r. ⌜ runResultOf r (now (memory .exit)) (now (log .exit)) ≡ runOf layout (now (commands .entry)) machine (now (memory .entry)) budget (now (readings .entry)) (now (log .entry)) ⌝ }
 {
     let mut lent = machine;
     let answer = run_lent(layout, commands, &mut lent, memory, budget, readings, log);
@@ -53,7 +53,7 @@ pub fn step(
     readings: &[u32],
     log: &mut [u32],
 ) -> Outcome
-    ensures { λ r. ⌜ ranOf r (now (memory .exit)) (now (log .exit)) ≡ runOf layout (now (commands .entry)) machine (now (memory .entry)) 1 (now (readings .entry)) (now (log .entry)) ⌝ }
+    ensures { λ r. ⌜ runResultOf r (now (memory .exit)) (now (log .exit)) ≡ runOf layout (now (commands .entry)) machine (now (memory .entry)) 1 (now (readings .entry)) (now (log .entry)) ⌝ }
 {
     run(layout, commands, machine, memory, 1, readings, log)
 }

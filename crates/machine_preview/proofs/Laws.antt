@@ -13,7 +13,7 @@ use Rattle.types.specs.declared.Outcome.{Outcome}
 use Rattle.types.specs.declared.Ending.the-variants.{Refused}
 use Rattle.types.specs.Names.{mostCells}
 use Rattle.spec.specs.Layouts.{rightLayout}
-use Rattle.spec.specs.Machines.{fits, Ran, ranOf, runOf}
+use Rattle.spec.specs.Machines.{fits, RunResult, runResultOf, runOf}
 use Rattle.types.specs.Records.{outcomeOf}
 use Rattle.spec.proofs.Bools.{both, cases}
 use Rattle.spec.proofs.Layouts.{layout-facts}
@@ -36,7 +36,7 @@ module _ (lay : Layout) (ws : List ℕ) (m : Machine) (mem : List ℕ) (budget :
   unfolding runOf
   refused-long h o e = rw (too-long lay mem h) (e, (refl, refl))
 
-  pub ran-copy : (copied : List ℕ) → copied ≡ mem → (o : Outcome) (mem′ log′ : List ℕ) → ranOf o mem′ log′ ≡ runOf lay ws m copied budget rd log → Previewed o log′
+  pub ran-copy : (copied : List ℕ) → copied ≡ mem → (o : Outcome) (mem′ log′ : List ℕ) → runResultOf o mem′ log′ ≡ runOf lay ws m copied budget rd log → Previewed o log′
   ran-copy copied c o mem′ log′ e =
-      let r : ranOf o mem′ log′ ≡ runOf lay ws m mem budget rd log = e ∙ ap (λ (x : List ℕ). runOf lay ws m x budget rd log) c in
-      (ap (λ (x : Ran). x .outcome) r, (refl, ap (λ (x : Ran). x .log) r))
+      let r : runResultOf o mem′ log′ ≡ runOf lay ws m mem budget rd log = e ∙ ap (λ (x : List ℕ). runOf lay ws m x budget rd log) c in
+      (ap (λ (x : RunResult). x .outcome) r, (refl, ap (λ (x : RunResult). x .log) r))

@@ -1,2 +1,2 @@
-pub mod Turns
-pub mod Turning
+pub mod Tags
+pub mod LoopSteps

@@ -1,8 +1,8 @@
 // An effect applied: the state that it leaves.
 use crate::points::Point;
 use crate::points::ended;
-use crate::points::landed;
-use crate::points::onward;
+use crate::points::jumped;
+use crate::points::next_pc;
 use crate::points::ordered;
 use crate::points::probed;
 use crate::points::read;
@@ -18,7 +18,7 @@ ghost use Rattle.machine_step.specs.points.Points.{stateAt};
 // ---- what an effect writes
 
 // A register set; nothing where there is none of that number.
-fn put(regs: &mut [u32; Machine::REGISTERS], i: usize, x: u32)
+fn set_register(regs: &mut [u32; Machine::REGISTERS], i: usize, x: u32)
     requires { ⌜ length (now regs) ≡ registers ⌝ }
     ensures { λ _. ⌜ now (regs .exit) ≡ set (now (regs .entry)) i x ⌝ }
 {
@@ -41,7 +41,7 @@ pub fn probe(
     ensures { λ _. ⌜ (now (regs .exit) ≡ set (now (regs .entry)) 0 (getD (now (readings .entry)) (at .used) 0)) × (now (log .exit) ≡ withPair (now (log .entry)) (at .pairs) v (getD (now (readings .entry)) (at .used) 0)) ⌝ }
 {
     let x = read(v, at, readings, log);
-    put(regs, 0, x);
+    set_register(regs, 0, x);
 }
 
 // The state after an effect.
@@ -57,14 +57,14 @@ pub fn apply(
     requires { ⌜ (at .pairs < 2 ^ 62) × (at .used < 2 ^ 63) × (length (now regs) ≡ registers) ⌝ }
     ensures { λ r. ⌜ stateAt (now (regs .exit)) r (now (memory .exit)) (now (log .exit)) ≡ applyOf (now (ceilings .entry)) (now (readings .entry)) e (stateAt (now (regs .entry)) at (now (memory .entry)) (now (log .entry))) ⌝ }
 {
-    let next = onward(at);
+    let next = next_pc(at);
     match e {
-        Effect::Go(to) => landed(at, to),
-        Effect::Put(d, x) => {
-            put(regs, d, x);
+        Effect::Go(to) => jumped(at, to),
+        Effect::SetReg(d, x) => {
+            set_register(regs, d, x);
             next
         }
-        Effect::Cell(i, x) => {
+        Effect::SetCell(i, x) => {
             buffers::cells::poke(memory, i, x);
             next
         }

@@ -15,15 +15,15 @@ ghost use Prim.Native.Nat.{_<_};
 ghost use lib.ListN.{length, getD};
 ghost use lib.Dec.{ltb, eqb};
 ghost use Rattle.types.specs.declared.Status.the-variants.{Stopped, Faulted};
-ghost use Rattle.types.specs.declared.Effect.the-variants.{Go, Put, Cell, End};
+ghost use Rattle.types.specs.declared.Effect.the-variants.{Go, SetReg, SetCell, End};
 ghost use Rattle.types.specs.Names.{registers, noArrow};
 ghost use Rattle.spec.specs.Commands.{commandOf, plainOf, holdsOf, fetchOf};
-ghost use Rattle.machine_step.specs.effects.Sounds.{Sized};
-ghost use Rattle.spec.specs.Machines.{onward, viewOf, effectOf};
+ghost use Rattle.machine_step.specs.effects.CommandFields.{FieldsInRange};
+ghost use Rattle.spec.specs.Machines.{nextPc, viewOf, effectOf};
 
 // The next pc is formed only in the arms that need it, which keeps a register free across the match.
-fn target(c: u64, x: u32, y: u32, to: u32, pc: u32) -> Effect
-    ensures { λ r. ⌜ r ≡ Go (cond (holdsOf c x y) to (onward pc)) ⌝ }
+fn branch_target(c: u64, x: u32, y: u32, to: u32, pc: u32) -> Effect
+    ensures { λ r. ⌜ r ≡ Go (cond (holdsOf c x y) to (nextPc pc)) ⌝ }
 {
     if alu::holds(c, x, y) {
         return Effect::Go(to);
@@ -32,27 +32,27 @@ fn target(c: u64, x: u32, y: u32, to: u32, pc: u32) -> Effect
 }
 
 fn load(d: usize, at: u32, memory: &[u32]) -> Effect
-    ensures { λ r. ⌜ r ≡ cond (ltb at (length (now (memory .entry)))) (Put d (getD (now (memory .entry)) at 0)) (End Faulted) ⌝ }
+    ensures { λ r. ⌜ r ≡ cond (ltb at (length (now (memory .entry)))) (SetReg d (getD (now (memory .entry)) at 0)) (End Faulted) ⌝ }
 {
     let i = at as usize;
     if i < memory.len() {
-        return Effect::Put(d, memory[i]);
+        return Effect::SetReg(d, memory[i]);
     }
     Effect::End(Status::Faulted)
 }
 
 fn store(at: u32, x: u32, memory: &[u32]) -> Effect
-    ensures { λ r. ⌜ r ≡ cond (ltb at (length (now (memory .entry)))) (Cell at x) (End Faulted) ⌝ }
+    ensures { λ r. ⌜ r ≡ cond (ltb at (length (now (memory .entry)))) (SetCell at x) (End Faulted) ⌝ }
 {
     let i = at as usize;
     if i < memory.len() {
-        return Effect::Cell(i, x);
+        return Effect::SetCell(i, x);
     }
     Effect::End(Status::Faulted)
 }
 
 fn stop_if(x: u32, pc: u32) -> Effect
-    ensures { λ r. ⌜ r ≡ cond (eqb x noArrow) (End Stopped) (Go (onward pc)) ⌝ }
+    ensures { λ r. ⌜ r ≡ cond (eqb x noArrow) (End Stopped) (Go (nextPc pc)) ⌝ }
 {
     if x == PolicyNumbers::NO_ARROW {
         return Effect::End(Status::Stopped);
@@ -88,7 +88,7 @@ fn value(k: u64, x: u32, y: u32, v: u32) -> u32
 }
 
 // What a command would do.
-fn act(
+fn command_effect(
     c: Command,
     regs: &[u32; Machine::REGISTERS],
     pc: u32,
@@ -100,18 +100,18 @@ fn act(
     free: usize,
     left: usize,
 ) -> Effect
-    requires { ⌜ Sized c ⌝ }
+    requires { ⌜ FieldsInRange c ⌝ }
     ensures { λ r. ⌜ r ≡ effectOf c (viewOf (now (regs .entry)) pc (now (memory .entry)) cell table base landings free left) ⌝ }
 {
     match c {
         Command::Nop => Effect::Go(alu::add(pc, 1)),
         Command::Halt => Effect::End(Status::Ended),
         Command::Plain(k, d, a, b, v) => {
-            Effect::Put(d as usize, value(k, reg(regs, a), reg(regs, b), v as u32))
+            Effect::SetReg(d as usize, value(k, reg(regs, a), reg(regs, b), v as u32))
         }
         Command::Load(d, a) => load(d as usize, reg(regs, a), memory),
         Command::Store(a, b) => store(reg(regs, a), reg(regs, b), memory),
-        Command::GoIf(a, b, c, v) => { target(c, reg(regs, a), reg(regs, b), v as u32, pc) }
+        Command::GoIf(a, b, c, v) => { branch_target(c, reg(regs, a), reg(regs, b), v as u32, pc) }
         Command::GoReg(d, a, b, c) => jump(
             c,
             reg(regs, a),
@@ -126,12 +126,12 @@ fn act(
         Command::StopIf(d) => stop_if(reg(regs, d), pc),
         Command::Keep(d) => store(cell, reg(regs, d), memory),
         Command::Event(v) => event(v as u32, free, left),
-        Command::Stray => Effect::End(Status::Faulted),
+        Command::Invalid => Effect::End(Status::Faulted),
     }
 }
 
 // What a word would do: it goes through the decoder.
-fn decide(
+fn word_effect(
     w: u64,
     regs: &[u32; Machine::REGISTERS],
     pc: u32,
@@ -146,7 +146,7 @@ fn decide(
     ensures { λ r. ⌜ r ≡ effectOf (commandOf w) (viewOf (now (regs .entry)) pc (now (memory .entry)) cell table base landings free left) ⌝ }
 {
     let c = command::command(w);
-    act(c, regs, pc, cell, table, base, landings, memory, free, left)
+    command_effect(c, regs, pc, cell, table, base, landings, memory, free, left)
 }
 
 // What the word at pc would do; the list stands at the base. A pc below it is far past the list's end.
@@ -166,7 +166,7 @@ pub fn next_effect(
 {
     let at = std::num::wrapping_sub_usize(pc as usize, base as usize);
     if at < commands.len() {
-        return decide(
+        return word_effect(
             commands[at],
             regs,
             pc,

@@ -7,7 +7,7 @@ ghost use Rattle.types.specs.Names.{endingNumber};
 ghost use Rattle.spec.specs.Machines.{endingOf};
 
 // What a run answers that ends with this status and no pause.
-pub fn of(status: Status) -> Ending
+pub fn ending_of(status: Status) -> Ending
     ensures { λ r. ⌜ r ≡ endingOf status ⌝ }
 {
     match status {
@@ -20,7 +20,7 @@ pub fn of(status: Status) -> Ending
 }
 
 // Document 01's number of an ending.
-pub fn number(ending: Ending) -> u8
+pub fn ending_number(ending: Ending) -> u8
     ensures { λ r. ⌜ r ≡ endingNumber ending ⌝ }
 {
     match ending {

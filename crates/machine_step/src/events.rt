@@ -9,13 +9,13 @@ ghost use Prim.Native.Nat.{_+_, _*_};
 ghost use lib.ListN.{length, getD};
 ghost use lib.Dec.{ltb};
 ghost use Rattle.types.specs.declared.Status.the-variants.{Faulted};
-ghost use Rattle.types.specs.declared.Effect.the-variants.{Put, End};
+ghost use Rattle.types.specs.declared.Effect.the-variants.{SetReg, End};
 ghost use Rattle.types.specs.Names.{events};
 ghost use Rattle.spec.specs.Machines.{eventEffect, ifRoom};
 
 // The policy's entry for event v in the present state; the address is summed without wrap.
 pub fn look(d: usize, cell: u32, table: u32, v: u32, memory: &[u32]) -> Effect
-    ensures { λ r. ⌜ r ≡ cond (ltb cell (length (now (memory .entry)))) (cond (ltb (table + events * getD (now (memory .entry)) cell 0 + v) (length (now (memory .entry)))) (Put d (getD (now (memory .entry)) (table + events * getD (now (memory .entry)) cell 0 + v) 0)) (End Faulted)) (End Faulted) ⌝ }
+    ensures { λ r. ⌜ r ≡ cond (ltb cell (length (now (memory .entry)))) (cond (ltb (table + events * getD (now (memory .entry)) cell 0 + v) (length (now (memory .entry)))) (SetReg d (getD (now (memory .entry)) (table + events * getD (now (memory .entry)) cell 0 + v) 0)) (End Faulted)) (End Faulted) ⌝ }
 {
     let i = cell as usize;
     if i < memory.len() {
@@ -23,7 +23,7 @@ pub fn look(d: usize, cell: u32, table: u32, v: u32, memory: &[u32]) -> Effect
             + PolicyNumbers::EVENTS as usize * (memory[i] as usize)
             + v as usize;
         if at < memory.len() {
-            return Effect::Put(d, memory[at]);
+            return Effect::SetReg(d, memory[at]);
         }
         return Effect::End(Status::Faulted);
     }

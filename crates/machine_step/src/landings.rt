@@ -9,15 +9,15 @@ ghost use mathlib.Core.Bool.{cond};
 ghost use Rattle.types.specs.declared.Status.the-variants.{Strayed};
 ghost use Rattle.types.specs.declared.Effect.the-variants.{Go, End};
 ghost use Rattle.spec.specs.Commands.{holdsOf};
-ghost use Rattle.spec.specs.Machines.{onward, landsAt};
+ghost use Rattle.spec.specs.Machines.{nextPc, isLanding};
 
 const LENGTH: u32 = Bundle::LENGTH as u32;
 
 const MOST: u32 = Bundle::MOST as u32;
 
 // Whether an address is B + 4j and bit j of the landing cells stands.
-pub fn lands(to: u32, base: u32, landings: u32, memory: &[u32]) -> bool
-    ensures { λ r. ⌜ r ≡ landsAt (now (memory .entry)) base landings to ⌝ }
+pub fn is_landing(to: u32, base: u32, landings: u32, memory: &[u32]) -> bool
+    ensures { λ r. ⌜ r ≡ isLanding (now (memory .entry)) base landings to ⌝ }
 {
     if to < base {
         return false;
@@ -48,10 +48,10 @@ pub fn jump(
     landings: u32,
     memory: &[u32],
 ) -> Effect
-    ensures { λ r. ⌜ r ≡ cond (holdsOf c x y) (cond (landsAt (now (memory .entry)) base landings to) (Go to) (End Strayed)) (Go (onward pc)) ⌝ }
+    ensures { λ r. ⌜ r ≡ cond (holdsOf c x y) (cond (isLanding (now (memory .entry)) base landings to) (Go to) (End Strayed)) (Go (nextPc pc)) ⌝ }
 {
     if alu::holds(c, x, y) {
-        if lands(to, base, landings, memory) {
+        if is_landing(to, base, landings, memory) {
             return Effect::Go(to);
         }
         return Effect::End(Status::Strayed);

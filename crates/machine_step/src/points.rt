@@ -3,7 +3,7 @@ use types::Status;
 ghost use mathlib.Core.Path.{_≡_};
 ghost use Prim.Native.Nat.{_+_, _<_, _^_};
 ghost use lib.ListN.{getD};
-ghost use Rattle.spec.specs.Machines.{onward as onwardOf, withPair};
+ghost use Rattle.spec.specs.Machines.{nextPc as nextPcOf, withPair};
 ghost use Rattle.machine_step.specs.points.Points.{pointOf};
 
 // A run's state beside registers, memory and log; of the engine, pc is the instruction's index.
@@ -14,14 +14,14 @@ pub struct Point {
     pub used: usize,
 }
 
-pub fn onward(mut at: Point) -> Point
-    ensures { λ r. ⌜ r ≡ pointOf (onwardOf (at .pc)) (at .status) (at .pairs) (at .used) ⌝ }
+pub fn next_pc(mut at: Point) -> Point
+    ensures { λ r. ⌜ r ≡ pointOf (nextPcOf (at .pc)) (at .status) (at .pairs) (at .used) ⌝ }
 {
     at.pc = std::num::wrapping_add_u32(at.pc, 1);
     at
 }
 
-pub fn landed(mut at: Point, to: u32) -> Point
+pub fn jumped(mut at: Point, to: u32) -> Point
     ensures { λ r. ⌜ r ≡ pointOf to (at .status) (at .pairs) (at .used) ⌝ }
 {
     at.pc = to;
@@ -41,15 +41,15 @@ pub fn ended(at: Point, status: Status) -> Point
 
 pub fn ordered(mut at: Point) -> Point
     requires { ⌜ at .pairs < 2 ^ 62 ⌝ }
-    ensures { λ r. ⌜ r ≡ pointOf (onwardOf (at .pc)) (at .status) (at .pairs + 1) (at .used) ⌝ }
+    ensures { λ r. ⌜ r ≡ pointOf (nextPcOf (at .pc)) (at .status) (at .pairs + 1) (at .used) ⌝ }
 {
     at.pairs += 1;
-    onward(at)
+    next_pc(at)
 }
 
 pub fn probed(mut at: Point) -> Point
     requires { ⌜ (at .pairs < 2 ^ 62) × (at .used < 2 ^ 63) ⌝ }
-    ensures { λ r. ⌜ r ≡ pointOf (onwardOf (at .pc)) (at .status) (at .pairs + 1) (at .used + 1) ⌝ }
+    ensures { λ r. ⌜ r ≡ pointOf (nextPcOf (at .pc)) (at .status) (at .pairs + 1) (at .used + 1) ⌝ }
 {
     at.used += 1;
     ordered(at)
@@ -61,6 +61,6 @@ pub fn read(v: u32, at: Point, readings: &[u32], log: &mut [u32]) -> u32
     ensures { λ r. ⌜ (r ≡ getD (now (readings .entry)) (at .used) 0) × (now (log .exit) ≡ withPair (now (log .entry)) (at .pairs) v (getD (now (readings .entry)) (at .used) 0)) ⌝ }
 {
     let x = buffers::cells::peek(readings, at.used);
-    buffers::pairs::put(log, at.pairs, v, x);
+    buffers::pairs::write_pair(log, at.pairs, v, x);
     x
 }

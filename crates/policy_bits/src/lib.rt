@@ -5,7 +5,7 @@ ghost use Rattle.types.specs.Names.{events};
 ghost use Rattle.policy_spec.specs.maps.Maps.{bit};
 
 // Whether a bit of a map is set.
-pub fn bit_set(map: usize, k: usize) -> bool
+pub fn has_bit(map: usize, k: usize) -> bool
     requires { ⌜ k < events ⌝ }
     ensures { λ r. ⌜ r ≡ bit map k ⌝ }
 {

@@ -14,10 +14,10 @@ use borrow.Author.Tests.{lt-ltb, lt-leb, le-leb}
 use Rattle.types.specs.declared.Refusal.the-variants.{BadDrawing}
 use Rattle.types.specs.Names.{events, mostStates, refusal}
 use Rattle.policy_spec.specs.maps.Maps.{bit}
-use Rattle.policy_spec.specs.declared.reachability.Found.{Found}
+use Rattle.policy_spec.specs.declared.reachability.Worklist.{Worklist}
 use Rattle.policy_spec.specs.declared.reachability.Made.{Made}
 use Rattle.policy_spec.specs.reachability.Reach.{madeWith}
-use Rattle.policy_spec.specs.reachability.Founds.{Explored, writtenOf, writtenTable}
+use Rattle.policy_spec.specs.reachability.Worklists.{Explored, writtenOf, writtenTable}
 use Rattle.policy_spec.proofs.reachability.Explore.{written-made, written-table}
 use Rattle.policy_determinise.specs.Drawings.{Drawing, drawingOf, unionOf, setAfter, mapsRight, drawingRight, determiniseOf, determiniseTable}
 use Rattle.policy_determinise.proofs.Runs.{fit-of, arrows}
@@ -78,7 +78,7 @@ module _ (d : Drawing) (r : Bool) (e : r ≡ drawingRight d) where
   unfolding determiniseOf determiniseTable
   bad-drawing t made f q = rw (← e, f) (q, refl)
 
-  pub makes : (t t′ : List ℕ) (made : Made) (f : Found) → r ≡ true → Explored (setAfter d) (d .starts) f → made ≡ writtenOf f (length t) → t′ ≡ writtenTable f t → Makes t made t′
+  pub makes : (t t′ : List ℕ) (made : Made) (f : Worklist) → r ≡ true → Explored (setAfter d) (d .starts) f → made ≡ writtenOf f (length t) → t′ ≡ writtenTable f t → Makes t made t′
   unfolding determiniseOf determiniseTable
   makes t t′ made f g x p q =
       let ok = arrows d (fit-of d (sym e ∙ g)) in

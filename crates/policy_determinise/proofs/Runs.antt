@@ -19,15 +19,15 @@ use Rattle.policy_spec.proofs.maps.Maps.{bit-or, bit-zero, bit-high}
 use Rattle.policy_spec.specs.reachability.Reach.{nodeAfter}
 use Rattle.policy_spec.specs.reachability.Claims.{Arrows}
 use Rattle.policy_spec.proofs.reachability.Reach.{nodes-exact, taken-reaches, reach-right, allowed-reaches}
-use Rattle.policy_determinise.specs.Drawings.{Drawing, Fit, successors, unionOf, setAfter, mapsRight, drawingRight, madePolicy, determiniseOf, determiniseTable}
-use Rattle.policy_determinise.specs.Claims.{Makes, TakenMakes, MadeRight, Way, ends, goes, Followed, AllowedRuns, SetsAreEnds, SetsExact}
+use Rattle.policy_determinise.specs.Drawings.{Drawing, ValidDrawing, successors, unionOf, setAfter, mapsRight, drawingRight, madePolicy, determiniseOf, determiniseTable}
+use Rattle.policy_determinise.specs.Claims.{Makes, TakenMakes, MadeRight, DrawingPath, ends, goes, Followed, AllowedRuns, SetsAreEnds, SetsExact}
 
 maps-at : (s : ℕ) (ms : List ℕ) (i : ℕ) → 0 < 2 ^ s → mapsRight s ms ≡ true → getD ms i 0 < 2 ^ s
 maps-at s [] i p e = p
 maps-at s (m ∷ ms) zero p e = ltb-true m (2 ^ s) (both (ltb m (2 ^ s)) (mapsRight s ms) e .0)
 maps-at s (m ∷ ms) (suc i) p e = maps-at s ms i p (both (ltb m (2 ^ s)) (mapsRight s ms) e .1)
 
-pub fit-of : (d : Drawing) → drawingRight d ≡ true → Fit d
+pub fit-of : (d : Drawing) → drawingRight d ≡ true → ValidDrawing d
 unfolding drawingRight
 fit-of d t =
     let m = both (statesRight (d .states) && not (eqb (d .starts) 0) && eqb (length (d .arrows)) (events * d .states)) (mapsRight (d .states) (d .starts ∷ d .arrows)) t in
@@ -121,7 +121,7 @@ union-above ms x n (suc k) h = rw (union-above ms x n k h, le-ltb n events h) (g
     go true = refl
     go false = refl
 
-module _ (d : Drawing) (fit : Fit d) where
+module _ (d : Drawing) (fit : ValidDrawing d) where
   pub successors-below : (s n : ℕ) → successors (d .arrows) s n < 2 ^ d .states
   successors-below s n = go (ltb n events)
     where
@@ -149,7 +149,7 @@ module _ (d : Drawing) (fit : Fit d) where
   record From (x : ℕ) (es : List ℕ) (t : ℕ) : Type 0 where
     pub state : ℕ
     pub inside : bit x state ≡ true
-    pub way : Way d state es t
+    pub way : DrawingPath d state es t
 
   way-from : (es : List ℕ) (x t : ℕ) → bit (nodeAfter (setAfter d) x es) t ≡ true → From x es t
   way-from [] x t e = record { state = t; inside = e; way = ends }
@@ -158,7 +158,7 @@ module _ (d : Drawing) (fit : Fit d) where
       let b = union-from (d .arrows) x n (d .states) (f .state) (f .inside) in
       record { state = b .state; inside = b .inside; way = goes (f .state) (b .arrow) (f .way) }
 
-  way-to : (es : List ℕ) (x s t : ℕ) → s < d .states → bit x s ≡ true → Way d s es t → bit (nodeAfter (setAfter d) x es) t ≡ true
+  way-to : (es : List ℕ) (x s t : ℕ) → s < d .states → bit x s ≡ true → DrawingPath d s es t → bit (nodeAfter (setAfter d) x es) t ≡ true
   way-to [] x s t h e ends = e
   way-to (n ∷ es) x s t h e (goes u a w) = way-to es (setAfter d x n) u t (bit-below (successors (d .arrows) s n) (d .states) u (successors-below s n) a) (union-to (d .arrows) x n (d .states) s u h e a) w
 
@@ -173,7 +173,7 @@ sets-are-ends d es t r =
 pub allowed-runs : AllowedRuns
 allowed-runs d es r t = record { follows = follows; allows = allows }
   where
-    fit : Fit d
+    fit : ValidDrawing d
     fit = fit-of d r
 
     set : ℕ

@@ -28,15 +28,15 @@ abbrev pub MadeRight : Type 0
 MadeRight = (d : Drawing) (lay : Layout) → drawingRight d ≡ true → few (setAfter d) (d .starts) ≡ true → lay .states ≡ statesOf (setAfter d) (d .starts) → rightPolicy lay (madePolicy d) ≡ true
 
 -- a way through the drawing from state s to state t that follows a list of events
-pub data Way (d : Drawing) : ℕ → List ℕ → ℕ → Type 0 where
-  ends : {s : ℕ} → Way d s [] s
-  goes : {s n t : ℕ} {es : List ℕ} (u : ℕ) → bit (successors (d .arrows) s n) u ≡ true → Way d u es t → Way d s (n ∷ es) t
+pub data DrawingPath (d : Drawing) : ℕ → List ℕ → ℕ → Type 0 where
+  ends : {s : ℕ} → DrawingPath d s [] s
+  goes : {s n t : ℕ} {es : List ℕ} (u : ℕ) → bit (successors (d .arrows) s n) u ≡ true → DrawingPath d u es t → DrawingPath d s (n ∷ es) t
 
 -- a run that follows a list of events and ends in state t: a way from one of the starts
 pub record DrawnRun (d : Drawing) (es : List ℕ) (t : ℕ) : Type 0 where
   pub from : ℕ
   pub starts : bit (d .starts) from ≡ true
-  pub way : Way d from es t
+  pub way : DrawingPath d from es t
 
 pub record Followed (d : Drawing) (es : List ℕ) : Type 0 where
   pub end : ℕ
@@ -58,7 +58,7 @@ pub record SetLaws (d : Drawing) (es : List ℕ) (t : ℕ) : Type 0 where
 abbrev pub SetsAreEnds : Type 0
 SetsAreEnds = (d : Drawing) (es : List ℕ) (t : ℕ) → drawingRight d ≡ true → SetLaws d es t
 
--- the states are the sets that are reached, each once; 15 is given exactly if there are more than 16
+-- the states are the sets that are reached, each once; refused with 15 (too many states) exactly if there are more than 16
 abbrev pub SetsExact : Type 0
 SetsExact = (d : Drawing) → drawingRight d ≡ true → Exactly (setAfter d) (d .starts)
 

@@ -40,7 +40,7 @@ abbrev pub mapsRight : ℕ → List ℕ → Bool
 mapsRight s [] = true
 mapsRight s (m ∷ ms) = ltb m (2 ^ s) && mapsRight s ms
 
--- what 16 does not refuse: 'no start, a state count outside 1 to 16, the wrong length, or a bit at or above the state count'
+-- what is not refused with 16 (bad drawing): 'no start, a state count outside 1 to 16, the wrong length, or a bit at or above the state count'
 unfoldable pub drawingRight : Drawing → Bool
 drawingRight d = statesRight (d .states) && not (eqb (d .starts) 0) && eqb (length (d .arrows)) (events * d .states) && mapsRight (d .states) (d .starts ∷ d .arrows)
 
@@ -48,8 +48,8 @@ drawingRight d = statesRight (d .states) && not (eqb (d .starts) 0) && eqb (leng
 abbrev pub madePolicy : Drawing → Policy
 madePolicy d = policyFrom (setAfter d) (d .starts)
 
--- what a drawing that 16 does not refuse has
-pub record Fit (d : Drawing) : Type 0 where
+-- what a drawing has that is not refused with 16 (bad drawing)
+pub record ValidDrawing (d : Drawing) : Type 0 where
   pub some-states : 1 ≤ d .states
   pub few-states : d .states ≤ mostStates
   pub starts-some : d .starts ≡ 0 → ⊥

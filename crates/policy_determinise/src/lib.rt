@@ -1,8 +1,8 @@
 // Policies drawn with several arrows: a deterministic policy of the sets of states that events lead to.
 use policy_spec::reachability::EVENTS;
-use policy_spec::reachability::Found;
 use policy_spec::reachability::MOST;
 use policy_spec::reachability::Made;
+use policy_spec::reachability::Worklist;
 use types::Refusal;
 ghost use mathlib.Core.Path.{_≡_};
 ghost use mathlib.Core.Bool.{cond};
@@ -11,15 +11,15 @@ ghost use lib.ListN.{length};
 ghost use lib.Dec.{ltb};
 ghost use Rattle.types.specs.Names.{events, mostStates};
 ghost use Rattle.policy_spec.specs.maps.Maps.{bit};
-ghost use Rattle.policy_spec.specs.reachability.Founds.{Explored};
-ghost use Rattle.policy_determinise.specs.Drawings.{Fit, drawingOf, unionOf, setAfter, mapsRight, drawingRight, determiniseOf, determiniseTable};
+ghost use Rattle.policy_spec.specs.reachability.Worklists.{Explored};
+ghost use Rattle.policy_determinise.specs.Drawings.{ValidDrawing, drawingOf, unionOf, setAfter, mapsRight, drawingRight, determiniseOf, determiniseTable};
 
 // The successors of a state, if it is in the set.
-fn part(x: u16, k: usize, m: u16) -> u16
+fn successors_in(x: u16, k: usize, m: u16) -> u16
     requires { ⌜ k < mostStates ⌝ }
     ensures { λ r. ⌜ r ≡ cond (bit x k) m 0 ⌝ }
 {
-    if policy_bits::bit_set(x as usize, k) {
+    if policy_bits::has_bit(x as usize, k) {
         m
     } else {
         0
@@ -34,14 +34,14 @@ fn next(states: usize, arrows: &[u16], x: u16, n: usize) -> u16
     let mut set: u16 = 0;
     let mut k: usize = 0;
     while k < states {
-        set = set | part(x, k, arrows[EVENTS * k + n]);
+        set = set | successors_in(x, k, arrows[EVENTS * k + n]);
         k += 1;
     }
     set
 }
 
 // Whether a map has no bit at or above the state count.
-fn below(m: u16, states: usize) -> bool
+fn fits_states(m: u16, states: usize) -> bool
     requires { ⌜ states ≤ mostStates ⌝ }
     ensures { λ r. ⌜ r ≡ ltb m (2 ^ states) ⌝ }
 {
@@ -56,14 +56,14 @@ fn maps_right(states: usize, arrows: &[u16]) -> bool
     let mut ok = true;
     let mut i: usize = 0;
     while i < arrows.len() {
-        ok = ok & below(arrows[i], states);
+        ok = ok & fits_states(arrows[i], states);
         i += 1;
     }
     ok
 }
 
-// Whether 16 does not refuse a drawing.
-fn right(states: usize, starts: u16, arrows: &[u16]) -> bool
+// Whether a drawing is not refused with 16 (bad drawing).
+fn drawing_right(states: usize, starts: u16, arrows: &[u16]) -> bool
     ensures { λ r. ⌜ r ≡ drawingRight (drawingOf states starts (now (arrows .entry))) ⌝ }
 {
     if states < 1 {
@@ -74,18 +74,18 @@ fn right(states: usize, starts: u16, arrows: &[u16]) -> bool
     }
     (starts != 0)
         & (arrows.len() == EVENTS * states)
-        & below(starts, states)
+        & fits_states(starts, states)
         & maps_right(states, arrows)
 }
 
 // The sets that events lead to from the starts.
-fn explore(states: usize, starts: u16, arrows: &[u16]) -> Found
-    requires { ⌜ Fit (drawingOf states starts (now arrows)) ⌝ }
+fn explore(states: usize, starts: u16, arrows: &[u16]) -> Worklist
+    requires { ⌜ ValidDrawing (drawingOf states starts (now arrows)) ⌝ }
     ensures { λ r. ⌜ Explored (setAfter (drawingOf states starts (now (arrows .entry)))) starts r ⌝ }
 {
     let mut found = policy_reachability::begin(starts);
     let mut k: usize = 0;
-    while policy_reachability::more(found, k) {
+    while policy_reachability::has_pending(found, k) {
         found = policy_reachability::step(
             found,
             k,
@@ -108,7 +108,7 @@ pub fn determinise(states: u32, starts: u16, arrows: &[u16], table: &mut [u8]) -
     ensures table { λ _. ⌜ now (table .exit) ≡ determiniseTable (drawingOf states starts (now (arrows .entry))) (now (table .entry)) ⌝ }
 {
     let count = states as usize;
-    if !right(count, starts, arrows) {
+    if !drawing_right(count, starts, arrows) {
         return policy_reachability::writing::refused(Refusal::BAD_DRAWING);
     }
     policy_reachability::writing::write(explore(count, starts, arrows), table)

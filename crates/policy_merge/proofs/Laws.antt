@@ -11,10 +11,10 @@ use Rattle.types.specs.Names.{mostStates, events, orders, noArrow, refusal}
 use Rattle.spec.specs.Policies.{Policy, policyOf}
 use Rattle.spec.proofs.Bools as bools
 use Rattle.policy_spec.specs.maps.Maps.{build}
-use Rattle.policy_spec.specs.declared.reachability.Found.{Found}
+use Rattle.policy_spec.specs.declared.reachability.Worklist.{Worklist}
 use Rattle.policy_spec.specs.declared.reachability.Made.{Made}
 use Rattle.policy_spec.specs.reachability.Reach.{madeWith}
-use Rattle.policy_spec.specs.reachability.Founds.{Explored, writtenOf, writtenTable}
+use Rattle.policy_spec.specs.reachability.Worklists.{Explored, writtenOf, writtenTable}
 use Rattle.policy_spec.proofs.reachability.Explore.{written-made, written-table}
 use Rattle.policy_merge.specs.declared.Merged.{Merged}
 use Rattle.policy_merge.specs.Pairs.{pair, left, right, both, pairAfter, startPair, sideRight, smaller, mergeMade, withCeilings, mergeOf, mergeTable}
@@ -92,7 +92,7 @@ module _ (a b : Policy) (x y : Bool) (e : x ≡ sideRight a) (f : y ≡ sideRigh
       let t = side-of b (sym f ∙ r .1) in
       (omega (arith, s .start, s .few-states), omega (arith, t .start, t .few-states))
 
-  pub makes : (t t′ : List ℕ) (made : Made) (q : ℕ) (w : Found) → (x && y) ≡ true → q ≡ startPair a b → Explored (pairAfter (policyOf 0 0 (a .table) []) (policyOf 0 0 (b .table) [])) q w → made ≡ writtenOf w (length t) → t′ ≡ writtenTable w t → Makes t made t′
+  pub makes : (t t′ : List ℕ) (made : Made) (q : ℕ) (w : Worklist) → (x && y) ≡ true → q ≡ startPair a b → Explored (pairAfter (policyOf 0 0 (a .table) []) (policyOf 0 0 (b .table) [])) q w → made ≡ writtenOf w (length t) → t′ ≡ writtenTable w t → Makes t made t′
   unfolding mergeMade mergeTable
   makes t t′ made q w g i ex m n =
       let z : Explored (pairAfter a b) (startPair a b) w = rw (tables-alone a b, i) at ex in

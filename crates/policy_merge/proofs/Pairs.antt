@@ -18,7 +18,7 @@ use Rattle.policy_spec.proofs.reachability.Reach.{nodes-exact, taken-reaches, r
 use Rattle.policy_merge.specs.Pairs.{pair, left, right, both, pairAfter, startPair, sideRight, withCeilings, mergeMade, mergeOf, mergeTable}
 use Rattle.policy_merge.specs.Claims.{Merges, TakenMerges, MergedRight, CeilingsOfBoth, SideInstalls, AllowedByBoth, PairsAreStates, PairsExact}
 
--- what an input that 10 does not refuse has
+-- what an input has that is not refused with 10 (bad policy)
 pub record Side (p : Policy) : Type 0 where
   pub some-states : 1 ≤ p .states
   pub few-states : p .states ≤ mostStates

@@ -1,7 +1,7 @@
 -- Every claim of this crate is proved.
 use Rattle.policy_merge.specs.Proved.{Proved}
 use Rattle.policy_merge.proofs.Pairs.{taken-merges, merged-right, allowed-by-both, pairs-are-states, pairs-exact, ceilings-of-both, side-installs}
-use Rattle.policy_merge.proofs.Swaps.{swap-same}
+use Rattle.policy_merge.proofs.Swaps.{merge-commutes}
 use Rattle.policy_merge.proofs.Samples.{worked}
 
 pub proved : Proved
@@ -14,6 +14,6 @@ proved =
       pairsExact = pairs-exact;
       ceilingsOfBoth = ceilings-of-both;
       sideInstalls = side-installs;
-      swapSame = swap-same;
+      mergeCommutes = merge-commutes;
       worked = worked;
     }

@@ -8,8 +8,8 @@ use lib.ListN.{length, getD, length-map}
 use borrow.Author.Tests.{eqb-true, eqb-false, eq-eqb, ne-eqb}
 use Rattle.types.specs.Names.{mostStates, events, noArrow}
 use Rattle.policy_spec.specs.maps.Maps.{build}
-use Rattle.policy_spec.specs.reachability.Reach.{place, known, meet, target, met, nodes, nodeState, byteOf, statesOf, tableOf}
-use Rattle.policy_spec.proofs.reachability.Places.{Meets, none, again, anew, meets}
+use Rattle.policy_spec.specs.reachability.Reach.{indexOf, known, insert, target, reachedBy, nodes, nodeState, byteOf, statesOf, tableOf}
+use Rattle.policy_spec.proofs.reachability.Places.{Inserts, none, again, anew, inserts}
 
 -- name renames the nodes of f from q, which are all in P, to those of g
 pub record Renames (f g : ℕ → ℕ → ℕ) (q : ℕ) (name : ℕ → ℕ) (P : ℕ → Type 0) : Type 0 where
@@ -39,7 +39,7 @@ module _ (f g : ℕ → ℕ → ℕ) (q : ℕ) (name : ℕ → ℕ) (P : ℕ →
   getD-name (y ∷ ns) zero = refl
   getD-name (y ∷ ns) (suc i) = getD-name ns i
 
-  place-name : (ns : List ℕ) (x : ℕ) → All ns → P x → place (map name ns) (name x) ≡ place ns x
+  place-name : (ns : List ℕ) (x : ℕ) → All ns → P x → indexOf (map name ns) (name x) ≡ indexOf ns x
   place-name [] x a h = refl
   place-name (y ∷ ns) x a h = rw (eqb-name y x (a 0) h, place-name ns x (λ i. a (suc i)) h)
 
@@ -47,16 +47,16 @@ module _ (f g : ℕ → ℕ → ℕ) (q : ℕ) (name : ℕ → ℕ) (P : ℕ →
   map-snoc [] x = refl
   map-snoc (y ∷ ns) x = ap (λ (l : List ℕ). name y ∷ l) (map-snoc ns x)
 
-  meet-name : (ns : List ℕ) (x : ℕ) → All ns → P x → meet (map name ns) (name x) ≡ map name (meet ns x)
-  unfolding meet
-  meet-name ns x a h = rw (eqb-none x h, place-name ns x a h, length-map ns name) (go (eqb x 0 || known ns x))
+  insert-name : (ns : List ℕ) (x : ℕ) → All ns → P x → insert (map name ns) (name x) ≡ map name (insert ns x)
+  unfolding insert
+  insert-name ns x a h = rw (eqb-none x h, place-name ns x a h, length-map ns name) (go (eqb x 0 || known ns x))
     where
       go : (b : Bool) → cond b (map name ns) (map name ns ++ (name x ∷ [])) ≡ map name (cond b ns (ns ++ (x ∷ [])))
       go true = refl
       go false = map-snoc ns x
 
-  meet-in : (ns : List ℕ) (x : ℕ) → All ns → P x → All (meet ns x)
-  meet-in ns x a h = go (meet ns x) (meets ns x)
+  insert-in : (ns : List ℕ) (x : ℕ) → All ns → P x → All (insert ns x)
+  insert-in ns x a h = go (insert ns x) (inserts ns x)
     where
       snoc : (l : List ℕ) → All l → All (l ++ (x ∷ []))
       snoc [] b zero = h
@@ -64,7 +64,7 @@ module _ (f g : ℕ → ℕ → ℕ) (q : ℕ) (name : ℕ → ℕ) (P : ℕ →
       snoc (y ∷ l) b zero = b 0
       snoc (y ∷ l) b (suc i) = snoc l (λ j. b (suc j)) i
 
-      go : (l : List ℕ) → Meets ns x l → All l
+      go : (l : List ℕ) → Inserts ns x l → All l
       go l (none e) = a
       go l (again k) = a
       go l (anew z k) = snoc ns a
@@ -72,30 +72,30 @@ module _ (f g : ℕ → ℕ → ℕ) (q : ℕ) (name : ℕ → ℕ) (P : ℕ →
   target-name : (ns : List ℕ) (k : ℕ) → All ns → target g (map name ns) k ≡ name (target f ns k)
   target-name ns k a = ap (λ (x : ℕ). g x (k % events)) (getD-name ns (k / events)) ∙ re .steps (getD ns (k / events) 0) (k % events) (a (k / events))
 
-  met-in : (k : ℕ) → All (met f q k)
-  unfolding met
-  met-in zero zero = re .start-in
-  met-in zero (suc i) = re .zero-in
-  met-in (suc k) i = meet-in (met f q k) (target f (met f q k) k) (met-in k) (re .next-in (getD (met f q k) (k / events) 0) (k % events) (met-in k (k / events))) i
+  reached-in : (k : ℕ) → All (reachedBy f q k)
+  unfolding reachedBy
+  reached-in zero zero = re .start-in
+  reached-in zero (suc i) = re .zero-in
+  reached-in (suc k) i = insert-in (reachedBy f q k) (target f (reachedBy f q k) k) (reached-in k) (re .next-in (getD (reachedBy f q k) (k / events) 0) (k % events) (reached-in k (k / events))) i
 
-  pub met-name : (k : ℕ) → met g (name q) k ≡ map name (met f q k)
-  unfolding met
-  met-name zero = refl
-  met-name (suc k) =
-      ap (λ (ns : List ℕ). meet ns (target g ns k)) (met-name k)
-      ∙ ap (meet (map name (met f q k))) (target-name (met f q k) k (met-in k))
-      ∙ meet-name (met f q k) (target f (met f q k) k) (met-in k) (re .next-in (getD (met f q k) (k / events) 0) (k % events) (met-in k (k / events)))
+  pub reached-name : (k : ℕ) → reachedBy g (name q) k ≡ map name (reachedBy f q k)
+  unfolding reachedBy
+  reached-name zero = refl
+  reached-name (suc k) =
+      ap (λ (ns : List ℕ). insert ns (target g ns k)) (reached-name k)
+      ∙ ap (insert (map name (reachedBy f q k))) (target-name (reachedBy f q k) k (reached-in k))
+      ∙ insert-name (reachedBy f q k) (target f (reachedBy f q k) k) (reached-in k) (re .next-in (getD (reachedBy f q k) (k / events) 0) (k % events) (reached-in k (k / events)))
 
   pub states-name : statesOf g (name q) ≡ statesOf f q
-  states-name = ap length (met-name (events * mostStates)) ∙ length-map (nodes f q) name
+  states-name = ap length (reached-name (events * mostStates)) ∙ length-map (nodes f q) name
 
   entry-name : (k : ℕ) → byteOf g (nodes g (name q)) k ≡ byteOf f (nodes f q) k
   entry-name k =
       let ns = nodes f q in
-      let a = met-in (events * mostStates) in
+      let a = reached-in (events * mostStates) in
       let x = target f ns k in
       let h : P x = re .next-in (getD ns (k / events) 0) (k % events) (a (k / events)) in
-      ap (λ (l : List ℕ). byteOf g l k) (met-name (events * mostStates))
+      ap (λ (l : List ℕ). byteOf g l k) (reached-name (events * mostStates))
       ∙ ap (nodeState (map name ns)) (target-name ns k a)
       ∙ ap₂ (λ (b : Bool) (p : ℕ). cond b noArrow p) (eqb-none x h) (place-name ns x a h)
 

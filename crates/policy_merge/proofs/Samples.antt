@@ -1,10 +1,10 @@
 -- The worked samples, by computation.
 use mathlib.Core.Path.{refl}
 use Rattle.policy_spec.specs.maps.Maps.{build}
-use Rattle.policy_spec.specs.reachability.Reach.{meet, met, tableOf, reachAnswer, reachOf}
+use Rattle.policy_spec.specs.reachability.Reach.{insert, reachedBy, tableOf, reachAnswer, reachOf}
 use Rattle.policy_merge.specs.Pairs.{both, pairAfter, sideRight, mergeMade, withCeilings, mergeOf}
 use Rattle.policy_merge.specs.Claims.{Worked}
 
 pub worked : Worked
-unfolding build meet met tableOf reachAnswer reachOf both pairAfter sideRight mergeMade withCeilings mergeOf
+unfolding build insert reachedBy tableOf reachAnswer reachOf both pairAfter sideRight mergeMade withCeilings mergeOf
 worked = record { pairs = refl; rows = refl; small = refl; many = refl; same = refl; bad = refl; bad-start = refl }

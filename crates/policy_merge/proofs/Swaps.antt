@@ -14,7 +14,7 @@ use Rattle.policy_spec.specs.maps.Maps.{build}
 use Rattle.policy_spec.specs.reachability.Reach.{statesOf, tableOf, reachAnswer, reachOf, reachTable}
 use Rattle.policy_merge.proofs.Rename.{Renames, states-name, table-name}
 use Rattle.policy_merge.specs.Pairs.{pair, left, right, both, pairAfter, startPair, sideRight, smaller, mergeMade, mergeOf, mergeTable}
-use Rattle.policy_merge.specs.Claims.{Swapped, SwapSame}
+use Rattle.policy_merge.specs.Claims.{Swapped, MergeCommutes}
 use Rattle.policy_merge.proofs.Pairs.{Side, side-of, arrow-below, Both, neither, arrows, boths, both-pair, pair-after}
 
 -- the node of the pair the other way round
@@ -121,9 +121,9 @@ smaller-swap c d = ap (λ (f : ℕ → ℕ). build f orders) (fun-ext (λ i. lea
     least : (x y : ℕ) → min x y ≡ min y x
     least x y = omega arith
 
-pub swap-same : SwapSame
+pub merge-commutes : MergeCommutes
 unfolding mergeMade mergeOf mergeTable reachAnswer reachOf reachTable
-swap-same a c b d table = go (sideRight a) refl (sideRight b) refl
+merge-commutes a c b d table = go (sideRight a) refl (sideRight b) refl
   where
     go : (x : Bool) → sideRight a ≡ x → (y : Bool) → sideRight b ≡ y → Swapped a c b d table
     go true e true f =

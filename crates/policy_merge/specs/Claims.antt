@@ -25,7 +25,7 @@ pub record Merges (a : Policy) (c : List ℕ) (b : Policy) (d table : List ℕ) 
 abbrev pub TakenMerges : Type 0
 TakenMerges = (a : Policy) (c : List ℕ) (b : Policy) (d table : List ℕ) → mergeOf a c b d (length table) .answer .number ≡ 0 → Merges a c b d table
 
--- two inputs that 10 does not refuse
+-- two inputs that are not refused with 10 (bad policy)
 abbrev pub Right : Policy → Policy → Type 0
 Right a b = (sideRight a && sideRight b) ≡ true
 
@@ -43,7 +43,7 @@ PairsAreStates =
     (a b : Policy) (es : List ℕ) → Right a b →
     nodeAfter (pairAfter a b) (startPair a b) es ≡ cond (allowed a es && allowed b es) (pair (stateOver a es) (stateOver b es)) 0
 
--- the states are the pairs that are reached, each once; 15 is given exactly if there are more than 16
+-- the states are the pairs that are reached, each once; refused with 15 (too many states) exactly if there are more than 16
 abbrev pub PairsExact : Type 0
 PairsExact = (a b : Policy) → Right a b → Exactly (pairAfter a b) (startPair a b)
 
@@ -51,7 +51,7 @@ PairsExact = (a b : Policy) → Right a b → Exactly (pairAfter a b) (startPair
 abbrev pub CeilingsOfBoth : Type 0
 CeilingsOfBoth = (c d : List ℕ) (i v : ℕ) → i < orders → min v (getD (smaller c d) i 0) ≡ min (min v (getD c i 0)) (getD d i 0)
 
--- 10 refuses an input as installing it does under a layout with as many states
+-- an input is refused with 10 (bad policy) as by installing under a layout with as many states
 abbrev pub SideInstalls : Type 0
 SideInstalls = (p : Policy) (lay : Layout) → lay .states ≡ p .states → sideRight p ≡ (statesRight (p .states) && rightPolicy lay p)
 
@@ -60,8 +60,8 @@ pub record Swapped (a : Policy) (c : List ℕ) (b : Policy) (d table : List ℕ)
   pub merged : mergeOf a c b d (length table) ≡ mergeOf b d a c (length table)
   pub leaves : mergeTable a b table ≡ mergeTable b a table
 
-abbrev pub SwapSame : Type 0
-SwapSame = (a : Policy) (c : List ℕ) (b : Policy) (d table : List ℕ) → Swapped a c b d table
+abbrev pub MergeCommutes : Type 0
+MergeCommutes = (a : Policy) (c : List ℕ) (b : Policy) (d table : List ℕ) → Swapped a c b d table
 
 -- a row with arrows for events 0 and 1 only
 abbrev pub row : ℕ → ℕ → List ℕ

@@ -42,7 +42,7 @@ pairAfter a b x n = cond (eqb x 0) 0 (both (arrow a (left x) n) (arrow b (right 
 abbrev pub startPair : Policy → Policy → ℕ
 startPair a b = pair (a .start) (b .start)
 
--- what 10 does not refuse of one input: 'a state count outside 1 to 16 included'
+-- what is not refused of one input with 10 (bad policy): 'a state count outside 1 to 16 included'
 unfoldable pub sideRight : Policy → Bool
 sideRight p = statesRight (p .states) && eqb (length (p .table)) (events * p .states) && ltb (p .start) (p .states) && entriesRight (p .states) (p .table)
 

@@ -1,5 +1,5 @@
 -- Every claim of this crate, a field each: its one term is `proved`, in proofs/Proved.antt.
-use Rattle.policy_merge.specs.Claims.{TakenMerges, MergedRight, AllowedByBoth, PairsAreStates, PairsExact, CeilingsOfBoth, SideInstalls, SwapSame, Worked}
+use Rattle.policy_merge.specs.Claims.{TakenMerges, MergedRight, AllowedByBoth, PairsAreStates, PairsExact, CeilingsOfBoth, SideInstalls, MergeCommutes, Worked}
 
 pub record Proved : Type 0 where
   pub takenMerges : TakenMerges
@@ -9,5 +9,5 @@ pub record Proved : Type 0 where
   pub pairsExact : PairsExact
   pub ceilingsOfBoth : CeilingsOfBoth
   pub sideInstalls : SideInstalls
-  pub swapSame : SwapSame
+  pub mergeCommutes : MergeCommutes
   pub worked : Worked

@@ -1,9 +1,9 @@
 // Two policies at once: the policy of the pairs of states that events lead to. A pair is held as 16 × s + t + 1, no pair as 0.
 use buffers::cells::index_of;
 use policy_spec::reachability::EVENTS;
-use policy_spec::reachability::Found;
 use policy_spec::reachability::MOST;
 use policy_spec::reachability::Made;
+use policy_spec::reachability::Worklist;
 use types::Answer;
 use types::PolicyNumbers;
 use types::Refusal;
@@ -11,7 +11,7 @@ ghost use mathlib.Core.Path.{_≡_};
 ghost use Prim.Native.Nat.{_+_, _*_, _^_, _<_, min};
 ghost use lib.ListN.{length, getD};
 ghost use Rattle.types.specs.Names.{events, noArrow};
-ghost use Rattle.policy_spec.specs.reachability.Founds.{Explored};
+ghost use Rattle.policy_spec.specs.reachability.Worklists.{Explored};
 ghost use Rattle.policy_merge.specs.Pairs.{sideOf, arrowsOf, pair as pairOf, both as bothOf, pairAfter, sideRight, smaller as smallerOf, mergeMade, withCeilings, mergeOf, mergeTable};
 
 // The mark of no arrow.
@@ -33,7 +33,7 @@ pub struct Merged {
     pub ceilings: [u32; ORDERS],
 }
 
-// Whether 10 does not refuse a policy.
+// Whether a policy is not refused with 10 (bad policy).
 fn side_right(policy: PolicyNumbers, table: &[u8]) -> bool
     ensures { λ r. ⌜ r ≡ sideRight (sideOf policy (now (table .entry))) ⌝ }
 {
@@ -91,13 +91,13 @@ fn next(left: &[u8], right: &[u8], x: u16, n: usize) -> u16
 }
 
 // The pairs that events lead to from a pair.
-fn explore(left: &[u8], right: &[u8], start: u16) -> Found
+fn explore(left: &[u8], right: &[u8], start: u16) -> Worklist
     requires { ⌜ 0 < start ⌝ }
     ensures { λ r. ⌜ Explored (pairAfter (arrowsOf (now (left .entry))) (arrowsOf (now (right .entry)))) start r ⌝ }
 {
     let mut found = policy_reachability::begin(start);
     let mut k: usize = 0;
-    while policy_reachability::more(found, k) {
+    while policy_reachability::has_pending(found, k) {
         found = policy_reachability::step(
             found,
             k,
@@ -160,7 +160,7 @@ fn made_of(a: PolicyNumbers, left: &[u8], b: PolicyNumbers, right: &[u8], table:
     policy_reachability::writing::write(explore(left, right, start), table)
 }
 
-// Merges two policies, `left` the table of one and `right` that of the other: the table from the start of the one lent, the state count
+// Merges two policies, `left` the table of one and `pairs_right` that of the other: the table from the start of the one lent, the state count
 // and start, and the ceilings.
 pub fn merge(one: Side, left: &[u8], other: Side, right: &[u8], table: &mut [u8]) -> Merged
     ensures merged { λ r. ⌜ r ≡ mergeOf (sideOf (one .policy) (now (left .entry))) (one .ceilings) (sideOf (other .policy) (now (right .entry))) (other .ceilings) (length (now (table .entry))) ⌝ }

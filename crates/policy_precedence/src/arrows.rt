@@ -6,10 +6,10 @@ ghost use Prim.Native.Nat.{_-_, _^_, _≤_, _<_};
 ghost use lib.Bits.{bitAnd};
 ghost use lib.Count.{ones};
 ghost use Rattle.types.specs.Names.{events};
-ghost use Rattle.policy_spec.specs.precedence.Precedence.{Fit, pairsIn, statesOf, firstsIn, arrowOf};
+ghost use Rattle.policy_spec.specs.precedence.Precedence.{ValidPairs, pairsIn, statesOf, firstsIn, arrowOf};
 
 // The bit of an event in a state: how many named events are smaller.
-fn place(names: usize, e: usize) -> usize
+fn bit_index(names: usize, e: usize) -> usize
     requires { ⌜ e < events ⌝ }
     ensures { λ r. ⌜ (r ≡ ones (bitAnd names (2 ^ e - 1))) × (r ≤ e) ⌝ }
 {
@@ -18,7 +18,7 @@ fn place(names: usize, e: usize) -> usize
 
 // Whether all firsts of an event are recorded in a state.
 fn firsts_recorded(names: usize, pairs: &[u8], s: usize, e: usize) -> bool
-    requires { ⌜ Fit (now pairs) names ⌝ }
+    requires { ⌜ ValidPairs (now pairs) names ⌝ }
     ensures { λ r. ⌜ r ≡ firstsIn (now (pairs .entry)) s e (pairsIn (now (pairs .entry))) ⌝ }
 {
     let mut ok = true;
@@ -26,7 +26,7 @@ fn firsts_recorded(names: usize, pairs: &[u8], s: usize, e: usize) -> bool
     while i < pairs.len() / 2 {
         ok = ok
             & ((index_of(pairs[2 * i + 1]) != e)
-                | policy_bits::bit_set(s, place(names, index_of(pairs[2 * i]))));
+                | policy_bits::has_bit(s, bit_index(names, index_of(pairs[2 * i]))));
         i += 1;
     }
     ok
@@ -34,14 +34,14 @@ fn firsts_recorded(names: usize, pairs: &[u8], s: usize, e: usize) -> bool
 
 // The state after an event in a state, or no arrow.
 pub fn arrow(names: usize, pairs: &[u8], s: usize, e: usize) -> usize
-    requires { ⌜ Fit (now pairs) names × (s < statesOf (now pairs)) × (e < events) ⌝ }
+    requires { ⌜ ValidPairs (now pairs) names × (s < statesOf (now pairs)) × (e < events) ⌝ }
     ensures { λ r. ⌜ (r ≡ arrowOf (now (pairs .entry)) s e) × (r < 256) ⌝ }
 {
-    if !policy_bits::bit_set(names, e) {
+    if !policy_bits::has_bit(names, e) {
         return s;
     }
     if firsts_recorded(names, pairs, s, e) {
-        s | (1 << place(names, e))
+        s | (1 << bit_index(names, e))
     } else {
         NO_ARROW
     }

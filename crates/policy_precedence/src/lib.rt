@@ -3,8 +3,8 @@ pub mod arrows;
 pub mod nevers;
 
 use crate::arrows::arrow;
-use crate::nevers::full;
-use crate::nevers::stuck_all;
+use crate::nevers::blocked_events;
+use crate::nevers::fixpoint;
 use buffers::cells::index_of;
 use policy_spec::precedence::EVENTS;
 use policy_spec::precedence::MOST_NAMED;
@@ -20,7 +20,7 @@ ghost use lib.Dec.{eqb};
 ghost use lib.Count.{ones};
 ghost use Rattle.types.specs.Names.{events, answer};
 ghost use Rattle.policy_spec.specs.maps.Maps.{mapWhere, build};
-ghost use Rattle.policy_spec.specs.precedence.Precedence.{Fit, isNamed, known, mostNamed, pairsRight, statesOf, byteOf, tableBytes, neverOf, madeWith, makeOf, makeTable};
+ghost use Rattle.policy_spec.specs.precedence.Precedence.{ValidPairs, isNamed, known, mostNamed, pairsRight, statesOf, byteOf, tableBytes, unreachableEvents, madeWith, makeOf, makeTable};
 
 // Whether no event of the pairs is above 15.
 fn events_known(pairs: &[u8]) -> bool
@@ -36,20 +36,20 @@ fn events_known(pairs: &[u8]) -> bool
 }
 
 // The map of one event; of no event if it is above 15.
-fn one(e: usize) -> usize
+fn event_bit(e: usize) -> usize
     ensures { λ r. ⌜ r ≡ mapWhere (eqb e) events ⌝ }
 {
     if e < EVENTS { 1 << e } else { 0 }
 }
 
 // The map of the events that the pairs name.
-fn names(pairs: &[u8]) -> usize
+fn named_events(pairs: &[u8]) -> usize
     ensures { λ r. ⌜ r ≡ mapWhere (isNamed (now (pairs .entry))) events ⌝ }
 {
     let mut map: usize = 0;
     let mut i: usize = 0;
     while i < pairs.len() {
-        map = map | one(index_of(pairs[i]));
+        map = map | event_bit(index_of(pairs[i]));
         i += 1;
     }
     map
@@ -57,7 +57,7 @@ fn names(pairs: &[u8]) -> usize
 
 // The table of as many bytes as the states have entries, from the table's start.
 fn fill(names: usize, pairs: &[u8], table: &mut [u8], bytes: usize)
-    requires { ⌜ Fit (now pairs) names × (bytes ≡ tableBytes (now pairs)) × (bytes ≤ length (now table)) ⌝ }
+    requires { ⌜ ValidPairs (now pairs) names × (bytes ≡ tableBytes (now pairs)) × (bytes ≤ length (now table)) ⌝ }
     ensures { λ _. ⌜ now (table .exit) ≡ build (byteOf (now (pairs .entry))) bytes ++ drop bytes (now (table .entry)) ⌝ }
 {
     let mut i: usize = 0;
@@ -67,8 +67,8 @@ fn fill(names: usize, pairs: &[u8], table: &mut [u8], bytes: usize)
     }
 }
 
-// Whether 17 does not refuse the pairs.
-fn right(names: usize, pairs: &[u8]) -> bool
+// Whether the pairs are not refused with 17 (bad pair).
+fn pairs_right(names: usize, pairs: &[u8]) -> bool
     requires { ⌜ names ≡ mapWhere (isNamed (now pairs)) events ⌝ }
     ensures { λ r. ⌜ r ≡ pairsRight (now (pairs .entry)) ⌝ }
 {
@@ -92,22 +92,22 @@ fn refused(number: u8) -> Made
             states: 0,
             start: 0,
         },
-        never: 0,
+        unreachable: 0,
     }
 }
 
 fn taken(names: usize, pairs: &[u8], states: usize, bytes: usize) -> Made
-    requires { ⌜ Fit (now pairs) names × (states ≡ statesOf (now pairs)) ⌝ }
-    ensures { λ r. ⌜ r ≡ madeWith (answer 0 bytes) (statesOf (now (pairs .entry))) (neverOf (now (pairs .entry))) ⌝ }
+    requires { ⌜ ValidPairs (now pairs) names × (states ≡ statesOf (now pairs)) ⌝ }
+    ensures { λ r. ⌜ r ≡ madeWith (answer 0 bytes) (statesOf (now (pairs .entry))) (unreachableEvents (now (pairs .entry))) ⌝ }
 {
-    let never = stuck_all(names, pairs, full(names, pairs));
+    let unreachable = blocked_events(names, pairs, fixpoint(names, pairs));
     Made {
         answer: Answer::taken(bytes),
         policy: PolicyNumbers {
             states: states as u32,
             start: 0,
         },
-        never: never as u16,
+        unreachable: unreachable as u16,
     }
 }
 
@@ -117,8 +117,8 @@ pub fn make(pairs: &[u8], table: &mut [u8]) -> Made
     ensures made { λ r. ⌜ r ≡ makeOf (now (pairs .entry)) (length (now (table .entry))) ⌝ }
     ensures table { λ _. ⌜ now (table .exit) ≡ makeTable (now (pairs .entry)) (now (table .entry)) ⌝ }
 {
-    let map = names(pairs);
-    if !right(map, pairs) {
+    let map = named_events(pairs);
+    if !pairs_right(map, pairs) {
         return refused(Refusal::BAD_PAIR);
     }
     let states = states(map);

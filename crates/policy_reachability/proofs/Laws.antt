@@ -7,13 +7,13 @@ use lib.ListN.{length, getD, take, drop, set}
 use lib.Seq.{drop-cons, length-take-le, getD-take, drop-length}
 use borrow.Author.Tests.{eq-eqb, ne-eqb, lt-ltb, le-ltb}
 use Rattle.types.specs.Names.{noArrow}
-use Rattle.policy_spec.specs.reachability.Reach.{place}
-use Rattle.policy_spec.specs.declared.reachability.Found.{Found}
-use Rattle.policy_spec.specs.reachability.Founds.{Sized, listOf, foundWith}
+use Rattle.policy_spec.specs.reachability.Reach.{indexOf}
+use Rattle.policy_spec.specs.declared.reachability.Worklist.{Worklist}
+use Rattle.policy_spec.specs.reachability.Worklists.{Sized, nodesOf, insertTarget}
 
 -- the place of a number, of which the first i are not it
 abbrev pub Sought : List ℕ → ℕ → ℕ → Type 0
-Sought l x i = i + place (drop i l) x ≡ place l x
+Sought l x i = i + indexOf (drop i l) x ≡ indexOf l x
 
 pub sought-none : (l : List ℕ) (x : ℕ) → Sought l x 0
 sought-none l x = omega arith
@@ -22,41 +22,41 @@ module _ (ns : List ℕ) (n x i : ℕ) (size : n ≤ length ns) (so : Sought (ta
   head : i < n → drop i (take n ns) ≡ getD ns i 0 ∷ drop (suc i) (take n ns)
   head h = drop-cons (take n ns) i 0 (omega (arith, length-take-le n ns size)) ∙ ap (λ (y : ℕ). y ∷ drop (suc i) (take n ns)) (getD-take n ns i 0 h)
 
-  pub sought-here : i < n → getD ns i 0 ≡ x → i ≡ place (take n ns) x
+  pub sought-here : i < n → getD ns i 0 ≡ x → i ≡ indexOf (take n ns) x
   sought-here h e =
-      let p : place (drop i (take n ns)) x ≡ 0 = rw (head h, eq-eqb (getD ns i 0) x e) in
+      let p : indexOf (drop i (take n ns)) x ≡ 0 = rw (head h, eq-eqb (getD ns i 0) x e) in
       omega (arith, so)
 
   pub sought-on : i < n → (getD ns i 0 ≡ x → ⊥) → Sought (take n ns) x (i + 1)
   sought-on h e =
       let n₁ : i + 1 ≡ suc i = omega arith in
-      let p : place (drop i (take n ns)) x ≡ suc (place (drop (suc i) (take n ns)) x) = rw (head h, ne-eqb (getD ns i 0) x e) in
+      let p : indexOf (drop i (take n ns)) x ≡ suc (indexOf (drop (suc i) (take n ns)) x) = rw (head h, ne-eqb (getD ns i 0) x e) in
       rw n₁ (omega (arith, so))
 
-  pub sought-end : n ≤ i → i ≤ n → n ≡ place (take n ns) x
+  pub sought-end : n ≤ i → i ≤ n → n ≡ indexOf (take n ns) x
   sought-end h k =
       let l : length (take n ns) ≡ i = length-take-le n ns size ∙ omega arith in
-      let p : place (drop i (take n ns)) x ≡ 0 = ap (λ (j : ℕ). place (drop j (take n ns)) x) (sym l) ∙ ap (λ (y : List ℕ). place y x) (drop-length (take n ns)) in
+      let p : indexOf (drop i (take n ns)) x ≡ 0 = ap (λ (j : ℕ). indexOf (drop j (take n ns)) x) (sym l) ∙ ap (λ (y : List ℕ). indexOf y x) (drop-length (take n ns)) in
       omega (arith, so)
 
 -- ---- steps
 
 -- what is found, with an arrow's number
-abbrev pub numbered : Found → ℕ → ℕ → Found
+abbrev pub numbered : Worklist → ℕ → ℕ → Worklist
 numbered f k p = record { nodes = f .nodes; count = f .count; arrows = set (f .arrows) k p }
 
-pub step-none : (f : Found) (k x : ℕ) → x ≡ 0 → numbered f k noArrow ≡ foundWith f k x
-unfolding foundWith
+pub step-none : (f : Worklist) (k x : ℕ) → x ≡ 0 → numbered f k noArrow ≡ insertTarget f k x
+unfolding insertTarget
 step-none f k x e = rw e
 
-module _ (f : Found) (k x p : ℕ) (sized : Sized f) (z : x ≡ 0 → ⊥) (e : p ≡ place (listOf f) x) where
-  size : length (listOf f) ≡ f .count
+module _ (f : Worklist) (k x p : ℕ) (sized : Sized f) (z : x ≡ 0 → ⊥) (e : p ≡ indexOf (nodesOf f) x) where
+  size : length (nodesOf f) ≡ f .count
   size = length-take-le (f .count) (f .nodes) (omega (arith, sized .most, sized .nodes))
 
-  pub step-known : p < f .count → numbered f k p ≡ foundWith f k x
-  unfolding foundWith
-  step-known h = rw (ne-eqb x 0 z, lt-ltb (place (listOf f) x) (length (listOf f)) (omega (arith, size, e)), e)
+  pub step-known : p < f .count → numbered f k p ≡ insertTarget f k x
+  unfolding insertTarget
+  step-known h = rw (ne-eqb x 0 z, lt-ltb (indexOf (nodesOf f) x) (length (nodesOf f)) (omega (arith, size, e)), e)
 
-  pub step-new : f .count ≤ p → record { nodes = set (f .nodes) (f .count) x; count = f .count + 1; arrows = set (f .arrows) k p } ≡ foundWith f k x
-  unfolding foundWith
-  step-new h = rw (ne-eqb x 0 z, le-ltb (place (listOf f) x) (length (listOf f)) (omega (arith, size, e)), e)
+  pub step-new : f .count ≤ p → record { nodes = set (f .nodes) (f .count) x; count = f .count + 1; arrows = set (f .arrows) k p } ≡ insertTarget f k x
+  unfolding insertTarget
+  step-new h = rw (ne-eqb x 0 z, le-ltb (indexOf (nodesOf f) x) (length (nodesOf f)) (omega (arith, size, e)), e)

@@ -3,24 +3,24 @@ pub mod writing;
 
 use policy_spec::reachability::ARROWS;
 use policy_spec::reachability::EVENTS;
-use policy_spec::reachability::Found;
 use policy_spec::reachability::MOST;
 use policy_spec::reachability::NODES;
+use policy_spec::reachability::Worklist;
 use types::PolicyNumbers;
 ghost use mathlib.Core.Path.{_≡_};
 ghost use Prim.Native.Nat.{_+_, _*_, _/_, _≤_, _<_};
 ghost use lib.ListN.{length, getD, take};
 ghost use Rattle.types.specs.Names.{events, mostStates};
-ghost use Rattle.policy_spec.specs.reachability.Reach.{place as placeOf};
-ghost use Rattle.policy_spec.specs.reachability.Founds.{Sized, foundAt, foundWith, moreOf};
+ghost use Rattle.policy_spec.specs.reachability.Reach.{indexOf as placeOf};
+ghost use Rattle.policy_spec.specs.reachability.Worklists.{Sized, initialWorklist, insertTarget, hasPending};
 
-// The start alone.
-pub fn begin(start: u16) -> Found
-    ensures { λ r. ⌜ r ≡ foundAt start ⌝ }
+// The initial worklist: the initial worklist: the start alone.
+pub fn begin(start: u16) -> Worklist
+    ensures { λ r. ⌜ r ≡ initialWorklist start ⌝ }
 {
     let mut nodes: [u16; NODES] = [0; NODES];
     nodes[0] = start;
-    Found {
+    Worklist {
         nodes,
         count: 1,
         arrows: [0; ARROWS],
@@ -28,15 +28,15 @@ pub fn begin(start: u16) -> Found
 }
 
 // Whether arrow k is one of a node that was found, and these are not too many.
-pub fn more(f: Found, k: usize) -> bool
+pub fn has_pending(f: Worklist, k: usize) -> bool
     requires { ⌜ Sized f ⌝ }
-    ensures { λ r. ⌜ r ≡ moreOf f k ⌝ }
+    ensures { λ r. ⌜ r ≡ hasPending f k ⌝ }
 {
     (k < EVENTS * f.count) & (f.count <= MOST)
 }
 
 // The node of arrow k.
-pub fn node(f: Found, k: usize) -> u16
+pub fn node(f: Worklist, k: usize) -> u16
     requires { ⌜ k < events * mostStates ⌝ }
     ensures { λ r. ⌜ r ≡ getD (f .nodes) (k / events) 0 ⌝ }
 {
@@ -45,7 +45,7 @@ pub fn node(f: Found, k: usize) -> u16
 }
 
 // The place of a node among the first n; n if it is not among them.
-fn place(nodes: &[u16; NODES], n: usize, x: u16) -> usize
+fn index_of_node(nodes: &[u16; NODES], n: usize, x: u16) -> usize
     requires { ⌜ (n ≤ mostStates + 1) × (n ≤ length (now nodes)) ⌝ }
     ensures { λ r. ⌜ (r ≡ placeOf (take n (now (nodes .entry))) x) × (r ≤ n) ⌝ }
 {
@@ -59,10 +59,10 @@ fn place(nodes: &[u16; NODES], n: usize, x: u16) -> usize
     n
 }
 
-// What is found when arrow k leads to x.
-pub fn step(f: Found, k: usize, x: u16) -> Found
+// The worklist after arrow k, which leads to x.
+pub fn step(f: Worklist, k: usize, x: u16) -> Worklist
     requires { ⌜ Sized f × (f .count ≤ mostStates) × (k < events * mostStates) ⌝ }
-    ensures { λ r. ⌜ r ≡ foundWith f k x ⌝ }
+    ensures { λ r. ⌜ r ≡ insertTarget f k x ⌝ }
 {
     let mut g = f;
     if x == 0 {
@@ -71,7 +71,7 @@ pub fn step(f: Found, k: usize, x: u16) -> Found
     }
     let n = f.count;
     let nodes = f.nodes;
-    let p = place(&nodes, n, x);
+    let p = index_of_node(&nodes, n, x);
     g.arrows[k] = p as u8;
     if p < n {
         return g;

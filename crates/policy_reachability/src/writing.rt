@@ -1,9 +1,9 @@
 // The policy of the nodes found, written: its numbers and its table, or a refusal.
 use policy_spec::reachability::ARROWS;
 use policy_spec::reachability::EVENTS;
-use policy_spec::reachability::Found;
 use policy_spec::reachability::MOST;
 use policy_spec::reachability::Made;
+use policy_spec::reachability::Worklist;
 use types::Answer;
 use types::PolicyNumbers;
 use types::Refusal;
@@ -13,7 +13,7 @@ ghost use Prim.Native.Nat.{_*_, _≤_};
 ghost use lib.ListN.{length, take, drop};
 ghost use Rattle.types.specs.Names.{events, mostStates, answer};
 ghost use Rattle.policy_spec.specs.reachability.Reach.{madeWith};
-ghost use Rattle.policy_spec.specs.reachability.Founds.{Sized, writtenOf, writtenTable};
+ghost use Rattle.policy_spec.specs.reachability.Worklists.{Sized, writtenOf, writtenTable};
 
 // A refusal: all else is 0.
 pub fn refused(number: u8) -> Made
@@ -41,7 +41,7 @@ fn copy(from: &[u8; ARROWS], to: &mut [u8], n: usize)
 }
 
 // Writes the policy of the nodes found: its table from the start of the one lent.
-pub fn write(f: Found, table: &mut [u8]) -> Made
+pub fn write(f: Worklist, table: &mut [u8]) -> Made
     requires { ⌜ Sized f ⌝ }
     ensures made { λ r. ⌜ r ≡ writtenOf f (length (now (table .entry))) ⌝ }
     ensures table { λ _. ⌜ now (table .exit) ≡ writtenTable f (now (table .entry)) ⌝ }

@@ -1,6 +1,6 @@
 pub mod Laws
 pub mod Policies
 pub mod Orders
-pub mod Nevers
+pub mod Unreachable
 pub mod Samples
 pub mod Proved

@@ -16,5 +16,5 @@ pub const NO_ARROW: usize = PolicyNumbers::NO_ARROW as usize;
 pub struct Made {
     pub answer: Answer,
     pub policy: PolicyNumbers,
-    pub never: u16,
+    pub unreachable: u16,
 }

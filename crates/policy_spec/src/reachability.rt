@@ -15,8 +15,8 @@ pub const NODES: usize = MOST + 1;
 
 pub const ARROWS: usize = EVENTS * MOST;
 
-// The nodes found, with one place for the node that is too many, how many they are, and the numbers of those to which the arrows lead.
-pub struct Found {
+// The worklist: the nodes reached, with one place for the node that is too many, how many they are, and the numbers of those to which the arrows lead.
+pub struct Worklist {
     pub nodes: [u16; NODES],
     pub count: usize,
     pub arrows: [u8; ARROWS],

@@ -14,8 +14,8 @@ use Rattle.types.specs.declared.Instr.the-variants.{HALT, PLAIN, LOAD, STORE, G
 use Rattle.types.specs.declared.Answer.{Answer}
 use Rattle.types.specs.Names.{mostInstructions}
 use Rattle.spec.specs.Layouts.{rightLayout}
-use Rattle.spec.specs.Words.{judgeAt, routine, bundlesFor}
-use Rattle.spec.specs.Bundles.{bundlesFrom, baseRight, commandCount, commandsOf, placeAnswer, rewriteAnswer, rewriteOutput, valid}
+use Rattle.spec.specs.Words.{refusalAt, routine, bundlesFor}
+use Rattle.spec.specs.Bundles.{bundlesFrom, baseRight, commandCount, commandsOf, baseRoomAnswer, rewriteAnswer, rewriteOutput, valid}
 use Rattle.spec.proofs.Facts.{Valid}
 use Rattle.spec.proofs.Bools.{cond-ind, unless-ind}
 use Rattle.spec.proofs.Refusals.{taken-then, output-kept, output-written}
@@ -41,11 +41,11 @@ module _ (l : Layout) (ws : List ℕ) (room : ℕ) where
   Roomy a = a .number ≡ 0 → commandCount (length ws) ≤ room
 
   roomy : Roomy (rewriteAnswer l ws room)
-  unfolding rewriteAnswer placeAnswer
+  unfolding rewriteAnswer baseRoomAnswer
   roomy =
       unless-ind Roomy (rightLayout l) (λ _ z. absurd (omega arith))
       (λ _. cond-ind Roomy (ltb mostInstructions (length ws)) (λ _ z. absurd (omega arith))
-      (λ _. taken-then (judgeAt (length ws)) (λ _. commandCount (length ws) ≤ room) ws 0 (placeAnswer l (length ws) room)
+      (λ _. taken-then (refusalAt (length ws)) (λ _. commandCount (length ws) ≤ room) ws 0 (baseRoomAnswer l (length ws) room)
       (unless-ind Roomy (baseRight l (bundlesFor (length ws))) (λ _ z. absurd (omega arith))
       (λ _. cond-ind Roomy (ltb room (commandCount (length ws))) (λ _ z. absurd (omega arith)) (λ e _. ltb-false _ _ e)))))
 

@@ -1,8 +1,8 @@
-// Rewriting a routine's words into bundles of commands: one pass judges, one writes.
+// Rewriting a routine's words into bundles of commands: one pass validates, one writes.
 pub mod answers;
 pub mod bundles;
 
-use crate::answers::judge;
+use crate::answers::rewrite_answer;
 use crate::bundles::bundle;
 use types::Answer;
 use types::Bundle;
@@ -31,7 +31,7 @@ fn instruction_at(words: &[u64], h: usize) -> Instr
     Instr::HALT
 }
 
-fn put(commands: &mut [u64], at: usize, w: u64, x: u64, y: u64, z: u64)
+fn write_words(commands: &mut [u64], at: usize, w: u64, x: u64, y: u64, z: u64)
     requires { ⌜ at + bundleLength ≤ length (now commands) ⌝ }
     ensures { λ _. ⌜ now (commands .exit) ≡ sets (now (commands .entry)) at (w ∷ x ∷ y ∷ z ∷ []) ⌝ }
 {
@@ -42,13 +42,13 @@ fn put(commands: &mut [u64], at: usize, w: u64, x: u64, y: u64, z: u64)
 }
 
 // Bundle h of n.
-fn put_bundle(layout: Layout, n: usize, words: &[u64], h: usize, commands: &mut [u64])
+fn write_bundle(layout: Layout, n: usize, words: &[u64], h: usize, commands: &mut [u64])
     requires { ⌜ Ready layout n (now words) (length (now commands)) × (h < n) ⌝ }
     ensures { λ _. ⌜ now (commands .exit) ≡ sets (now (commands .entry)) (bundleLength * h) (bundleOf layout n (routine (now (words .entry)) h) .words) ⌝ }
 {
     let made = bundle(layout, n, instruction_at(words, h));
     let four = made.words;
-    put(
+    write_words(
         commands,
         Bundle::LENGTH * h,
         four[0],
@@ -58,14 +58,14 @@ fn put_bundle(layout: Layout, n: usize, words: &[u64], h: usize, commands: &mut 
     );
 }
 
-// The bundles of a routine that was judged.
+// The bundles of a routine that was validated.
 fn fill(layout: Layout, n: usize, words: &[u64], commands: &mut [u64])
     requires { ⌜ Ready layout n (now words) (length (now commands)) ⌝ }
     ensures { λ _. ⌜ now (commands .exit) ≡ sets (now (commands .entry)) 0 (bundlesFrom layout n (routine (now (words .entry))) 0 n) ⌝ }
 {
     let mut h: usize = 0;
     while h < n {
-        put_bundle(layout, n, words, h, commands);
+        write_bundle(layout, n, words, h, commands);
         h += 1;
     }
 }
@@ -74,7 +74,7 @@ pub fn rewrite(layout: Layout, words: &[u64], commands: &mut [u64]) -> Answer
     ensures answer { λ r. ⌜ r ≡ rewriteAnswer layout (now (words .entry)) (length (now (commands .entry))) ⌝ }
     ensures content { λ _. ⌜ now (commands .exit) ≡ rewriteOutput layout (now (words .entry)) (now (commands .entry)) ⌝ }
 {
-    let answer = judge(layout, words, commands.len());
+    let answer = rewrite_answer(layout, words, commands.len());
     let refused = answer.number;
     if refused == Refusal::TAKEN {
         fill(layout, bundles(words.len() as u32), words, commands);

@@ -14,43 +14,43 @@ use Rattle.spec.specs.Policies.{rightPolicy}
 use Rattle.spec.specs.Landings.{rightLandings, bitsFrom, landingsOf}
 use Rattle.spec.specs.Words.{instrOf, routine, bundlesFor}
 use Rattle.spec.specs.Commands.{isCommand, commandOf, wordOf, fetchOf, plainOf}
-use Rattle.spec.specs.Bundles.{shapeOf, valid, readOff, bundleAt, isBundle, shapedAt, passesAt, checkFrom, checkAnswer}
+use Rattle.spec.specs.Bundles.{shapeOf, valid, decodeBundle, bundleAt, isBundle, shapedAt, passesAt, checkFrom, checkAnswer}
 use Rattle.spec.specs.Machines.{installAnswer, installMemory, installMachine, effectOf, applyOf, runOf, loopFrom}
-use Rattle.spec.specs.Guests.{pairOf, Guest, guestOf, sentOf, doOf, guestStep, guestAfter, guestStart}
-use Rattle.spec.specs.Runs.{Each, eachRun, afterAll, begins, runOn, afterTaken, afterRun, Matches, Served, allRuns}
-use Rattle.spec.specs.Claims.{Alike, Same}
+use Rattle.spec.specs.Guests.{pairOf, Guest, guestOf, execEvent, execInstr, guestStep, guestAfter, guestStart}
+use Rattle.spec.specs.Runs.{Pairwise, eachRun, afterAll, begins, runOn, afterTaken, afterRun, LowEqual, HostPremise, allRuns}
+use Rattle.spec.specs.Claims.{SameInputs, SameObservations}
 use Rattle.samples.specs.Sample.{layout, policy, code, commands, memory, left, runs, SampleHolds}
 use Rattle.spec.proofs.Bools.{no}
 use Rattle.spec.proofs.Isolation.{isolation}
 
 -- a store to a free cell
-pub free-set : (mem : List ℕ) (i x : ℕ) → (inBox layout i || protected layout i) ≡ false → Matches layout (set mem i x) mem
+pub free-set : (mem : List ℕ) (i x : ℕ) → (inBox layout i || protected layout i) ≡ false → LowEqual layout (set mem i x) mem
 free-set mem i x f j s = getD-set-other mem i j x 0 (λ e. no (sym f ∙ ap (λ (k : ℕ). inBox layout k || protected layout k) (sym e) ∙ s))
 
 passed : checkAnswer layout commands .number ≡ 0
-unfolding ones leadingZeros rightLayout instrOf routine bundlesFor wordOf shapeOf valid readOff bundleAt isBundle shapedAt passesAt checkFrom checkAnswer
+unfolding ones leadingZeros rightLayout instrOf routine bundlesFor wordOf shapeOf valid decodeBundle bundleAt isBundle shapedAt passesAt checkFrom checkAnswer
 passed = refl
 
-served-with : (x : ℕ) → Served layout policy commands (memory x) (runs x)
+premise-with : (x : ℕ) → HostPremise layout policy commands (memory x) (runs x)
 unfolding ones rightLayout rightPolicy rightLandings installAnswer inBox inTable inLandings protected afterRun eachRun
-served-with x =
+premise-with x =
     record {
       passed = passed;
       installed = refl;
-      lends = (λ l i s. refl, (λ l. absurd (let z : _≡_ {A = ℕ} 0 1024 = l in omega arith), (λ l. free-set (left x) 600 x refl, tt)));
+      preserved = (λ l i s. refl, (λ l. absurd (let z : _≡_ {A = ℕ} 0 1024 = l in omega arith), (λ l. free-set (left x) 600 x refl, tt)));
     }
 
 installed-with : (x : ℕ) → installMemory layout policy (memory x) ≡ set (installMemory layout policy (memory 0)) 700 x
 unfolding ones rightLayout rightPolicy rightLandings bitsFrom landingsOf installAnswer installMemory
 installed-with x = refl
 
-alike-in : (x y : ℕ) → Matches layout (installMemory layout policy (memory x)) (installMemory layout policy (memory y))
+alike-in : (x y : ℕ) → LowEqual layout (installMemory layout policy (memory x)) (installMemory layout policy (memory y))
 unfolding inBox inTable inLandings protected
 alike-in x y =
     let mem = installMemory layout policy (memory 0) in
     rw (installed-with x, installed-with y) (λ i s. free-set mem 700 x refl i s ∙ sym (free-set mem 700 y refl i s))
 
-given-alike : (x y : ℕ) → Each Alike (runs x) (runs y)
+given-alike : (x y : ℕ) → Pairwise SameInputs (runs x) (runs y)
 unfolding ones leadingZeros rightLayout rightPolicy rightLandings bitsFrom landingsOf instrOf routine bundlesFor wordOf shapeOf isCommand commandOf fetchOf plainOf installAnswer installMemory installMachine effectOf applyOf loopFrom runOf runOn afterTaken afterRun
 given-alike x y = (
   record { readings = refl; budget = refl; log = refl; memory = refl },
@@ -60,12 +60,12 @@ given-alike x y = (
   ),
 )
 
-same-with : (x y : ℕ) → Each (Same layout) (allRuns layout policy commands (memory x) (runs x)) (allRuns layout policy commands (memory y) (runs y))
-same-with x y = isolation layout policy commands (memory x) (runs x) (served-with x) .alone policy (memory y) (runs y) (served-with y) (alike-in x y) (given-alike x y)
+same-with : (x y : ℕ) → Pairwise (SameObservations layout) (allRuns layout policy commands (memory x) (runs x)) (allRuns layout policy commands (memory y) (runs y))
+same-with x y = isolation layout policy commands (memory x) (runs x) (premise-with x) .noninterference policy (memory y) (runs y) (premise-with y) (alike-in x y) (given-alike x y)
 
 -- the guest, instruction by instruction
 guest-with : (x : ℕ) → guestAfter layout policy 8 (routine code) [] (guestStart layout policy (installMemory layout policy (memory x))) 4 .records ≡ pairOf 0 70 ∷ pairOf 2 70 ∷ []
-unfolding guestAfter guestStep doOf sentOf plainOf instrOf routine
+unfolding guestAfter guestStep execInstr execEvent plainOf instrOf routine
 guest-with x =
     let g = guestStart layout policy (installMemory layout policy (memory x)) in
     let step : Guest → Guest = guestStep layout policy 8 (routine code) [] in
@@ -77,10 +77,10 @@ guest-with x =
     ap (λ (y : Guest). y .records) four
 
 pub sample-holds : SampleHolds
-unfolding ones leadingZeros rightLayout rightPolicy rightLandings bitsFrom landingsOf instrOf routine bundlesFor wordOf shapeOf readOff bundleAt isCommand commandOf fetchOf plainOf installAnswer installMemory installMachine effectOf applyOf loopFrom runOf begins runOn afterTaken afterRun afterAll eachRun
+unfolding ones leadingZeros rightLayout rightPolicy rightLandings bitsFrom landingsOf instrOf routine bundlesFor wordOf shapeOf decodeBundle bundleAt isCommand commandOf fetchOf plainOf installAnswer installMemory installMachine effectOf applyOf loopFrom runOf begins runOn afterTaken afterRun afterAll eachRun
 sample-holds =
     record {
-      served = served-with;
+      premise = premise-with;
       matches = alike-in;
       alike = given-alike;
       same = same-with;
@@ -90,7 +90,7 @@ sample-holds =
       begun = λ x. refl;
       guest = guest-with;
       paused = λ x. refl;
-      pausedServed = λ x. record { passed = passed; installed = refl; lends = (λ l i s. refl, tt) };
+      pausedPremise = λ x. record { passed = passed; installed = refl; preserved = (λ l i s. refl, tt) };
       waiting = λ x. record { running = refl; event = 0; third = refl };
       waitingBegun = λ x. refl;
       late = λ x. refl;

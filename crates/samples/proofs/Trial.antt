@@ -4,17 +4,17 @@ use lib.Count.{ones, leadingZeros}
 use Rattle.spec.specs.Layouts.{rightLayout}
 use Rattle.spec.specs.Policies.{rightPolicy}
 use Rattle.spec.specs.Landings.{rightLandings, landingsOf}
-use Rattle.spec.specs.Words.{judgeOf, judgeAt, firstRefused, instrOf, routine, bundlesFor}
-use Rattle.spec.specs.Bytes.{byteAt, quadAt, fieldsAt, oneFields, oneMap, oneOf, scanOf, wordsOf, readAnswer}
+use Rattle.spec.specs.Words.{fieldsRefusal, refusalAt, firstRefused, instrOf, routine, bundlesFor}
+use Rattle.spec.specs.Bytes.{byteAt, quadAt, fieldsAt, decodeFields, decodeMap, decodeOne, scanOf, wordsOf, readAnswer}
 use Rattle.spec.specs.Commands.{isCommand, commandOf, wordOf, fetchOf, plainOf}
-use Rattle.spec.specs.Bundles.{shapeOf, placeAnswer, rewriteAnswer, valid, readOff, bundleAt, isBundle, shapedAt, passesAt, checkFrom, checkAnswer}
+use Rattle.spec.specs.Bundles.{shapeOf, baseRoomAnswer, rewriteAnswer, valid, decodeBundle, bundleAt, isBundle, shapedAt, passesAt, checkFrom, checkAnswer}
 use Rattle.spec.specs.Machines.{installAnswer, installMemory, installMachine, effectOf, applyOf, runOf, loopFrom}
 use Rattle.spec.specs.Runs.{runOn, eachRun}
 use Rattle.sandbox_spec.specs.Loading.{translateAnswer, loadAnswer, loadCommands, loadMemory, loadMachine}
 use Rattle.samples.specs.Trial.{TrialHolds}
 
 pub trial-holds : TrialHolds
-unfolding ones leadingZeros rightLayout rightPolicy rightLandings landingsOf judgeOf judgeAt firstRefused instrOf routine bundlesFor byteAt quadAt fieldsAt oneFields oneMap oneOf scanOf wordsOf readAnswer isCommand commandOf wordOf fetchOf plainOf shapeOf placeAnswer rewriteAnswer valid readOff bundleAt isBundle shapedAt passesAt checkFrom checkAnswer installAnswer installMemory installMachine effectOf applyOf loopFrom runOf runOn translateAnswer loadAnswer loadCommands loadMemory loadMachine eachRun
+unfolding ones leadingZeros rightLayout rightPolicy rightLandings landingsOf fieldsRefusal refusalAt firstRefused instrOf routine bundlesFor byteAt quadAt fieldsAt decodeFields decodeMap decodeOne scanOf wordsOf readAnswer isCommand commandOf wordOf fetchOf plainOf shapeOf baseRoomAnswer rewriteAnswer valid decodeBundle bundleAt isBundle shapedAt passesAt checkFrom checkAnswer installAnswer installMemory installMachine effectOf applyOf loopFrom runOf runOn translateAnswer loadAnswer loadCommands loadMemory loadMachine eachRun
 trial-holds =
     record {
       answers = refl;
@@ -22,5 +22,5 @@ trial-holds =
       ending = refl;
       steps = refl;
       state = refl;
-      lends = (λ l i s. refl, tt);
+      preserved = (λ l i s. refl, tt);
     }

@@ -15,8 +15,8 @@ use Rattle.spec.specs.Words.{packOf, routine}
 use Rattle.spec.specs.Bundles.{commandsOf}
 use Rattle.spec.specs.Machines.{installMemory}
 use Rattle.spec.specs.Guests.{pairOf, guestAfter, guestStart}
-use Rattle.spec.specs.Runs.{Given, Each, atFirst, afterRun, Run, recordedIn, Matches, Served, allRuns, after, pendingAt}
-use Rattle.spec.specs.Claims.{Alike, Same, Waiting}
+use Rattle.spec.specs.Runs.{RunInput, Pairwise, initialSession, afterRun, Run, recordedIn, LowEqual, HostPremise, allRuns, after, pendingAt}
+use Rattle.spec.specs.Claims.{SameInputs, SameObservations, Waiting}
 use Rattle.samples.specs.Tray.{noLimits}
 
 abbrev pub layout : Layout
@@ -42,47 +42,47 @@ abbrev pub memory : ℕ → List ℕ
 memory x = set (replicate 1024 0) 700 x
 
 -- a lent memory, a budget, and what the log held
-abbrev pub given : List ℕ → ℕ → ℕ → Given
-given mem budget old = record { memory = mem; budget = budget; readings = 1800 ∷ 1950 ∷ 2100 ∷ []; log = replicate 64 old }
+abbrev pub runInput : List ℕ → ℕ → ℕ → RunInput
+runInput mem budget old = record { memory = mem; budget = budget; readings = 1800 ∷ 1950 ∷ 2100 ∷ []; log = replicate 64 old }
 
 -- six steps; a memory too short; a thousand steps, before which the host wrote x to the free cell 600
-abbrev pub firstRun : ℕ → Given
-firstRun x = given (installMemory layout policy (memory x)) 6 x
+abbrev pub firstRun : ℕ → RunInput
+firstRun x = runInput (installMemory layout policy (memory x)) 6 x
 
 abbrev pub left : ℕ → List ℕ
-left x = afterRun layout commands (atFirst layout policy (memory x)) (firstRun x) .memory
+left x = afterRun layout commands (initialSession layout policy (memory x)) (firstRun x) .memory
 
-abbrev pub lastRun : ℕ → Given
-lastRun x = given (set (left x) 600 x) 1000 x
+abbrev pub lastRun : ℕ → RunInput
+lastRun x = runInput (set (left x) 600 x) 1000 x
 
-abbrev pub runs : ℕ → List Given
-runs x = firstRun x ∷ given [] 6 x ∷ lastRun x ∷ []
+abbrev pub runs : ℕ → List RunInput
+runs x = firstRun x ∷ runInput [] 6 x ∷ lastRun x ∷ []
 
 -- a run without a log, and one of eleven steps, which ends between EVENT and KEEP of the door's event
-abbrev pub pausedRun : ℕ → Given
+abbrev pub pausedRun : ℕ → RunInput
 pausedRun x = record { memory = installMemory layout policy (memory x); budget = 1000; readings = []; log = [] }
 
-abbrev pub lateRun : ℕ → Given
-lateRun x = given (installMemory layout policy (memory x)) 11 x
+abbrev pub lateRun : ℕ → RunInput
+lateRun x = runInput (installMemory layout policy (memory x)) 11 x
 
 abbrev pub answersIn : List (Run Outcome) → List RunAnswer
-answersIn rs = map (λ r. r .ran .outcome .answer) rs
+answersIn rs = map (λ r. r .result .outcome .answer) rs
 
 -- whatever x and y free cells and logs held, the runs are on the premises of Isolation and of its (d);
 -- fourteen steps in all, and the last run stops where gas has no arrow, after four bundles, with the guest's records.
 -- Without a log the first event is waited for; after eleven steps the door's is recorded, and the state cell is behind by it
 pub record SampleHolds : Type 0 where
-  pub served : (x : ℕ) → Served layout policy commands (memory x) (runs x)
-  pub matches : (x y : ℕ) → Matches layout (installMemory layout policy (memory x)) (installMemory layout policy (memory y))
-  pub alike : (x y : ℕ) → Each Alike (runs x) (runs y)
-  pub same : (x y : ℕ) → Each (Same layout) (allRuns layout policy commands (memory x) (runs x)) (allRuns layout policy commands (memory y) (runs y))
+  pub premise : (x : ℕ) → HostPremise layout policy commands (memory x) (runs x)
+  pub matches : (x y : ℕ) → LowEqual layout (installMemory layout policy (memory x)) (installMemory layout policy (memory y))
+  pub alike : (x y : ℕ) → Pairwise SameInputs (runs x) (runs y)
+  pub same : (x y : ℕ) → Pairwise (SameObservations layout) (allRuns layout policy commands (memory x) (runs x)) (allRuns layout policy commands (memory y) (runs y))
   pub answers : (x : ℕ) → answersIn (allRuns layout policy commands (memory x) (runs x)) ≡ runAnswer Spent 6 0 0 ∷ runAnswer Refused 0 0 0 ∷ runAnswer NoArrow 8 2 0 ∷ []
   pub recorded : (x : ℕ) → recordedIn (allRuns layout policy commands (memory x) (runs x)) ≡ pairOf 0 70 ∷ pairOf 2 70 ∷ []
   pub state : (x : ℕ) → getD (after layout policy commands (memory x) (runs x) .memory) (layout .cell) 0 ≡ 1
   pub begun : (x : ℕ) → after layout policy commands (memory x) (runs x) .begun ≡ 4
   pub guest : (x : ℕ) → guestAfter layout policy 8 (routine code) [] (guestStart layout policy (installMemory layout policy (memory x))) 4 .records ≡ pairOf 0 70 ∷ pairOf 2 70 ∷ []
   pub paused : (x : ℕ) → answersIn (allRuns layout policy commands (memory x) (pausedRun x ∷ [])) ≡ runAnswer LogFull 6 0 0 ∷ []
-  pub pausedServed : (x : ℕ) → Served layout policy commands (memory x) (pausedRun x ∷ [])
+  pub pausedPremise : (x : ℕ) → HostPremise layout policy commands (memory x) (pausedRun x ∷ [])
   pub waiting : (x : ℕ) → Waiting layout commands (after layout policy commands (memory x) (pausedRun x ∷ []) .machine)
   pub waitingBegun : (x : ℕ) → after layout policy commands (memory x) (pausedRun x ∷ []) .begun ≡ 2
   pub late : (x : ℕ) → answersIn (allRuns layout policy commands (memory x) (lateRun x ∷ [])) ≡ runAnswer Spent 11 2 0 ∷ []

@@ -5,9 +5,9 @@ use mathlib.Core.List.{List, [], _∷_}
 use lib.ListN.{getD, take, replicate}
 use Rattle.types.specs.Names.{mostBundles, mostCommands, answer, endingNumber}
 use Rattle.spec.specs.Policies.{Policy, policyOf}
-use Rattle.spec.specs.Machines.{Ran}
+use Rattle.spec.specs.Machines.{RunResult}
 use Rattle.spec.specs.Guests.{pairOf}
-use Rattle.spec.specs.Runs.{Given, pairsOf, Lends, runOn}
+use Rattle.spec.specs.Runs.{RunInput, pairsOf, MemoriesPreserved, runOn}
 use Rattle.sandbox_spec.specs.Loading.{loadAnswer, loadCommands, loadMemory}
 use Rattle.sandbox_spec.specs.Claims.{loadedAt}
 use Rattle.samples.specs.Sample.{layout, policy as samplePolicy}
@@ -36,8 +36,8 @@ commands =
     take (loadAnswer layout policy input mostCommands memory .place) (loadCommands layout policy input (replicate mostCommands 0) memory)
 
 -- 'readings 1800, 1950, 2100; log 64 cells; budget 1,000'
-abbrev pub given : Given
-given =
+abbrev pub runInput : RunInput
+runInput =
     record {
       memory = loadMemory layout policy input mostCommands memory;
       budget = 1000;
@@ -45,14 +45,14 @@ given =
       log = replicate 64 0;
     }
 
-abbrev pub ran : Ran
-ran = runOn layout commands (loadedAt layout policy input mostCommands memory) given
+abbrev pub runResult : RunResult
+runResult = runOn layout commands (loadedAt layout policy input mostCommands memory) runInput
 
 -- what is printed of it: 'answer 0; event 0 70; event 2 70; end 21 steps 14 state 1'; and the run is on the premises of Loads
 pub record TrialHolds : Type 0 where
   pub answers : loadAnswer layout policy input mostCommands memory ≡ answer 0 32
-  pub events : pairsOf (ran .log) (ran .outcome .answer .pairs) ≡ pairOf 0 70 ∷ pairOf 2 70 ∷ []
-  pub ending : endingNumber (ran .outcome .answer .ending) ≡ 21
-  pub steps : ran .outcome .answer .steps ≡ 14
-  pub state : getD (ran .mem) (layout .cell) 0 ≡ 1
-  pub lends : Lends layout commands (loadedAt layout policy input mostCommands memory) (given ∷ [])
+  pub events : pairsOf (runResult .log) (runResult .outcome .answer .pairs) ≡ pairOf 0 70 ∷ pairOf 2 70 ∷ []
+  pub ending : endingNumber (runResult .outcome .answer .ending) ≡ 21
+  pub steps : runResult .outcome .answer .steps ≡ 14
+  pub state : getD (runResult .mem) (layout .cell) 0 ≡ 1
+  pub preserved : MemoriesPreserved layout commands (loadedAt layout policy input mostCommands memory) (runInput ∷ [])

@@ -13,7 +13,7 @@ use Rattle.spec.specs.Policies.{Policy}
 use Rattle.spec.specs.Bytes.{wordsIn, readAnswer}
 use Rattle.spec.specs.Bundles.{commandsOf, commandCount, rewriteAnswer, checkAnswer}
 use Rattle.spec.specs.Machines.{installAnswer}
-use Rattle.spec.specs.Runs.{Carried, atFirst, Lends}
+use Rattle.spec.specs.Runs.{Session, initialSession, MemoriesPreserved}
 use Rattle.spec.proofs.Refusals.{else-next, else-none, output-start}
 use Rattle.spec.proofs.Counts.{Bounded, or-else, read-bound, rewrite-bound, rewrite-taken, check-bound, install-bound, length-commands}
 use Rattle.spec.proofs.Isolation.{isolation}
@@ -44,7 +44,7 @@ module _ (lay : Layout) (pol : Policy) (bytes : List ℕ) (room : ℕ) (mem : Li
         whole = else-next a _ (t .0) ∙ else-next _ a (i .0) ∙ else-next _ _ (r .0) ∙ else-next _ _ (w .0) ∙ else-next _ _ (c .0);
       }
 
-  first : loadedAt lay pol bytes room mem ≡ atFirst lay pol mem
+  first : loadedAt lay pol bytes room mem ≡ initialSession lay pol mem
   unfolding loadMachine loadMemory
   first = rw (eq-eqb _ _ z)
 
@@ -70,7 +70,7 @@ loads lay pol bytes out mem z =
       first = f;
       isolated =
           λ gs l.
-          isolation lay pol ws mem gs (record { passed = passed; installed = p .installed; lends = subst (λ (x : Carried). Lends lay ws x gs) f l });
+          isolation lay pol ws mem gs (record { passed = passed; installed = p .installed; preserved = subst (λ (x : Session). MemoriesPreserved lay ws x gs) f l });
     }
 
 -- the number fits a byte, and the place is at most the commands that there can be

@@ -8,13 +8,13 @@ use Rattle.spec.specs.Policies.{Policy}
 use Rattle.spec.specs.Bytes.{wordsIn}
 use Rattle.spec.specs.Bundles.{commandsOf, rewriteAnswer, checkAnswer}
 use Rattle.spec.specs.Machines.{installAnswer}
-use Rattle.spec.specs.Runs.{Given, Carried, carriedOf, atFirst, Lends}
+use Rattle.spec.specs.Runs.{RunInput, Session, sessionOf, initialSession, MemoriesPreserved}
 use Rattle.spec.specs.Claims.{Isolated}
 use Rattle.sandbox_spec.specs.Loading.{loadAnswer, loadCommands, loadMemory, loadMachine}
 
--- what is carried into the first run after a load
-abbrev pub loadedAt : Layout → Policy → List ℕ → ℕ → List ℕ → Carried
-loadedAt lay pol bytes room mem = carriedOf (loadMachine lay pol bytes room mem) (loadMemory lay pol bytes room mem) [] [] 0
+-- the session before the first run after a load
+abbrev pub loadedAt : Layout → Policy → List ℕ → ℕ → List ℕ → Session
+loadedAt lay pol bytes room mem = sessionOf (loadMachine lay pol bytes room mem) (loadMemory lay pol bytes room mem) [] [] 0
 
 -- what a load that answers 0 leaves is on demand 3's premise: its commands, the first that the answer counts, are those that the rewriter gives
 -- and the checker passes; record and memory are an installation's. So every list of runs from there is isolated, if each is lent, but for free cells,
@@ -24,8 +24,8 @@ pub record Loaded (lay : Layout) (pol : Policy) (bytes out mem ws : List ℕ) : 
   pub commands : ws ≡ commandsOf lay (wordsIn bytes)
   pub passed : checkAnswer lay ws .number ≡ 0
   pub installed : installAnswer lay pol mem .number ≡ 0
-  pub first : loadedAt lay pol bytes (length out) mem ≡ atFirst lay pol mem
-  pub isolated : (gs : List Given) → Lends lay ws (loadedAt lay pol bytes (length out) mem) gs → Isolated lay pol ws mem gs
+  pub first : loadedAt lay pol bytes (length out) mem ≡ initialSession lay pol mem
+  pub isolated : (gs : List RunInput) → MemoriesPreserved lay ws (loadedAt lay pol bytes (length out) mem) gs → Isolated lay pol ws mem gs
 
 abbrev pub Loads : Type 0
 Loads =

@@ -9,38 +9,38 @@ use lib.Dec.{ltb, eqb}
 use borrow.Author.Tests.{le-ltb, lt-ltb, eq-eqb, ne-eqb, eqb-true, eqb-false, ltb-false}
 use Rattle.types.specs.declared.Fields.{Fields}
 use Rattle.types.specs.declared.Answer.{Answer}
-use Rattle.types.specs.declared.One.{One}
-use Rattle.types.specs.declared.One.the-variants.{Word, RefusedWith}
+use Rattle.types.specs.declared.Decoded.{Decoded}
+use Rattle.types.specs.declared.Decoded.the-variants.{Word, RefusedWith}
 use Rattle.types.specs.declared.Refusal.the-variants.{Short, Foreign, Oversize, SmallOutput}
 use Rattle.types.specs.Names.{mostInstructions, numberOf, refusal, roomFor}
-use Rattle.spec.specs.Words.{judgeOf, judgeWord, firstRefused, packFields}
-use Rattle.spec.specs.Bytes.{bitOf, mapOf, sizeOf, fieldsAt, oneFields, oneMap, oneOf, thenAnswer, scanOf, thenWords, wordsOf, countOf, wordsIn, readAnswer}
+use Rattle.spec.specs.Words.{fieldsRefusal, wordRefusal, firstRefused, packFields}
+use Rattle.spec.specs.Bytes.{bitOf, mapOf, sizeOf, fieldsAt, decodeFields, decodeMap, decodeOne, thenAnswer, scanOf, thenWords, wordsOf, countOf, wordsIn, readAnswer}
 use Rattle.spec.specs.Bytes.{byteOut, quadOut, regsOut, fieldsOut, bytesOf, routineOf, writeAnswer}
 use Rattle.spec.proofs.Bools.{cond-ind}
 use Rattle.spec.proofs.Refusals.{TakesEach, takes-each, none-refused, taken-then}
 
 -- ---- one instruction read
 
-pub one-none : (s : List ℕ) → length s ≡ 0 → RefusedWith (numberOf Short) ≡ oneOf s
-unfolding oneOf
+pub one-none : (s : List ℕ) → length s ≡ 0 → RefusedWith (numberOf Short) ≡ decodeOne s
+unfolding decodeOne
 one-none s h = simp (eq-eqb _ _ h)
 
 module _ (s : List ℕ) (m : ℕ) (e : m ≡ getD s 0 0) (h : (length s ≡ 0 → ⊥)) where
-  one-map : oneMap m s ≡ oneOf s
-  unfolding oneOf
+  one-map : decodeMap m s ≡ decodeOne s
+  unfolding decodeOne
   one-map = simp (ne-eqb _ _ h, ← e)
 
-  pub one-large : 63 < m → RefusedWith (numberOf Foreign) ≡ oneOf s
-  unfolding oneMap
+  pub one-large : 63 < m → RefusedWith (numberOf Foreign) ≡ decodeOne s
+  unfolding decodeMap
   one-large g = simp (lt-ltb _ _ g) at one-map
 
-  pub one-short : (u : ℕ) → u ≡ sizeOf m → m ≤ 63 → length s < u → RefusedWith (numberOf Short) ≡ oneOf s
-  unfolding oneMap
+  pub one-short : (u : ℕ) → u ≡ sizeOf m → m ≤ 63 → length s < u → RefusedWith (numberOf Short) ≡ decodeOne s
+  unfolding decodeMap
   one-short u eu g l = simp (le-ltb 63 m g, ← eu, lt-ltb _ _ l) at one-map
 
   pub one-fields : (f : Fields) → f ≡ fieldsAt m s → (u : ℕ) → u ≡ sizeOf m → m ≤ 63 → u ≤ length s
-      → (r : One) → r ≡ oneFields m f → r ≡ oneOf s
-  unfolding oneMap
+      → (r : Decoded) → r ≡ decodeFields m f → r ≡ decodeOne s
+  unfolding decodeMap
   one-fields f ef u eu g l r er = er ∙ (simp (le-ltb 63 m g, ← eu, le-ltb _ _ l, ← ef) at one-map)
 
 pub fields-are : (m : ℕ) (s : List ℕ) (k d a b c v : ℕ) → k ≡ fieldsAt m s .kind → d ≡ fieldsAt m s .d → a ≡ fieldsAt m s .a → b ≡ fieldsAt m s .b
@@ -48,16 +48,16 @@ pub fields-are : (m : ℕ) (s : List ℕ) (k d a b c v : ℕ) → k ≡ fieldsAt
 fields-are m s k d a b c v ek ed ea eb ec ev = λ i. record { kind = ek i; d = ed i; a = ea i; b = eb i; c = ec i; v = ev i }
 
 -- the judgement decides
-module _ (m : ℕ) (f : Fields) (n : ℕ) (en : n ≡ mapOf f) (x : ℕ) (ex : x ≡ judgeOf (not (eqb m n)) f) where
-  same : x ≡ judgeOf (not (eqb m (mapOf f))) f
+module _ (m : ℕ) (f : Fields) (n : ℕ) (en : n ≡ mapOf f) (x : ℕ) (ex : x ≡ fieldsRefusal (not (eqb m n)) f) where
+  same : x ≡ fieldsRefusal (not (eqb m (mapOf f))) f
   same = ex ∙ rw en
 
-  pub fields-word : x ≡ 0 → (p u : ℕ) → p ≡ packFields f → u ≡ sizeOf m → Word p u ≡ oneFields m f
-  unfolding oneFields
+  pub fields-word : x ≡ 0 → (p u : ℕ) → p ≡ packFields f → u ≡ sizeOf m → Word p u ≡ decodeFields m f
+  unfolding decodeFields
   fields-word z p u ep eu = rw (← same, eq-eqb _ _ z, ep, eu)
 
-  pub fields-refused : (x ≡ 0 → ⊥) → RefusedWith x ≡ oneFields m f
-  unfolding oneFields
+  pub fields-refused : (x ≡ 0 → ⊥) → RefusedWith x ≡ decodeFields m f
+  unfolding decodeFields
   fields-refused z = rw (← same, ne-eqb _ _ z)
 
 -- what an instruction that is read has
@@ -66,22 +66,22 @@ pub record Read (s : List ℕ) (w u : ℕ) (f : Fields) : Type 0 where
   pub small : getD s 0 0 ≤ 63
   pub fits : u ≤ length s
   pub size : u ≡ sizeOf (getD s 0 0)
-  pub clean : judgeOf (not (eqb (getD s 0 0) (mapOf f))) f ≡ 0
+  pub clean : fieldsRefusal (not (eqb (getD s 0 0) (mapOf f))) f ≡ 0
   pub word : w ≡ packFields f
 
 no-word : {w u x : ℕ} {A : Type 0} → Word w u ≡ RefusedWith x → A
 no-word {w} {u} {x} {A} e = let z : _≡_ {A = ℕ} 0 1 = cc in absurd (omega arith)
 
-pub one-read : (s : List ℕ) (w u : ℕ) → Word w u ≡ oneOf s → Read s w u (fieldsAt (getD s 0 0) s)
-unfolding oneOf oneMap oneFields
+pub one-read : (s : List ℕ) (w u : ℕ) → Word w u ≡ decodeOne s → Read s w u (fieldsAt (getD s 0 0) s)
+unfolding decodeOne decodeMap decodeFields
 one-read s w u =
     let m : ℕ = getD s 0 0 in
     let f : Fields = fieldsAt m s in
-    let P : One → Type 0 = λ o. Word w u ≡ o → Read s w u f in
+    let P : Decoded → Type 0 = λ o. Word w u ≡ o → Read s w u f in
     cond-ind P (eqb (length s) 0) (λ _ e. no-word e) (λ h0.
     cond-ind P (ltb 63 m) (λ _ e. no-word e) (λ h1.
     cond-ind P (ltb (length s) (sizeOf m)) (λ _ e. no-word e) (λ h2.
-    cond-ind P (eqb (judgeOf (not (eqb m (mapOf f))) f) 0) (λ h3 e.
+    cond-ind P (eqb (fieldsRefusal (not (eqb m (mapOf f))) f) 0) (λ h3 e.
     let eu : u ≡ sizeOf m = cc in
     record {
       full = omega (arith, eqb-false (length s) 0 h0);
@@ -97,19 +97,19 @@ pos-of-ne : {x : ℕ} → (x ≡ 0 → ⊥) → 0 < x
 pos-of-ne {x} n = omega arith
 
 -- no refusal has the number 0
-unfoldable pub Named : One → Type 0
+unfoldable pub Named : Decoded → Type 0
 Named (Word w u) = Unit {0}
 Named (RefusedWith x) = 0 < x
 
-pub named : (s : List ℕ) → Named (oneOf s)
-unfolding Named oneOf oneMap oneFields
+pub named : (s : List ℕ) → Named (decodeOne s)
+unfolding Named decodeOne decodeMap decodeFields
 named s =
     let m : ℕ = getD s 0 0 in
     let f : Fields = fieldsAt m s in
     cond-ind Named (eqb (length s) 0) (λ _. omega arith) (λ _.
     cond-ind Named (ltb 63 m) (λ _. omega arith) (λ _.
     cond-ind Named (ltb (length s) (sizeOf m)) (λ _. omega arith) (λ _.
-    cond-ind Named (eqb (judgeOf (not (eqb m (mapOf f))) f) 0) (λ _. tt)
+    cond-ind Named (eqb (fieldsRefusal (not (eqb m (mapOf f))) f) 0) (λ _. tt)
     (λ h. pos-of-ne (eqb-false _ _ h)))))
 
 -- ---- a routine read
@@ -120,9 +120,9 @@ unfolding scanOf wordsOf Named
 scan-ok zero i s e =
     cond-ind (λ (a : Answer). a .number ≡ 0 → (_≡_ {A = ℕ} 0 0) × (a .place ≡ i + 0)) (eqb (length s) 0)
     (λ _ _. (refl, omega arith)) (λ _ f. absurd (omega arith)) e
-scan-ok (suc n) i s e = go (oneOf s) (named s) (λ u. scan-ok n (i + 1) (drop u s)) e
+scan-ok (suc n) i s e = go (decodeOne s) (named s) (λ u. scan-ok n (i + 1) (drop u s)) e
   where
-    go : (o : One) → Named o
+    go : (o : Decoded) → Named o
         → ((u : ℕ) → scanOf n (i + 1) (drop u s) .number ≡ 0 → (length (wordsOf n (drop u s)) ≡ n) × (scanOf n (i + 1) (drop u s) .place ≡ i + 1 + n))
         → thenAnswer o i (λ u. scanOf n (i + 1) (drop u s)) .number ≡ 0
         → (length (thenWords o (λ u. wordsOf n (drop u s))) ≡ suc n) × (thenAnswer o i (λ u. scanOf n (i + 1) (drop u s)) .place ≡ i + suc n)
@@ -237,19 +237,19 @@ module _ (ws : List ℕ) (room : ℕ) where
   write-many h = simp (lt-ltb _ _ h)
 
   module _ (h : length ws ≤ mostInstructions) where
-    pub write-few : writeAnswer ws room ≡ firstRefused judgeWord ws 0 (roomFor room (length (routineOf ws)))
+    pub write-few : writeAnswer ws room ≡ firstRefused wordRefusal ws 0 (roomFor room (length (routineOf ws)))
     unfolding writeAnswer
     write-few = rw (le-ltb mostInstructions (length ws) h)
 
-    pub write-taken : TakesEach judgeWord ws → writeAnswer ws room ≡ roomFor room (length (routineOf ws))
-    write-taken all = write-few ∙ none-refused judgeWord ws 0 _ all
+    pub write-taken : TakesEach wordRefusal ws → writeAnswer ws room ≡ roomFor room (length (routineOf ws))
+    write-taken all = write-few ∙ none-refused wordRefusal ws 0 _ all
 
 -- what words have that writing takes
 pub record WriteOk (ws : List ℕ) (room n : ℕ) : Type 0 where
   pub few : length ws ≤ mostInstructions
   pub fits : length (routineOf ws) ≤ room
   pub size : n ≡ length (routineOf ws)
-  pub each : TakesEach judgeWord ws
+  pub each : TakesEach wordRefusal ws
 
 pub write-ok : (ws : List ℕ) (room : ℕ) → writeAnswer ws room .number ≡ 0 → WriteOk ws room (writeAnswer ws room .place)
 unfolding writeAnswer
@@ -257,6 +257,6 @@ write-ok ws room =
     let k : ℕ = length (routineOf ws) in
     let P : Answer → Type 0 = λ r. r .number ≡ 0 → WriteOk ws room (r .place) in
     cond-ind P (ltb mostInstructions (length ws)) (λ _ e. absurd (omega arith)) (λ h0 e.
-    taken-then judgeWord (λ r. WriteOk ws room (r .place)) ws 0 (roomFor room k)
+    taken-then wordRefusal (λ r. WriteOk ws room (r .place)) ws 0 (roomFor room k)
     (cond-ind P (ltb room k) (λ _ f. absurd (omega arith)) (λ h1 _.
-    record { few = ltb-false mostInstructions (length ws) h0; fits = ltb-false room k h1; size = refl; each = takes-each judgeWord ws 0 _ e })) e)
+    record { few = ltb-false mostInstructions (length ws) h0; fits = ltb-false room k h1; size = refl; each = takes-each wordRefusal ws 0 _ e })) e)

@@ -18,13 +18,13 @@ use Rattle.types.specs.Names.{mostInstructions, mostBundles, mostCommands, bund
 use Rattle.spec.specs.Layouts.{rightLayout, inTable, inLandings, protected, tableEnd, landingsEnd}
 use Rattle.spec.specs.Policies.{Policy, entryRight, entriesRight, rightPolicy}
 use Rattle.spec.specs.Landings.{rightLandings, landingsOf}
-use Rattle.spec.specs.Words.{kindOf, judgeAt, instrOf, routine, bundlesFor}
+use Rattle.spec.specs.Words.{kindOf, refusalAt, instrOf, routine, bundlesFor}
 use Rattle.spec.specs.Commands.{commandOf, wordOf, fetchOf}
-use Rattle.spec.specs.Bundles.{shapeOf, bundlesFrom, commandsOf, commandCount, baseRight, placeAnswer, rewriteAnswer, valid, readOff, bundleAt, isBundle, shapedAt, passesAt, checkFrom, countRight, checkAnswer}
+use Rattle.spec.specs.Bundles.{shapeOf, bundlesFrom, commandsOf, commandCount, baseRight, baseRoomAnswer, rewriteAnswer, valid, decodeBundle, bundleAt, isBundle, shapedAt, passesAt, checkFrom, countRight, checkAnswer}
 use Rattle.spec.specs.Claims.{Placed, SizeLaws, Installs}
 use Rattle.spec.specs.Machines.{fits, installAnswer, installMemory, installMachine}
 use Rattle.types.specs.Records.{machineAt}
-use Rattle.spec.proofs.Facts.{Ready, Right, Valid, Bundled, Laid}
+use Rattle.spec.proofs.Facts.{Ready, Right, Valid, Bundled, InstalledFacts}
 use Rattle.spec.proofs.Bools.{no, cases, both, join, either, cond-ind, unless-ind, neither}
 use Rattle.spec.proofs.Refusals.{TakesEach, takes-each, taken-then}
 use Rattle.spec.proofs.Layouts.{LayoutFacts, layout-facts, outside}
@@ -58,7 +58,7 @@ check-each lay n ws h (suc m) e j l u =
     taken-if (passesAt lay n ws j ≡ true) (passesAt lay n ws h) _ _ (λ z. omega arith)
     (λ t r. ⊎-elim (λ q. rw (eqb-true j h q) t) (λ q. check-each lay n ws (h + 1) m r j (omega (arith, eqb-false j h q)) (omega arith)) (cases (eqb j h))) e
 
--- what 12 does not refuse
+-- what is not refused with 12 (bad count)
 pub record Counted (k n : ℕ) : Type 0 where
   pub count : k ≡ bundleLength * n
   pub most : n ≤ mostBundles
@@ -147,8 +147,8 @@ valid-is n (GOX d a b c) t =
 valid-is n (EVENT e) t = ltb-true e events t
 
 -- a bundle that no other follows
-last-halts : (h n : ℕ) (lay : Layout) (w y z : ℕ) → (ltb h n || eqb (kindOf w) (command .halt)) ≡ true → n ≤ h → readOff lay w y z ≡ HALT
-unfolding readOff
+last-halts : (h n : ℕ) (lay : Layout) (w y z : ℕ) → (ltb h n || eqb (kindOf w) (command .halt)) ≡ true → n ≤ h → decodeBundle lay w y z ≡ HALT
+unfolding decodeBundle
 last-halts h n lay w y z t l = ⊎-elim (λ e. absurd (let u = ltb-true h n e in omega arith)) (λ e. rw e) (either _ _ t)
 
 -- the word at a position of a list of bundles
@@ -264,7 +264,7 @@ sets-at (a ∷ vs) l i (suc j) d r h =
     let z : i + suc j ≡ suc i + j = omega arith in
     rw z (sets-at vs (set l i a) (suc i) j d (omega (arith, length-set l i a)) (omega arith))
 
-pub laid-of : (lay : Layout) (pol : Policy) (mem : List ℕ) → installAnswer lay pol mem .number ≡ 0 → Laid lay pol (installMemory lay pol mem)
+pub laid-of : (lay : Layout) (pol : Policy) (mem : List ℕ) → installAnswer lay pol mem .number ≡ 0 → InstalledFacts lay pol (installMemory lay pol mem)
 unfolding installMemory
 laid-of lay pol mem e =
     let o = fits-of lay pol mem e in
@@ -374,20 +374,20 @@ right-of lay pol ws mem c e =
 pub record Taken (lay : Layout) (code : List ℕ) : Type 0 where
   pub right : rightLayout lay ≡ true
   pub most : length code ≤ mostInstructions
-  pub each : TakesEach (judgeAt (length code)) code
+  pub each : TakesEach (refusalAt (length code)) code
   pub base : baseRight lay (bundlesFor (length code)) ≡ true
 
 pub taken-of : (lay : Layout) (code : List ℕ) (room : ℕ) → rewriteAnswer lay code room .number ≡ 0 → Taken lay code
-unfolding rewriteAnswer placeAnswer
+unfolding rewriteAnswer baseRoomAnswer
 taken-of lay code room =
     let n = length code in
     let P = Taken lay code in
     taken-unless P (rightLayout lay) _ _ (λ z. omega arith) (λ r.
     cond-ind (λ (a : Answer). a .number ≡ 0 → P) (ltb mostInstructions n) (λ _ z. absurd (omega arith)) (λ m e.
-    taken-then (judgeAt n) (λ _. P) code 0 (placeAnswer lay n room)
+    taken-then (refusalAt n) (λ _. P) code 0 (baseRoomAnswer lay n room)
     (taken-unless P (baseRight lay (bundlesFor n)) _ _ (λ z. omega arith) (λ b.
     cond-ind (λ (a : Answer). a .number ≡ 0 → P) (ltb room (commandCount n)) (λ _ z. absurd (omega arith)) (λ _ _.
-    record { right = r; most = ltb-false _ _ m; each = takes-each (judgeAt n) code 0 _ e; base = b }))) e))
+    record { right = r; most = ltb-false _ _ m; each = takes-each (refusalAt n) code 0 _ e; base = b }))) e))
 
 -- a jump below m is one below n
 pub grown : (m n : ℕ) (i : Instr) → m ≤ n → Valid m i → Valid n i

@@ -12,22 +12,22 @@ use Rattle.types.specs.declared.Layout.{Layout}
 use Rattle.types.specs.declared.Machine.{Machine}
 use Rattle.types.specs.declared.Fields.{Fields}
 use Rattle.types.specs.declared.Answer.{Answer}
-use Rattle.types.specs.declared.One.{One}
-use Rattle.types.specs.declared.One.the-variants.{Word, RefusedWith}
+use Rattle.types.specs.declared.Decoded.{Decoded}
+use Rattle.types.specs.declared.Decoded.the-variants.{Word, RefusedWith}
 use Rattle.types.specs.declared.Ending.{Ending}
 use Rattle.types.specs.declared.Effect.{Effect}
-use Rattle.types.specs.declared.Effect.the-variants.{Go, Put, Cell, Order, Probe, End, Wait}
+use Rattle.types.specs.declared.Effect.the-variants.{Go, SetReg, SetCell, Order, Probe, End, Wait}
 use Rattle.types.specs.declared.Command.{Command}
-use Rattle.types.specs.declared.Command.the-variants.{Nop, Halt, Plain, Load, Store, GoIf, GoReg, Look, StopIf, Keep, Event, Stray}
+use Rattle.types.specs.declared.Command.the-variants.{Nop, Halt, Plain, Load, Store, GoIf, GoReg, Look, StopIf, Keep, Event, Invalid}
 use Rattle.types.specs.Names.{mostInstructions, mostCommands, bundleLength, guest, topKind, orders, noArrow, answer, orElse, roomFor}
-use Rattle.spec.specs.Words.{guestLimits, hasStray, hasHigh, judgeOf, judgeWord, judgeAt, firstRefused, kindOf, vOf, fieldsOf, routine, bundlesFor}
-use Rattle.spec.specs.Bytes.{sizeOf, mapOf, fieldsAt, oneFields, oneMap, oneOf, thenAnswer, scanOf, countOf, readAnswer, oneOut, bytesOf, writeAnswer}
+use Rattle.spec.specs.Words.{guestLimits, hasStray, hasHigh, fieldsRefusal, wordRefusal, refusalAt, firstRefused, kindOf, vOf, fieldsOf, routine, bundlesFor}
+use Rattle.spec.specs.Bytes.{sizeOf, mapOf, fieldsAt, decodeFields, decodeMap, decodeOne, thenAnswer, scanOf, countOf, readAnswer, encodeOne, bytesOf, writeAnswer}
 use Rattle.spec.specs.Layouts.{rightLayout}
 use Rattle.spec.specs.Policies.{Policy, rightPolicy}
 use Rattle.spec.specs.Landings.{rightLandings}
 use Rattle.spec.specs.Commands.{fetchOf, holdsOf}
-use Rattle.spec.specs.Bundles.{baseRight, commandsOf, commandCount, placeAnswer, rewriteAnswer, countRight, passesAt, checkFrom, checkAnswer}
-use Rattle.spec.specs.Machines.{ifRoom, View, State, Ran, fits, installAnswer, regAt, entryOf, landsAt, effectOf, withPair, applyOf, seen, nextOf, endingOf, startOf, runOf}
+use Rattle.spec.specs.Bundles.{baseRight, commandsOf, commandCount, baseRoomAnswer, rewriteAnswer, countRight, passesAt, checkFrom, checkAnswer}
+use Rattle.spec.specs.Machines.{ifRoom, View, State, RunResult, fits, installAnswer, regAt, entryOf, isLanding, effectOf, withPair, applyOf, viewAt, nextOf, endingOf, startOf, runOf}
 use Rattle.spec.proofs.Bools.{cond-ind, unless-ind, both}
 use Rattle.spec.proofs.Refusals.{taken-then}
 use Rattle.spec.proofs.Bytes.{bit-le, length-fields, length-routine}
@@ -76,24 +76,24 @@ first-bound judge s (w ∷ ws) i m r z h b =
 
 -- ---- reading and writing
 
-judge-small : (x : Bool) (f : Fields) → judgeOf x f < 2 ^ 8
-unfolding judgeOf
+judge-small : (x : Bool) (f : Fields) → fieldsRefusal x f < 2 ^ 8
+unfolding fieldsRefusal
 judge-small x f =
     cond-ind (λ (n : ℕ). n < 2 ^ 8) (ltb topKind (f .kind)) (λ _. lit< tt)
     (λ _. cond-ind (λ (n : ℕ). n < 2 ^ 8) (x || hasStray (guestLimits (f .kind)) f) (λ _. lit< tt)
     (λ _. cond-ind (λ (n : ℕ). n < 2 ^ 8) (hasHigh (guestLimits (f .kind)) f) (λ _. lit< tt) (λ _. lit< tt)))
 
-abbrev SmallOne : One → Type 0
+abbrev SmallOne : Decoded → Type 0
 SmallOne (Word w u) = Unit {0}
 SmallOne (RefusedWith x) = x < 2 ^ 8
 
-one-small : (s : List ℕ) → SmallOne (oneOf s)
-unfolding oneOf oneMap oneFields
+one-small : (s : List ℕ) → SmallOne (decodeOne s)
+unfolding decodeOne decodeMap decodeFields
 one-small s =
     cond-ind SmallOne (eqb (length s) 0) (λ _. lit< tt)
     (λ _. cond-ind SmallOne (ltb 63 (getD s 0 0)) (λ _. lit< tt)
     (λ _. cond-ind SmallOne (ltb (length s) (sizeOf (getD s 0 0))) (λ _. lit< tt)
-    (λ _. cond-ind SmallOne (eqb (judgeOf (not (eqb (getD s 0 0) (mapOf (fieldsAt (getD s 0 0) s)))) (fieldsAt (getD s 0 0) s)) 0) (λ _. tt)
+    (λ _. cond-ind SmallOne (eqb (fieldsRefusal (not (eqb (getD s 0 0) (mapOf (fieldsAt (getD s 0 0) s)))) (fieldsAt (getD s 0 0) s)) 0) (λ _. tt)
     (λ _. judge-small _ _))))
 
 -- place i of a refusal, and i + n of n instructions taken
@@ -102,9 +102,9 @@ unfolding scanOf
 scan-bound zero i m s h =
     cond-ind (Bounded m m) (eqb (length s) 0) (λ _. record { number = lit< tt; place = omega arith; taken = λ _. omega arith })
     (λ _. at-start _ _ _ (lit< tt))
-scan-bound (suc n) i m s h = by (oneOf s) (one-small s) (λ u. scan-bound n (i + 1) m (drop u s) (omega arith))
+scan-bound (suc n) i m s h = by (decodeOne s) (one-small s) (λ u. scan-bound n (i + 1) m (drop u s) (omega arith))
   where
-    by : (o : One) → SmallOne o → ((u : ℕ) → Bounded m m (scanOf n (i + 1) (drop u s))) → Bounded m m (thenAnswer o i (λ u. scanOf n (i + 1) (drop u s)))
+    by : (o : Decoded) → SmallOne o → ((u : ℕ) → Bounded m m (scanOf n (i + 1) (drop u s))) → Bounded m m (thenAnswer o i (λ u. scanOf n (i + 1) (drop u s)))
     by (Word w u) q go = go u
     by (RefusedWith x) q go = record { number = q; place = omega arith; taken = λ _. omega arith }
 
@@ -125,7 +125,7 @@ unfolding bytesOf
 bytes-bound [] = omega arith
 bytes-bound (w ∷ ws) =
     let f = fieldsOf w in
-    subst (λ (x : ℕ). x ≤ 10 * suc (length ws)) (sym (length-append (oneOut w) (bytesOf ws)))
+    subst (λ (x : ℕ). x ≤ 10 * suc (length ws)) (sym (length-append (encodeOne w) (bytesOf ws)))
     (ten-each (length ws) _ _ _ _ _ _ _ _ (bit-le (f .kind)) (bit-le (f .d)) (bit-le (f .a)) (bit-le (f .b)) (bit-le (f .c)) (bit-le (f .v)) (length-fields f) (bytes-bound ws))
 
 pub write-bound : (ws : List ℕ) (room : ℕ) → Bounded mostBytes room (writeAnswer ws room)
@@ -133,15 +133,15 @@ unfolding writeAnswer
 write-bound ws room =
     cond-ind (Bounded mostBytes room) (ltb mostInstructions (length ws)) (λ _. at-start _ _ _ (lit< tt))
     (λ e. let n : length ws ≤ mostInstructions = ltb-false _ _ e in
-    first-bound judgeWord (λ w. judge-small _ _) ws 0 mostBytes room _ (omega arith)
+    first-bound wordRefusal (λ w. judge-small _ _) ws 0 mostBytes room _ (omega arith)
     (room-bound _ _ _ (omega (arith, length-routine ws, bytes-bound ws))))
 
 -- ---- rewriting and checking
 
-pub judge-at-small : (n w : ℕ) → judgeAt n w < 2 ^ 8
-unfolding judgeAt
+pub judge-at-small : (n w : ℕ) → refusalAt n w < 2 ^ 8
+unfolding refusalAt
 judge-at-small n w =
-    unless-ind (λ (x : ℕ). x < 2 ^ 8) (eqb (judgeWord w) 0) (λ _. judge-small _ _)
+    unless-ind (λ (x : ℕ). x < 2 ^ 8) (eqb (wordRefusal w) 0) (λ _. judge-small _ _)
     (λ _. cond-ind (λ (x : ℕ). x < 2 ^ 8) (eqb (kindOf w) (guest .goif) && ltb n (vOf w)) (λ _. lit< tt) (λ _. lit< tt))
 
 -- at most 1,024 bundles
@@ -152,24 +152,24 @@ pub length-commands : (lay : Layout) (ws : List ℕ) → length (commandsOf lay 
 length-commands lay ws = length-bundles lay (bundlesFor (length ws)) (routine ws) 0 (bundlesFor (length ws))
 
 pub rewrite-bound : (lay : Layout) (ws : List ℕ) (room : ℕ) → Bounded mostCommands room (rewriteAnswer lay ws room)
-unfolding rewriteAnswer placeAnswer
+unfolding rewriteAnswer baseRoomAnswer
 rewrite-bound lay ws room =
     unless-ind (Bounded mostCommands room) (rightLayout lay) (λ _. at-start _ _ _ (lit< tt))
     (λ _. cond-ind (Bounded mostCommands room) (ltb mostInstructions (length ws)) (λ _. at-start _ _ _ (lit< tt))
     (λ e. let n : length ws ≤ mostInstructions = ltb-false _ _ e in
-    first-bound (judgeAt (length ws)) (judge-at-small (length ws)) ws 0 mostCommands room _ (omega arith)
+    first-bound (refusalAt (length ws)) (judge-at-small (length ws)) ws 0 mostCommands room _ (omega arith)
     (unless-ind (Bounded mostCommands room) (baseRight lay (bundlesFor (length ws))) (λ _. at-start _ _ _ (lit< tt))
     (λ _. room-bound _ _ _ (count-bound (length ws) n)))))
 
 -- words that rewriting takes: 4N commands are written
 pub rewrite-taken : (lay : Layout) (ws : List ℕ) (room : ℕ) → rewriteAnswer lay ws room .number ≡ 0 → rewriteAnswer lay ws room ≡ answer 0 (commandCount (length ws))
-unfolding rewriteAnswer placeAnswer
+unfolding rewriteAnswer baseRoomAnswer
 rewrite-taken lay ws room =
     let a = answer 0 (commandCount (length ws)) in
     let T : Answer → Type 0 = λ b. b .number ≡ 0 → b ≡ a in
     unless-ind T (rightLayout lay) (λ _ z. absurd (omega arith))
     (λ _. cond-ind T (ltb mostInstructions (length ws)) (λ _ z. absurd (omega arith))
-    (λ _. taken-then (judgeAt (length ws)) (λ b. b ≡ a) ws 0 _
+    (λ _. taken-then (refusalAt (length ws)) (λ b. b ≡ a) ws 0 _
     (unless-ind T (baseRight lay (bundlesFor (length ws))) (λ _ z. absurd (omega arith))
     (λ _. cond-ind T (ltb room (commandCount (length ws))) (λ _ z. absurd (omega arith)) (λ _ _. refl)))))
 
@@ -203,8 +203,8 @@ install-bound lay pol mem =
 -- an event is let through only with two free cells, a reading only with one left; no order is one
 abbrev pub Room : ℕ → ℕ → Effect → Type 0
 Room free left (Go to) = Unit {0}
-Room free left (Put d x) = Unit {0}
-Room free left (Cell i x) = Unit {0}
+Room free left (SetReg d x) = Unit {0}
+Room free left (SetCell i x) = Unit {0}
 Room free left (Order v) = 2 ≤ free
 Room free left (Probe v) = (2 ≤ free) × (1 ≤ left) × (orders ≤ v)
 Room free left (End t) = Unit {0}
@@ -223,7 +223,7 @@ room (Store a b) s = cond-ind (Room (s .free) (s .left)) (ltb (regAt s a) (lengt
 room (GoIf a b c v) s = tt
 room (GoReg d a b c) s =
     cond-ind (Room (s .free) (s .left)) (holdsOf c (regAt s a) (regAt s b))
-    (λ _. cond-ind (Room (s .free) (s .left)) (landsAt (s .mem) (s .base) (s .landings) (regAt s d)) (λ _. tt) (λ _. tt)) (λ _. tt)
+    (λ _. cond-ind (Room (s .free) (s .left)) (isLanding (s .mem) (s .base) (s .landings) (regAt s d)) (λ _. tt) (λ _. tt)) (λ _. tt)
 room (Look d v) s =
     cond-ind (Room (s .free) (s .left)) (ltb (s .cell) (length (s .mem)))
     (λ _. cond-ind (Room (s .free) (s .left)) (ltb (entryOf s v) (length (s .mem))) (λ _. tt) (λ _. tt)) (λ _. tt)
@@ -232,7 +232,7 @@ room (Keep d) s = cond-ind (Room (s .free) (s .left)) (ltb (s .cell) (length (s 
 room (Event v) s =
     cond-ind (Room (s .free) (s .left)) (ltb v orders) (λ _. in-room (s .free) (s .left) (Order v) (λ f. f))
     (λ o. cond-ind (Room (s .free) (s .left)) (eqb (s .left) 0) (λ _. tt) (λ e. in-room (s .free) (s .left) (Probe v) (λ f. (f, omega (arith, eqb-false (s .left) 0 e), ltb-false _ _ o))))
-room Stray s = tt
+room Invalid s = tt
 
 -- pairs and readings of a state: at most p and u; the pairs lie in a log as long as l and as l beyond them, the readings in rd
 pub record Counted (l rd : List ℕ) (p u : ℕ) (s : State) : Type 0 where
@@ -252,8 +252,8 @@ pair-rest l log n e x h i m =
 pub step-counts : (caps l : List ℕ) (p u : ℕ) (rd : List ℕ) (e : Effect) (s : State) → Counted l rd p u s → Room (length (s .log) - 2 * s .pairs) (length rd - s .used) e → Counted l rd (p + 1) (u + 1) (applyOf caps rd e s)
 unfolding applyOf
 step-counts caps l p u rd (Go to) s b r = record { log = b .log; pairs = omega arith; used = omega arith; drawn = b .drawn; room = b .room; rest = b .rest }
-step-counts caps l p u rd (Put d x) s b r = record { log = b .log; pairs = omega arith; used = omega arith; drawn = b .drawn; room = b .room; rest = b .rest }
-step-counts caps l p u rd (Cell i x) s b r = record { log = b .log; pairs = omega arith; used = omega arith; drawn = b .drawn; room = b .room; rest = b .rest }
+step-counts caps l p u rd (SetReg d x) s b r = record { log = b .log; pairs = omega arith; used = omega arith; drawn = b .drawn; room = b .room; rest = b .rest }
+step-counts caps l p u rd (SetCell i x) s b r = record { log = b .log; pairs = omega arith; used = omega arith; drawn = b .drawn; room = b .room; rest = b .rest }
 step-counts caps l p u rd (Order v) s b r =
     record { log = simp length-set (b .log); pairs = omega arith; used = omega arith; drawn = b .drawn; room = omega (arith, b .log); rest = pair-rest l (s .log) (s .pairs) v _ (b .rest) }
 step-counts caps l p u rd (Probe v) s b r =
@@ -271,8 +271,8 @@ apply-bounds caps rd e s r p u =
 pub apply-regs : (caps rd : List ℕ) (e : Effect) (s : State) → length (applyOf caps rd e s .regs) ≡ length (s .regs)
 unfolding applyOf
 apply-regs caps rd (Go to) s = refl
-apply-regs caps rd (Put d x) s = length-set (s .regs) d x
-apply-regs caps rd (Cell i x) s = refl
+apply-regs caps rd (SetReg d x) s = length-set (s .regs) d x
+apply-regs caps rd (SetCell i x) s = refl
 apply-regs caps rd (Order v) s = refl
 apply-regs caps rd (Probe v) s = length-set (s .regs) 0 (getD rd (s .used) 0)
 apply-regs caps rd (End t) s = refl
@@ -288,7 +288,7 @@ pub record Tally (l rd : List ℕ) (n k p u : ℕ) (log′ : List ℕ) : Type 0 
   pub log : length log′ ≡ length l
   pub rest : (i : ℕ) → 2 * p ≤ i → getD log′ i 0 ≡ getD l i 0
 
-abbrev pub RunCounts : List ℕ → List ℕ → ℕ → Ran → Type 0
+abbrev pub RunCounts : List ℕ → List ℕ → ℕ → RunResult → Type 0
 RunCounts l rd n r = Tally l rd n (r .outcome .answer .steps) (r .outcome .answer .pairs) (r .outcome .answer .used) (r .log)
 
 -- within a run of at most n steps, m of them left
@@ -317,6 +317,6 @@ unfolding runOf
 run-counts lay ws m mem budget rd log =
     cond-ind (RunCounts log rd budget) (fits lay mem)
     (λ _. loop-counts (machineLoop lay ws rd) log rd budget (RunCounts log rd budget) (λ s k. refl)
-    (λ k s b. step-counts (lay .ceilings) log k k rd (nextOf lay ws rd s) s b (room (fetchOf ws (lay .base) (s .pc)) (seen lay rd s)))
+    (λ k s b. step-counts (lay .ceilings) log k k rd (nextOf lay ws rd s) s b (room (fetchOf ws (lay .base) (s .pc)) (viewAt lay rd s)))
     (λ e m k s. ended-counts log rd budget m k s) budget 0 (startOf m mem log) (at-first rd log budget (startOf m mem log) refl refl refl))
     (λ _. record { steps = omega arith; pairs = omega arith; used = omega arith; drawn = omega arith; room = omega arith; log = refl; rest = λ i h. refl })

@@ -12,32 +12,32 @@ use Rattle.types.specs.declared.Instr.{Instr}
 use Rattle.types.specs.declared.Instr.the-variants.{HALT, PLAIN, LOAD, STORE, GOIF, GOX, EVENT}
 use Rattle.types.specs.declared.Refusal.the-variants.{Taken, BadLanding}
 use Rattle.types.specs.Names.{topGuest, topCondition, events, topKind, guestRegisters, mostInstructions, guest, plainStep, numberOf}
-use Rattle.spec.specs.Words.{kindOf, dOf, aOf, bOf, cOf, vOf, zeroOf, fieldsOf, packOf, guestLimits, judgeOf, judgeWord, judgeAt, instrOf}
+use Rattle.spec.specs.Words.{kindOf, dOf, aOf, bOf, cOf, vOf, zeroOf, fieldsOf, packOf, guestLimits, fieldsRefusal, wordRefusal, refusalAt, instrOf}
 use Rattle.spec.specs.Commands.{limitsOf}
 use Rattle.spec.proofs.Facts.{Valid}
 use Rattle.spec.proofs.Bools.{both, either, cond-ind, unless-ind}
 use Rattle.spec.proofs.Tables.{all, each, raised}
-use Rattle.spec.proofs.WordLaws.{Kept, good, judged, bounds}
+use Rattle.spec.proofs.WordLaws.{InLimits, good, judged, bounds}
 use Rattle.spec.proofs.Packing.{InBits, guest-bits, condition-bits, pack-kind, pack-d, pack-a, pack-b, pack-c, pack-zero, pack-v}
 
 -- ---- the instruction of a taken word is valid
 
--- a landing that 8 does not refuse
+-- a landing that is not refused with 8 (bad landing)
 landing : (n k v : ℕ) → cond (eqb k (guest .goif) && ltb n v) (numberOf BadLanding) (numberOf Taken) ≡ 0 → k ≡ guest .goif → v ≤ n
 landing n k v e at-goif =
     cond-ind (λ (x : ℕ). x ≡ 0 → v ≤ n) (eqb k (guest .goif) && ltb n v) (λ _ z. absurd (omega arith)) (λ l _. ltb-false n v (rw (eq-eqb k (guest .goif) at-goif) at l)) e
 
-taken-word : (n w : ℕ) → judgeAt n w ≡ 0 → (judgeWord w ≡ 0) × (kindOf w ≡ guest .goif → vOf w ≤ n)
-unfolding judgeAt
+taken-word : (n w : ℕ) → refusalAt n w ≡ 0 → (wordRefusal w ≡ 0) × (kindOf w ≡ guest .goif → vOf w ≤ n)
+unfolding refusalAt
 taken-word n w =
-    unless-ind (λ (x : ℕ). x ≡ 0 → (judgeWord w ≡ 0) × (kindOf w ≡ guest .goif → vOf w ≤ n)) (eqb (judgeWord w) 0)
+    unless-ind (λ (x : ℕ). x ≡ 0 → (wordRefusal w ≡ 0) × (kindOf w ≡ guest .goif → vOf w ≤ n)) (eqb (wordRefusal w) 0)
     (λ h e. absurd (eqb-false _ _ h e)) (λ h e. (eqb-true _ _ h, landing n (kindOf w) (vOf w) e))
 
 abbrev fields : ℕ → ℕ → ℕ → ℕ → ℕ → ℕ → Fields
 fields k d a b c v = record { kind = k; d = d; a = a; b = b; c = c; v = v }
 
 -- the tables of a guest's plain kinds and of the commands that they become agree
-plain-limits : (k d a b c v : ℕ) → Kept (guestLimits k) (fields k d a b c v) → k < guest .load → (d ≤ limitsOf (k + plainStep) .d) × (a ≤ limitsOf (k + plainStep) .a) × (b ≤ limitsOf (k + plainStep) .b) × (v ≤ limitsOf (k + plainStep) .v)
+plain-limits : (k d a b c v : ℕ) → InLimits (guestLimits k) (fields k d a b c v) → k < guest .load → (d ≤ limitsOf (k + plainStep) .d) × (a ≤ limitsOf (k + plainStep) .a) × (b ≤ limitsOf (k + plainStep) .b) × (v ≤ limitsOf (k + plainStep) .v)
 unfolding all
 plain-limits k d a b c v g h = (up (λ l. l .d) refl d (g .d), up (λ l. l .a) refl a (g .a), up (λ l. l .b) refl b (g .b), up (λ l. l .v) refl v (g .v))
   where
@@ -58,7 +58,7 @@ at-most r l = omega arith
 below-next : (v n : ℕ) → v ≤ n → v < n + 1
 below-next v n l = omega arith
 
-pub taken-valid : (n w : ℕ) → judgeAt n w ≡ 0 → Valid (n + 1) (instrOf w)
+pub taken-valid : (n w : ℕ) → refusalAt n w ≡ 0 → Valid (n + 1) (instrOf w)
 unfolding instrOf
 taken-valid n w e =
     let t = taken-word n w e in
@@ -108,12 +108,12 @@ lands n k v f =
     (λ e. let t = both _ _ e in absurd (let l = f (eqb-true k (guest .goif) (t .0)) in let m = ltb-true n v (t .1) in omega arith))
     (λ e. refl)
 
-pack-judged : (n k d a b c v : ℕ) → InBits k d a b c → Fine n k d a b c v → judgeAt n (packOf k d a b c v) ≡ 0
-unfolding judgeAt
+pack-judged : (n k d a b c v : ℕ) → InBits k d a b c → Fine n k d a b c v → refusalAt n (packOf k d a b c v) ≡ 0
+unfolding refusalAt
 pack-judged n k d a b c v h g =
     let f = fields k d a b c v in
     let t = g .1 in
-    let j : judgeOf false f ≡ 0 = judged false f (record { kind = g .0; clean = refl; kept = record { d = t .0; a = t .1; b = t .2; c = t .3; v = t .4 } }) in
+    let j : fieldsRefusal false f ≡ 0 = judged false f (record { kind = g .0; clean = refl; kept = record { d = t .0; a = t .1; b = t .2; c = t .3; v = t .4 } }) in
     rw (pack-kind k d a b c v h, pack-d k d a b c v h, pack-a k d a b c v h, pack-b k d a b c v h, pack-c k d a b c v h, pack-zero k d a b c v h, pack-v k d a b c v h)
     (rw j (lands n k v (g .2)))
 
@@ -151,7 +151,7 @@ event-bits : InBits (guest .event) 0 0 0 0
 event-bits = (lit< tt, lit< tt, lit< tt, lit< tt, lit< tt)
 
 -- of n + 1 bundles at most, a valid instruction's word is taken among n
-pub guest-taken : (n : ℕ) → n ≤ mostInstructions → (i : Instr) → Valid (n + 1) i → judgeAt n (guestWord i) ≡ 0
+pub guest-taken : (n : ℕ) → n ≤ mostInstructions → (i : Instr) → Valid (n + 1) i → refusalAt n (guestWord i) ≡ 0
 guest-taken n m HALT g = pack-judged n (guest .halt) 0 0 0 0 0 halt-bits (lit≤ tt, (lit≤ tt, lit≤ tt, lit≤ tt, lit≤ tt, lit≤ tt), λ e. omega arith)
 guest-taken n m (PLAIN k d a b v) g =
     pack-judged n k d a b 0 v (plain-bits k d a b (g .1) (g .2) (g .3) (g .4)) (plain-fine n k d a b v (g .1) (g .2) (g .3) (g .4) (g .5) (g .6) (g .7) (g .8))

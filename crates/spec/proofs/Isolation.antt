@@ -16,72 +16,72 @@ use Rattle.spec.specs.Layouts.{inBox, inTable, inLandings, protected}
 use Rattle.spec.specs.Policies.{Policy, allowed}
 use Rattle.spec.specs.Words.{routine, bundlesFor}
 use Rattle.spec.specs.Bundles.{commandsOf, bundleAt, rewriteAnswer}
-use Rattle.spec.specs.Machines.{onward, installAnswer, installMemory}
+use Rattle.spec.specs.Machines.{nextPc, installAnswer, installMemory}
 use Rattle.spec.specs.Guests.{Pair, guestStart}
-use Rattle.spec.specs.Runs.{Given, eventsOf, carriedOf, atFirst, afterRun, after, Served}
-use Rattle.spec.specs.Claims.{givenFor, GuestRule, NoWrap, Recorded, Isolation}
+use Rattle.spec.specs.Runs.{RunInput, eventsOf, sessionOf, initialSession, afterRun, after, HostPremise}
+use Rattle.spec.specs.Claims.{withBudget, GuestRule, NoWrap, Recorded, Isolation}
 use Rattle.spec.proofs.Bools.{both, either}
 use Rattle.spec.proofs.Facts.{Ready, Right, Bundled}
 use Rattle.spec.proofs.Conditions.{passed-of, bundled-of, right-of, laid-of, machine-of, taken-of, routine-word, routine-valid, routine-last, bundled-routine, right-routine}
 use Rattle.spec.proofs.Passing.{back}
-use Rattle.spec.proofs.Sim.{Stays}
-use Rattle.spec.proofs.Track.{recorded as recorded-runs, stays-run, stays-runs, install, agrees-after, pc-in, allowed-runs, sound-runs, kept-runs, lasts}
-use Rattle.spec.proofs.Twins.{alone}
+use Rattle.spec.proofs.Simulation.{SessionInvariant}
+use Rattle.spec.proofs.RunSimulation.{recorded as recorded-runs, stays-run, stays-runs, install, simulates-after, pc-in, allowed-runs, sound-runs, kept-runs, lasts}
+use Rattle.spec.proofs.Noninterference.{noninterference}
 
--- the guest tracks an installation that answered 0
-at-first : (lay : Layout) (pol : Policy) (ws mem : List ℕ) (n : ℕ) (is : ℕ → Instr) → Right lay pol n → Bundled lay ws n is → installAnswer lay pol mem .number ≡ 0 → Stays lay pol n is (guestStart lay pol (installMemory lay pol mem)) (atFirst lay pol mem)
+-- the simulation holds of an installation that answered 0
+at-first : (lay : Layout) (pol : Policy) (ws mem : List ℕ) (n : ℕ) (is : ℕ → Instr) → Right lay pol n → Bundled lay ws n is → installAnswer lay pol mem .number ≡ 0 → SessionInvariant lay pol n is (guestStart lay pol (installMemory lay pol mem)) (initialSession lay pol mem)
 at-first lay pol ws mem n is ok bs z =
-    subst (λ (m : Machine). Stays lay pol n is (guestStart lay pol (installMemory lay pol mem)) (carriedOf m (installMemory lay pol mem) [] [] 0)) (sym (machine-of lay pol mem z))
+    subst (λ (m : Machine). SessionInvariant lay pol n is (guestStart lay pol (installMemory lay pol mem)) (sessionOf m (installMemory lay pol mem) [] [] 0)) (sym (machine-of lay pol mem z))
     (install lay pol ws n is ok bs (installMemory lay pol mem) (laid-of lay pol mem z))
 
 -- what the claims take from the premise: the layout and the commands are right for n instructions, which can be read off the commands,
--- and the guest tracks the list of runs
-pub record Tracked (lay : Layout) (pol : Policy) (ws mem : List ℕ) (gs : List Given) (n : ℕ) (is : ℕ → Instr) : Type 0 where
+-- and the simulation holds of the list of runs
+pub record SimulatedRuns (lay : Layout) (pol : Policy) (ws mem : List ℕ) (gs : List RunInput) (n : ℕ) (is : ℕ → Instr) : Type 0 where
   pub right : Right lay pol n
   pub bundled : Bundled lay ws n is
   pub read : (h : ℕ) → h < n → bundleAt lay ws h ≡ is h
-  pub first : Stays lay pol n is (guestStart lay pol (installMemory lay pol mem)) (atFirst lay pol mem)
-  pub last : Stays lay pol n is (guestStart lay pol (installMemory lay pol mem)) (after lay pol ws mem gs)
+  pub first : SessionInvariant lay pol n is (guestStart lay pol (installMemory lay pol mem)) (initialSession lay pol mem)
+  pub last : SessionInvariant lay pol n is (guestStart lay pol (installMemory lay pol mem)) (after lay pol ws mem gs)
 
-tracked : (lay : Layout) (pol : Policy) (ws mem : List ℕ) (gs : List Given) (n : ℕ) (is : ℕ → Instr) → Right lay pol n → Bundled lay ws n is → ((h : ℕ) → h < n → bundleAt lay ws h ≡ is h) → Served lay pol ws mem gs → Tracked lay pol ws mem gs n is
-tracked lay pol ws mem gs n is ok bs read v =
+simulated : (lay : Layout) (pol : Policy) (ws mem : List ℕ) (gs : List RunInput) (n : ℕ) (is : ℕ → Instr) → Right lay pol n → Bundled lay ws n is → ((h : ℕ) → h < n → bundleAt lay ws h ≡ is h) → HostPremise lay pol ws mem gs → SimulatedRuns lay pol ws mem gs n is
+simulated lay pol ws mem gs n is ok bs read v =
     let w = at-first lay pol ws mem n is ok bs (v .installed) in
-    record { right = ok; bundled = bs; read = read; first = w; last = stays-runs lay pol ws n is ok bs _ (atFirst lay pol mem) gs (v .lends) w }
+    record { right = ok; bundled = bs; read = read; first = w; last = stays-runs lay pol ws n is ok bs _ (initialSession lay pol mem) gs (v .preserved) w }
 
 -- of a passed list, whose instructions are read off it, and of a rewritten routine
-pub list-tracked : (lay : Layout) (pol : Policy) (ws mem : List ℕ) (gs : List Given) → Served lay pol ws mem gs → Tracked lay pol ws mem gs (length ws / bundleLength) (bundleAt lay ws)
-list-tracked lay pol ws mem gs v = tracked lay pol ws mem gs _ _ (right-of lay pol ws mem (v .passed) (v .installed)) (bundled-of lay ws (v .passed)) (λ h l. refl) v
+pub list-simulated : (lay : Layout) (pol : Policy) (ws mem : List ℕ) (gs : List RunInput) → HostPremise lay pol ws mem gs → SimulatedRuns lay pol ws mem gs (length ws / bundleLength) (bundleAt lay ws)
+list-simulated lay pol ws mem gs v = simulated lay pol ws mem gs _ _ (right-of lay pol ws mem (v .passed) (v .installed)) (bundled-of lay ws (v .passed)) (λ h l. refl) v
 
-pub routine-tracked : (lay : Layout) (pol : Policy) (code mem : List ℕ) (room : ℕ) (gs : List Given) → rewriteAnswer lay code room .number ≡ 0 → Served lay pol (commandsOf lay code) mem gs → Tracked lay pol (commandsOf lay code) mem gs (bundlesFor (length code)) (routine code)
-routine-tracked lay pol code mem room gs z v =
+pub routine-simulated : (lay : Layout) (pol : Policy) (code mem : List ℕ) (room : ℕ) (gs : List RunInput) → rewriteAnswer lay code room .number ≡ 0 → HostPremise lay pol (commandsOf lay code) mem gs → SimulatedRuns lay pol (commandsOf lay code) mem gs (bundlesFor (length code)) (routine code)
+routine-simulated lay pol code mem room gs z v =
     let t = taken-of lay code room z in
-    tracked lay pol (commandsOf lay code) mem gs _ _ (right-routine lay pol code mem room z (v .installed)) (bundled-routine lay code room z)
+    simulated lay pol (commandsOf lay code) mem gs _ _ (right-routine lay pol code mem room z (v .installed)) (bundled-routine lay code room z)
     (back lay _ (commandsOf lay code) (routine code) (routine-word lay code t) (λ h _. routine-valid lay code t h) (routine-last lay code t))
     v
 
 pub guest-rule : GuestRule
 guest-rule lay pol code mem room gs z v x =
-    let t = routine-tracked lay pol code mem room gs z v in
-    agrees-after lay pol _ _ _ (t .right) (t .bundled) _ (after lay pol (commandsOf lay code) mem gs) x (t .last)
+    let t = routine-simulated lay pol code mem room gs z v in
+    simulates-after lay pol _ _ _ (t .right) (t .bundled) _ (after lay pol (commandsOf lay code) mem gs) x (t .last)
 
 -- two addresses of a list, the second one on from the first modulo 2 ^ 32
-no-turn : (base n pc to : ℕ) → n ≤ mostBundles → base + bundleLength * n ≤ 2 ^ 32 → pc < base + bundleLength * n → base ≤ to → to ≡ onward pc → pc + 1 < 2 ^ 32
+no-turn : (base n pc to : ℕ) → n ≤ mostBundles → base + bundleLength * n ≤ 2 ^ 32 → pc < base + bundleLength * n → base ≤ to → to ≡ nextPc pc → pc + 1 < 2 ^ 32
 no-turn base n pc to most room l k e = omega arith
 
 pub no-wrap : NoWrap
 no-wrap lay pol ws mem gs v =
     let p = passed-of lay ws (v .passed) in
-    let t = list-tracked lay pol ws mem gs v in
+    let t = list-simulated lay pol ws mem gs v in
     let c = after lay pol ws mem gs in
     let i = pc-in lay pol ws _ _ (t .right) (t .bundled) _ c (t .last) in
     record {
       from = i .0;
       within = omega (arith, i .1, p .count);
       top = omega (arith, t .right .room, p .count);
-      onward =
+      nextPc =
           λ g lent e.
-          let w = stays-run lay pol ws _ _ (t .right) (t .bundled) _ c (givenFor g 1) _ refl lent (t .last) in
-          no-turn (lay .base) _ (c .machine .pc) _ (p .most) (t .right .room) (i .1) (pc-in lay pol ws _ _ (t .right) (t .bundled) _ (afterRun lay ws c (givenFor g 1)) w .0) e;
+          let w = stays-run lay pol ws _ _ (t .right) (t .bundled) _ c (withBudget g 1) _ refl lent (t .last) in
+          no-turn (lay .base) _ (c .machine .pc) _ (p .most) (t .right .room) (i .1) (pc-in lay pol ws _ _ (t .right) (t .bundled) _ (afterRun lay ws c (withBudget g 1)) w .0) e;
     }
 
 -- a cell of a stretch whose cells lie outside the sandbox
@@ -102,19 +102,19 @@ protected-out lay pol n i ok p ne =
     (either _ _ p)
 
 pub recorded : Recorded
-recorded lay pol ws mem gs = recorded-runs lay ws (atFirst lay pol mem) gs
+recorded lay pol ws mem gs = recorded-runs lay ws (initialSession lay pol mem) gs
 
 pub isolation : Isolation
 isolation lay pol ws mem gs v =
-    let t = list-tracked lay pol ws mem gs v in
+    let t = list-simulated lay pol ws mem gs v in
     let ok = t .right in
     let bs = t .bundled in
     record {
-      sound = sound-runs lay pol ws _ _ ok bs _ (atFirst lay pol mem) gs (v .lends) (t .first);
-      kept = kept-runs lay pol ws _ _ ok bs _ (atFirst lay pol mem) gs (v .lends) (t .first);
-      lasting = λ i p ne. lasts lay pol ws _ _ ok bs _ (atFirst lay pol mem) gs (v .lends) (t .first) i (protected-out lay pol _ i (ok .ready) p ne) ne p;
+      faultless = sound-runs lay pol ws _ _ ok bs _ (initialSession lay pol mem) gs (v .preserved) (t .first);
+      frame = kept-runs lay pol ws _ _ ok bs _ (initialSession lay pol mem) gs (v .preserved) (t .first);
+      protectedKept = λ i p ne. lasts lay pol ws _ _ ok bs _ (initialSession lay pol mem) gs (v .preserved) (t .first) i (protected-out lay pol _ i (ok .ready) p ne) ne p;
       allowed =
           ap (λ (ps : List Pair). allowed pol (eventsOf ps)) (sym (recorded lay pol ws mem gs))
           ∙ allowed-runs lay pol ws _ _ ok bs _ (after lay pol ws mem gs) (t .last);
-      alone = alone lay pol ws mem gs _ _ ok bs (t .first) v;
+      noninterference = noninterference lay pol ws mem gs _ _ ok bs (t .first) v;
     }

@@ -15,9 +15,9 @@ use Rattle.types.specs.declared.Answer.{Answer}
 use Rattle.types.specs.declared.Instr.{Instr}
 use Rattle.types.specs.declared.Instr.the-variants.{HALT, PLAIN, LOAD, STORE, GOIF, GOX, EVENT}
 use Rattle.types.specs.Names.{mostInstructions, mostCommands, bundleLength, bundleShift, hidden, guestRegisters, topCondition, events, guest, command, plainStep, answer}
-use Rattle.spec.specs.Words.{kindOf, judgeAt, instrOf, routine, bundlesFor}
+use Rattle.spec.specs.Words.{kindOf, refusalAt, instrOf, routine, bundlesFor}
 use Rattle.spec.specs.Commands.{limitsOf, wordOf}
-use Rattle.spec.specs.Bundles.{addressOf, shapeOf, commandsOf, commandCount, placeAnswer, rewriteAnswer, rewriteOutput, valid, readOff, bundleAt, isBundle, shapedAt, passesAt, checkFrom, checkAnswer}
+use Rattle.spec.specs.Bundles.{addressOf, shapeOf, commandsOf, commandCount, baseRoomAnswer, rewriteAnswer, rewriteOutput, valid, decodeBundle, bundleAt, isBundle, shapedAt, passesAt, checkFrom, checkAnswer}
 use Rattle.spec.specs.Claims.{Placed, RewriteLeaves, RewrittenPasses, Rewrites, PassedRewrites, PassedDecodes}
 use Rattle.spec.proofs.Facts.{Valid}
 use Rattle.spec.proofs.Bools.{cases}
@@ -48,8 +48,8 @@ bundle-of : (base v : ℕ) → (base + bundleLength * v - base) / bundleLength �
 bundle-of base v = omega arith
 
 module _ (lay : Layout) (n : ℕ) where
-  pub bundle-back : (i : Instr) → Valid n i → readOff lay (wordOf (shapeOf lay n i 0)) (wordOf (shapeOf lay n i 2)) (wordOf (shapeOf lay n i 3)) ≡ i
-  unfolding readOff shapeOf wordOf
+  pub bundle-back : (i : Instr) → Valid n i → decodeBundle lay (wordOf (shapeOf lay n i 0)) (wordOf (shapeOf lay n i 2)) (wordOf (shapeOf lay n i 3)) ≡ i
+  unfolding decodeBundle shapeOf wordOf
   bundle-back HALT g = refl
   bundle-back (PLAIN k d a b v) g =
       let l = plain-kind k (g .0) (g .1) in
@@ -165,9 +165,9 @@ code-word is h (suc m) zero l = let z : h + 0 ≡ h = omega arith in rw z
 code-word is h (suc m) (suc j) l = let z : h + suc j ≡ suc h + j = omega arith in rw z (code-word is (suc h) m j (omega arith))
 
 rewrite-taken : (lay : Layout) (code : List ℕ) (room : ℕ) → Taken lay code → commandCount (length code) ≤ room → rewriteAnswer lay code room ≡ answer 0 (commandCount (length code))
-unfolding rewriteAnswer placeAnswer
+unfolding rewriteAnswer baseRoomAnswer
 rewrite-taken lay code room t l =
-    rw (t .right, le-ltb mostInstructions (length code) (t .most)) (none-refused (judgeAt (length code)) code 0 _ (t .each) ∙ rw (t .base, le-ltb room (commandCount (length code)) l))
+    rw (t .right, le-ltb mostInstructions (length code) (t .most)) (none-refused (refusalAt (length code)) code 0 _ (t .each) ∙ rw (t .base, le-ltb room (commandCount (length code)) l))
 
 module _ (lay : Layout) (ws : List ℕ) (n : ℕ) (p : Passed lay ws n) where
   abbrev code : List ℕ

@@ -13,28 +13,28 @@ use Rattle.types.specs.declared.Layout.{Layout}
 use Rattle.types.specs.declared.Instr.{Instr}
 use Rattle.types.specs.declared.Instr.the-variants.{HALT, PLAIN, LOAD, STORE, GOIF, GOX, EVENT}
 use Rattle.types.specs.declared.Command.{Command}
-use Rattle.types.specs.declared.Command.the-variants.{Nop, Halt, Plain, Load, Store, GoIf, GoReg, Look, StopIf, Keep, Event, Stray}
+use Rattle.types.specs.declared.Command.the-variants.{Nop, Halt, Plain, Load, Store, GoIf, GoReg, Look, StopIf, Keep, Event, Invalid}
 use Rattle.types.specs.declared.Status.{Status}
 use Rattle.types.specs.declared.Status.the-variants.{Running, Ended, Stopped, Faulted, Strayed}
 use Rattle.types.specs.declared.Ending.the-variants.{LogFull, Silent}
 use Rattle.types.specs.declared.Effect.{Effect}
-use Rattle.types.specs.declared.Effect.the-variants.{Go, Put, Cell, Order, Probe, End, Wait}
+use Rattle.types.specs.declared.Effect.the-variants.{Go, SetReg, SetCell, Order, Probe, End, Wait}
 use Rattle.types.specs.Names.{orders, noArrow, bundleLength, hidden}
 use Rattle.spec.specs.Policies.{Policy}
 use Rattle.spec.specs.Commands.{fetchOf, holdsOf}
 use Rattle.spec.specs.Bundles.{at4, addressOf, positionOf, shapeOf}
-use Rattle.spec.specs.Machines.{State, Ran, View, regAt, ifCell, landsAt, ifLanding, ifRoom, entryOf, onward, effectOf, applyOf, seen, nextOf, stepOf, runFrom, startOf, runOf, fits, loopFrom}
-use Rattle.spec.specs.Guests.{Pair, Guest, rOf}
-use Rattle.spec.specs.Runs.{Given, Carried, begins, begunFrom, runOn, afterTaken, afterRun, after}
-use Rattle.spec.specs.Claims.{Stands, Proceeds, Resumes, Progress}
+use Rattle.spec.specs.Machines.{State, RunResult, View, regAt, ifCell, isLanding, ifLanding, ifRoom, entryOf, nextPc, effectOf, applyOf, viewAt, nextOf, stepOf, runFrom, startOf, runOf, fits, loopFrom}
+use Rattle.spec.specs.Guests.{Pair, Guest, guestReg}
+use Rattle.spec.specs.Runs.{RunInput, Session, begins, begunFrom, runOn, afterTaken, afterRun, after}
+use Rattle.spec.specs.Claims.{AtBoundary, ReachesBoundary, Resumes, Progress}
 use Rattle.spec.proofs.Facts.{Right, Bundled}
 use Rattle.spec.proofs.Bools.{no, cases, join, cond-ind}
 use Rattle.spec.proofs.Conditions.{layout-of}
-use Rattle.spec.proofs.Sim.{Mid, start, rest, load1, load2, store1, store2, gox1, gox2, gox3, event1, event2, event3, Sim, over, live, Known}
-use Rattle.spec.proofs.Track.{first-yes, first-no, fetched, tracks, step-known, enter}
+use Rattle.spec.proofs.Simulation.{MidBundle, start, rest, load1, load2, store1, store2, gox1, gox2, gox3, event1, event2, event3, InBundle, over, live, RunInvariant}
+use Rattle.spec.proofs.RunSimulation.{first-yes, first-no, fetched, sim-invariant, step-known, enter}
 use Rattle.spec.proofs.Loops.{Goes, go-from, machineLoop, begunLoop}
 use Rattle.spec.proofs.Endings.{goes}
-use Rattle.spec.proofs.Isolation.{list-tracked}
+use Rattle.spec.proofs.Isolation.{list-simulated}
 
 -- ---- commands other than EVENT, and effects that neither pause nor record
 abbrev pub Quiet : Command → Type 0
@@ -49,7 +49,7 @@ Quiet (Look d v) = Unit {0}
 Quiet (StopIf d) = Unit {0}
 Quiet (Keep d) = Unit {0}
 Quiet (Event e) = ⊥
-Quiet Stray = Unit {0}
+Quiet Invalid = Unit {0}
 
 quiet-at : (a b c d : Command) (p : ℕ) → (p ≡ 2 → ⊥) → Quiet a → Quiet b → Quiet d → Quiet (at4 p a b c d)
 quiet-at a b c d zero l x y z = x
@@ -70,8 +70,8 @@ quiet lay n (EVENT e) p l = quiet-at _ _ _ _ p l tt tt tt
 
 abbrev pub Still : Effect → Type 0
 Still (Go to) = Unit {0}
-Still (Put d x) = Unit {0}
-Still (Cell i x) = Unit {0}
+Still (SetReg d x) = Unit {0}
+Still (SetCell i x) = Unit {0}
 Still (Order v) = ⊥
 Still (Probe v) = ⊥
 Still (End t) = Unit {0}
@@ -86,18 +86,18 @@ still (Load d a) v e = cond-ind Still (ltb (regAt v a) (length (v .mem))) (λ _.
 still (Store a b) v e = cond-ind Still (ltb (regAt v a) (length (v .mem))) (λ _. tt) (λ _. tt)
 still (GoIf a b c x) v e = tt
 still (GoReg d a b c) v e =
-    cond-ind Still (holdsOf c (regAt v a) (regAt v b)) (λ _. cond-ind Still (landsAt (v .mem) (v .base) (v .landings) (regAt v d)) (λ _. tt) (λ _. tt)) (λ _. tt)
+    cond-ind Still (holdsOf c (regAt v a) (regAt v b)) (λ _. cond-ind Still (isLanding (v .mem) (v .base) (v .landings) (regAt v d)) (λ _. tt) (λ _. tt)) (λ _. tt)
 still (Look d x) v e = cond-ind Still (ltb (v .cell) (length (v .mem))) (λ _. cond-ind Still (ltb (entryOf v x) (length (v .mem))) (λ _. tt) (λ _. tt)) (λ _. tt)
 still (StopIf d) v e = cond-ind Still (eqb (regAt v d) noArrow) (λ _. tt) (λ _. tt)
 still (Keep d) v e = cond-ind Still (ltb (v .cell) (length (v .mem))) (λ _. tt) (λ _. tt)
 still (Event x) v e = absurd e
-still Stray v e = tt
+still Invalid v e = tt
 
 still-keeps : (caps rd : List ℕ) (e : Effect) (s : State) → Still e → (applyOf caps rd e s .log ≡ s .log) × (applyOf caps rd e s .pairs ≡ s .pairs) × (applyOf caps rd e s .used ≡ s .used)
 unfolding applyOf
 still-keeps caps rd (Go to) s q = (refl, refl, refl)
-still-keeps caps rd (Put d x) s q = (refl, refl, refl)
-still-keeps caps rd (Cell i x) s q = (refl, refl, refl)
+still-keeps caps rd (SetReg d x) s q = (refl, refl, refl)
+still-keeps caps rd (SetCell i x) s q = (refl, refl, refl)
 still-keeps caps rd (Order v) s q = absurd q
 still-keeps caps rd (Probe v) s q = absurd q
 still-keeps caps rd (End t) s q = (refl, refl, refl)
@@ -107,35 +107,35 @@ still-keeps caps rd (Wait e) s q = absurd q
 abbrev Room : List ℕ → State → Type 0
 Room rd s = (2 * s .pairs + 1 < length (s .log)) × (s .used < length rd)
 
-goes-in : (lay : Layout) (rd : List ℕ) (c : Command) (s : State) → Room rd s → Goes (effectOf c (seen lay rd s))
-goes-in lay rd c s r = goes c (seen lay rd s) (omega (arith, r .0)) (omega (arith, r .1))
+goes-in : (lay : Layout) (rd : List ℕ) (c : Command) (s : State) → Room rd s → Goes (effectOf c (viewAt lay rd s))
+goes-in lay rd c s r = goes c (viewAt lay rd s) (omega (arith, r .0)) (omega (arith, r .1))
 
 still-goes : (e : Effect) → Still e → Goes e
 still-goes e q w z = subst Still z q
 
 -- ---- where an effect leads: to the next address, or to a place of comparison
-abbrev StandsIn : Layout → State → Type 0
-StandsIn lay s = (positionOf lay (s .pc) ≡ 0) ⊎ (s .status ≡ Running → ⊥)
+abbrev AtBoundaryIn : Layout → State → Type 0
+AtBoundaryIn lay s = (positionOf lay (s .pc) ≡ 0) ⊎ (s .status ≡ Running → ⊥)
 
 abbrev Moves : Layout → List ℕ → State → Effect → Type 0
-Moves lay rd s e = Goes e → (applyOf (lay .ceilings) rd e s .pc ≡ onward (s .pc)) ⊎ StandsIn lay (applyOf (lay .ceilings) rd e s)
+Moves lay rd s e = Goes e → (applyOf (lay .ceilings) rd e s .pc ≡ nextPc (s .pc)) ⊎ AtBoundaryIn lay (applyOf (lay .ceilings) rd e s)
 
 -- a jump, taken or not, leads to a first command or on
-jumps : (lay : Layout) (rd : List ℕ) (s : State) (t : Bool) (x v : ℕ) → v ≡ addressOf lay x → Moves lay rd s (Go (cond t v (onward (s .pc))))
+jumps : (lay : Layout) (rd : List ℕ) (s : State) (t : Bool) (x v : ℕ) → v ≡ addressOf lay x → Moves lay rd s (Go (cond t v (nextPc (s .pc))))
 unfolding applyOf
 jumps lay rd s true x v e f = inr (inl (omega arith))
 jumps lay rd s false x v e f = inl refl
 
 module _ (lay : Layout) (rd : List ℕ) (s : State) where
-  moves-on : Moves lay rd s (Go (onward (s .pc)))
+  moves-on : Moves lay rd s (Go (nextPc (s .pc)))
   unfolding applyOf
   moves-on f = inl refl
 
-  moves-put : (d x : ℕ) → Moves lay rd s (Put d x)
+  moves-put : (d x : ℕ) → Moves lay rd s (SetReg d x)
   unfolding applyOf
   moves-put d x f = inl refl
 
-  moves-cell : (i x : ℕ) → Moves lay rd s (Cell i x)
+  moves-cell : (i x : ℕ) → Moves lay rd s (SetCell i x)
   unfolding applyOf
   moves-cell i x f = inl refl
 
@@ -147,7 +147,7 @@ module _ (lay : Layout) (rd : List ℕ) (s : State) where
   faults = moves-end Faulted (λ x. no (cc))
 
   -- at a cell, where there is none it faults
-  moves-at : (i : ℕ) (e : Effect) → Moves lay rd s e → Moves lay rd s (ifCell (seen lay rd s) i e)
+  moves-at : (i : ℕ) (e : Effect) → Moves lay rd s e → Moves lay rd s (ifCell (viewAt lay rd s) i e)
   moves-at i e m = cond-ind (Moves lay rd s) (ltb i (length (s .mem))) (λ _. m) (λ _. faults)
 
   -- with room in the log; where there is none it pauses
@@ -155,16 +155,16 @@ module _ (lay : Layout) (rd : List ℕ) (s : State) where
   moves-room e m = cond-ind (Moves lay rd s) (ltb (length (s .log) - 2 * s .pairs) 2) (λ _ f. absurd (f LogFull refl)) (λ _. m)
 
   -- to a first command; where there is no landing it stops
-  moves-landing : (x v : ℕ) → v ≡ addressOf lay x → Moves lay rd s (ifLanding (seen lay rd s) v)
-  moves-landing x v e = cond-ind (Moves lay rd s) (landsAt (s .mem) (lay .base) (lay .landings) v) (λ _. jumps lay rd s true x v e) (λ _. moves-end Strayed (λ x. no (cc)))
+  moves-landing : (x v : ℕ) → v ≡ addressOf lay x → Moves lay rd s (ifLanding (viewAt lay rd s) v)
+  moves-landing x v e = cond-ind (Moves lay rd s) (isLanding (s .mem) (lay .base) (lay .landings) v) (λ _. jumps lay rd s true x v e) (λ _. moves-end Strayed (λ x. no (cc)))
 
-  moves-event : (v : ℕ) → Moves lay rd s (effectOf (Event v) (seen lay rd s))
+  moves-event : (v : ℕ) → Moves lay rd s (effectOf (Event v) (viewAt lay rd s))
   unfolding effectOf applyOf
   moves-event v =
       cond-ind (Moves lay rd s) (ltb v orders) (λ _. moves-room (Order v) (λ f. inl refl))
       (λ _. cond-ind (Moves lay rd s) (eqb (length rd - s .used) 0) (λ _ f. absurd (f Silent refl)) (λ _. moves-room (Probe v) (λ f. inl refl)))
 
-  start-moves : (n : ℕ) (i : Instr) → Moves lay rd s (effectOf (shapeOf lay n i 0) (seen lay rd s))
+  start-moves : (n : ℕ) (i : Instr) → Moves lay rd s (effectOf (shapeOf lay n i 0) (viewAt lay rd s))
   unfolding effectOf shapeOf
   start-moves n HALT = moves-end Ended (λ x. no (cc))
   start-moves n (PLAIN k d a b v) = moves-put d _
@@ -174,7 +174,7 @@ module _ (lay : Layout) (rd : List ℕ) (s : State) where
   start-moves n (GOX d a b c) = moves-put hidden _
   start-moves n (EVENT e) = moves-at _ _ (moves-at _ _ (moves-put hidden _))
 
-  mid-moves : (pol : Policy) (n : ℕ) (g : Guest) (h k b : ℕ) (i : Instr) (p : ℕ) → Mid lay pol n g h k b (getD (s .regs) hidden 0) (getD (s .mem) (lay .cell) 0) i p → Moves lay rd s (effectOf (shapeOf lay n i p) (seen lay rd s))
+  mid-moves : (pol : Policy) (n : ℕ) (g : Guest) (h k b : ℕ) (i : Instr) (p : ℕ) → MidBundle lay pol n g h k b (getD (s .regs) hidden 0) (getD (s .mem) (lay .cell) 0) i p → Moves lay rd s (effectOf (shapeOf lay n i p) (viewAt lay rd s))
   unfolding effectOf shapeOf
   mid-moves pol n g h k b i p (start at bk q) = start-moves n i
   mid-moves pol n g h k b i p (rest low nop lt at bk q) = rw (nop p (omega arith)) moves-on
@@ -185,7 +185,7 @@ module _ (lay : Layout) (rd : List ℕ) (s : State) where
   mid-moves pol n g h k b i p (gox1 at bk q e) = moves-put hidden _
   mid-moves pol n g h k b i p (gox2 at bk q e) = moves-put hidden _
   mid-moves pol n g h k b i p (gox3 {d = d} {a = x} {b′ = y} {t = c} at bk q e) =
-      cond-ind (Moves lay rd s) (holdsOf c (getD (s .regs) x 0) (getD (s .regs) y 0)) (λ _. moves-landing (rOf g d % n) _ e) (λ _. moves-on)
+      cond-ind (Moves lay rd s) (holdsOf c (getD (s .regs) x 0) (getD (s .regs) y 0)) (λ _. moves-landing (guestReg g d % n) _ e) (λ _. moves-on)
   mid-moves pol n g h k b i p (event1 at bk q e) = cond-ind (Moves lay rd s) (eqb (getD (s .regs) hidden 0) noArrow) (λ _. moves-end Stopped (λ x. no (cc))) (λ _. moves-on)
   mid-moves pol n g h k b i p (event2 {e = x} at bk q e some) = moves-event x
   mid-moves pol n g h k b i p (event3 es lt at bk e er q) = moves-at _ _ (moves-cell (lay .cell) _)
@@ -199,26 +199,26 @@ module _ (lay : Layout) (ws rd : List ℕ) (s : State) (run : s .status ≡ Runn
   begun-step j b = ap (λ r. r .1) (go-from (begunLoop lay ws rd) j (0, b) s run go)
 
 -- a run of at most so many steps that ends at a place of comparison
-record Came (lay : Layout) (ws rd : List ℕ) (most k b b₂ : ℕ) (s : State) : Type 0 where
+record BoundaryReached (lay : Layout) (ws rd : List ℕ) (most k b b₂ : ℕ) (s : State) : Type 0 where
   j : ℕ
   few : j ≤ most
-  stands : Stands lay (runFrom lay ws rd j k s .outcome .machine)
+  boundary : AtBoundary lay (runFrom lay ws rd j k s .outcome .machine)
   begun : begunFrom lay ws rd j b s ≡ b₂
 
 one-more : (j most : ℕ) → j ≤ most → suc j ≤ suc most
 one-more j most l = omega arith
 
 -- now, and after one step
-came-now : (lay : Layout) (ws rd : List ℕ) (most k b : ℕ) (s : State) → StandsIn lay s → Came lay ws rd most k b b s
+came-now : (lay : Layout) (ws rd : List ℕ) (most k b : ℕ) (s : State) → AtBoundaryIn lay s → BoundaryReached lay ws rd most k b b s
 unfolding loopFrom
-came-now lay ws rd most k b s x = record { j = 0; few = omega arith; stands = x; begun = refl }
+came-now lay ws rd most k b s x = record { j = 0; few = omega arith; boundary = x; begun = refl }
 
-came-then : (lay : Layout) (ws rd : List ℕ) (most k b b₁ b₂ : ℕ) (s : State) → s .status ≡ Running → Goes (nextOf lay ws rd s) → b + begins lay (s .pc) ≡ b₁ → Came lay ws rd most (k + 1) b₁ b₂ (stepOf lay ws rd s) → Came lay ws rd (suc most) k b b₂ s
+came-then : (lay : Layout) (ws rd : List ℕ) (most k b b₁ b₂ : ℕ) (s : State) → s .status ≡ Running → Goes (nextOf lay ws rd s) → b + begins lay (s .pc) ≡ b₁ → BoundaryReached lay ws rd most (k + 1) b₁ b₂ (stepOf lay ws rd s) → BoundaryReached lay ws rd (suc most) k b b₂ s
 came-then lay ws rd most k b b₁ b₂ s run go z c =
     record {
       j = suc (c .j);
       few = one-more (c .j) most (c .few);
-      stands = subst (λ (r : Ran). Stands lay (r .outcome .machine)) (sym (run-step lay ws rd s run go (c .j) k)) (c .stands);
+      boundary = subst (λ (r : RunResult). AtBoundary lay (r .outcome .machine)) (sym (run-step lay ws rd s run go (c .j) k)) (c .boundary);
       begun = begun-step lay ws rd s run go (c .j) b ∙ ap (λ (x : ℕ). begunFrom lay ws rd (c .j) x (stepOf lay ws rd s)) z ∙ c .begun;
     }
 
@@ -230,10 +230,10 @@ running Faulted = inr (λ x. no (cc))
 running Strayed = inr (λ x. no (cc))
 
 -- ---- addresses, as numbers: one on from position p of bundle h
-goes-on : (base n h p pc to : ℕ) → base + bundleLength * n ≤ 2 ^ 32 → h < n → p < 3 → pc ≡ base + bundleLength * h + p → to ≡ onward pc → to ≡ base + bundleLength * h + suc p
-goes-on base n h p pc to room lh lp e f = omega arith
+takes-step : (base n h p pc to : ℕ) → base + bundleLength * n ≤ 2 ^ 32 → h < n → p < 3 → pc ≡ base + bundleLength * h + p → to ≡ nextPc pc → to ≡ base + bundleLength * h + suc p
+takes-step base n h p pc to room lh lp e f = omega arith
 
-goes-next : (base n h p pc to : ℕ) → base + bundleLength * n ≤ 2 ^ 32 → h < n → p + 1 ≡ bundleLength → pc ≡ base + bundleLength * h + p → to ≡ onward pc → (to - base) % bundleLength ≡ 0
+goes-next : (base n h p pc to : ℕ) → base + bundleLength * n ≤ 2 ^ 32 → h < n → p + 1 ≡ bundleLength → pc ≡ base + bundleLength * h + p → to ≡ nextPc pc → (to - base) % bundleLength ≡ 0
 goes-next base n h p pc to room lh lp e f = omega arith
 
 within : (base h p to : ℕ) → p < 3 → to ≡ base + bundleLength * h + suc p → (to - base) % bundleLength ≡ 0 → ⊥
@@ -256,7 +256,7 @@ more-left : (r p : ℕ) → p + suc (suc r) ≡ bundleLength → p < 3
 more-left r p e = omega arith
 
 module _ (lay : Layout) (pol : Policy) (ws : List ℕ) (n : ℕ) (is : ℕ → Instr) (ok : Right lay pol n) (bs : Bundled lay ws n is) (past : List Pair) (u0 rd : List ℕ) (g0 : Guest) where
-  sim-moves : (s : State) (g : Guest) (k b : ℕ) → s .status ≡ Running → Sim lay pol n is g k b s → Moves lay rd s (nextOf lay ws rd s)
+  sim-moves : (s : State) (g : Guest) (k b : ℕ) → s .status ≡ Running → InBundle lay pol n is g k b s → Moves lay rd s (nextOf lay ws rd s)
   sim-moves s g k b run (over f st h p lh lp si pc q bk) = absurd (f .0 (sym st ∙ run))
   sim-moves s g k b run (live gg st h p lh lp pc m) = rw (fetched lay pol ws n is ok bs s h p lh lp pc) (mid-moves lay rd s pol n g h k b (is h) p m)
 
@@ -265,53 +265,53 @@ module _ (lay : Layout) (pol : Policy) (ws : List ℕ) (n : ℕ) (is : ℕ → I
   goes-at s h p lh lp pc r =
       ⊎-elim
       (λ e. goes-in lay rd (fetchOf ws (lay .base) (s .pc)) s (r (omega (arith, ltb-true p 3 e))))
-      (λ e. still-goes _ (rw (fetched lay pol ws n is ok bs s h p lh lp pc) (still (shapeOf lay n (is h) p) (seen lay rd s) (quiet lay n (is h) p (λ z. omega (arith, ltb-false p 3 e))))))
+      (λ e. still-goes _ (rw (fetched lay pol ws n is ok bs s h p lh lp pc) (still (shapeOf lay n (is h) p) (viewAt lay rd s) (quiet lay n (is h) p (λ z. omega (arith, ltb-false p 3 e))))))
       (cases (ltb p 3))
 
   room-on : (s : State) (h p : ℕ) → h < n → p < 2 → s .pc ≡ addressOf lay h + p → Room rd s → Room rd (stepOf lay ws rd s)
   room-on s h p lh lp pc r =
       let e = fetched lay pol ws n is ok bs s h p lh (omega arith) pc in
-      let w = still-keeps (lay .ceilings) rd (nextOf lay ws rd s) s (rw e (still (shapeOf lay n (is h) p) (seen lay rd s) (quiet lay n (is h) p (λ z. omega arith)))) in
+      let w = still-keeps (lay .ceilings) rd (nextOf lay ws rd s) s (rw e (still (shapeOf lay n (is h) p) (viewAt lay rd s) (quiet lay n (is h) p (λ z. omega arith)))) in
       rw (w .0, w .1, w .2) r
 
   -- from position p of bundle h, with r more commands after this one
-  reach : (r p h k b b₂ : ℕ) (s : State) → p + suc r ≡ bundleLength → h < n → b + begins lay (s .pc) ≡ b₂ → Known lay pol n is past u0 rd g0 b s → s .status ≡ Running → s .pc ≡ addressOf lay h + p → (p ≤ 2 → Room rd s) → Came lay ws rd (suc r) k b b₂ s
+  reach : (r p h k b b₂ : ℕ) (s : State) → p + suc r ≡ bundleLength → h < n → b + begins lay (s .pc) ≡ b₂ → RunInvariant lay pol n is past u0 rd g0 b s → s .status ≡ Running → s .pc ≡ addressOf lay h + p → (p ≤ 2 → Room rd s) → BoundaryReached lay ws rd (suc r) k b b₂ s
   reach zero p h k b b₂ s e lh z w run pc room =
       let go = goes-at s h p lh (left-in _ p e) pc room in
-      let t = tracks lay pol ws n is ok bs past u0 rd g0 b s w in
+      let t = sim-invariant lay pol ws n is ok bs past u0 rd g0 b s w in
       came-then lay ws rd 0 k b b₂ b₂ s run go z
       (came-now lay ws rd 0 (k + 1) b₂ (stepOf lay ws rd s) (⊎-elim (λ y. inl (goes-next (lay .base) n h p (s .pc) _ (ok .room) lh e pc y)) (λ y. y) (sim-moves s _ (t .0) b run (t .1 .sim) go)))
   reach (suc r) p h k b b₂ s e lh z w run pc room =
       let go = goes-at s h p lh (left-in _ p e) pc room in
-      let t = tracks lay pol ws n is ok bs past u0 rd g0 b s w in
+      let t = sim-invariant lay pol ws n is ok bs past u0 rd g0 b s w in
       let lp = more-left r p e in
-      let now : StandsIn lay (stepOf lay ws rd s) → Came lay ws rd (suc r) (k + 1) b₂ b₂ (stepOf lay ws rd s) = λ y. came-now lay ws rd (suc r) (k + 1) b₂ (stepOf lay ws rd s) y in
-      let more : stepOf lay ws rd s .pc ≡ onward (s .pc) → stepOf lay ws rd s .status ≡ Running → Came lay ws rd (suc r) (k + 1) b₂ b₂ (stepOf lay ws rd s) =
+      let now : AtBoundaryIn lay (stepOf lay ws rd s) → BoundaryReached lay ws rd (suc r) (k + 1) b₂ b₂ (stepOf lay ws rd s) = λ y. came-now lay ws rd (suc r) (k + 1) b₂ (stepOf lay ws rd s) y in
+      let more : stepOf lay ws rd s .pc ≡ nextPc (s .pc) → stepOf lay ws rd s .status ≡ Running → BoundaryReached lay ws rd (suc r) (k + 1) b₂ b₂ (stepOf lay ws rd s) =
       λ y l.
-      let to : stepOf lay ws rd s .pc ≡ addressOf lay h + suc p = goes-on (lay .base) n h p (s .pc) _ (ok .room) lh lp pc y in
-      reach r (suc p) h (k + 1) b₂ b₂ (stepOf lay ws rd s) (left r p e) lh (plus-none b₂ _ (first-no lay (stepOf lay ws rd s .pc) (within (lay .base) h p _ lp to))) (subst (λ (x : ℕ). Known lay pol n is past u0 rd g0 x (stepOf lay ws rd s)) z (step-known lay pol ws n is ok bs past u0 rd g0 b s w run go)) l to (λ m. room-on s h p lh m pc (room (up-to p m))) in
+      let to : stepOf lay ws rd s .pc ≡ addressOf lay h + suc p = takes-step (lay .base) n h p (s .pc) _ (ok .room) lh lp pc y in
+      reach r (suc p) h (k + 1) b₂ b₂ (stepOf lay ws rd s) (left r p e) lh (plus-none b₂ _ (first-no lay (stepOf lay ws rd s .pc) (within (lay .base) h p _ lp to))) (subst (λ (x : ℕ). RunInvariant lay pol n is past u0 rd g0 x (stepOf lay ws rd s)) z (step-known lay pol ws n is ok bs past u0 rd g0 b s w run go)) l to (λ m. room-on s h p lh m pc (room (up-to p m))) in
       came-then lay ws rd (suc r) k b b₂ b₂ s run go z
       (⊎-elim (λ y. ⊎-elim (λ l. more y l) (λ l. now (inr l)) (running (stepOf lay ws rd s .status))) (λ y. now y) (sim-moves s _ (t .0) b run (t .1 .sim) go))
 
   -- from wherever it is
-  from-here : (b : ℕ) (s : State) (g : Guest) (k : ℕ) → Known lay pol n is past u0 rd g0 b s → s .status ≡ Running → Room rd s → Sim lay pol n is g k b s → Came lay ws rd bundleLength 0 b (b + begins lay (s .pc)) s
+  from-here : (b : ℕ) (s : State) (g : Guest) (k : ℕ) → RunInvariant lay pol n is past u0 rd g0 b s → s .status ≡ Running → Room rd s → InBundle lay pol n is g k b s → BoundaryReached lay ws rd bundleLength 0 b (b + begins lay (s .pc)) s
   from-here b s g k w run room (over f st h p lh lp si pc q bk) = absurd (f .0 (sym st ∙ run))
   from-here b s g k w run room (live gg st h p lh lp pc m) =
       let y = reach (3 - p) p h 0 b (b + begins lay (s .pc)) s (omega arith) lh refl w run pc (λ _. room) in
-      record { j = y .j; few = omega (arith, y .few); stands = y .stands; begun = y .begun }
+      record { j = y .j; few = omega (arith, y .few); boundary = y .boundary; begun = y .begun }
 
 -- and so does the run that is given that budget, where it is not refused
-proceeds : (lay : Layout) (ws : List ℕ) (c : Carried) (g : Given) (b : ℕ) → fits lay (g .memory) ≡ true → Came lay ws (g .readings) bundleLength 0 (c .begun) b (startOf (c .machine) (g .memory) (g .log)) → Proceeds lay ws c g b
+proceeds : (lay : Layout) (ws : List ℕ) (c : Session) (g : RunInput) (b : ℕ) → fits lay (g .memory) ≡ true → BoundaryReached lay ws (g .readings) bundleLength 0 (c .begun) b (startOf (c .machine) (g .memory) (g .log)) → ReachesBoundary lay ws c g b
 unfolding afterRun afterTaken runOn runOf
-proceeds lay ws c g b fit y = record { budget = y .j; few = y .few; stands = rw fit (y .stands); begun = rw fit (y .begun) }
+proceeds lay ws c g b fit y = record { budget = y .j; few = y .few; boundary = rw fit (y .boundary); begun = rw fit (y .begun) }
 
 pub resumes : Resumes
 resumes lay pol ws mem gs v run g lent n =
-    let t = list-tracked lay pol ws mem gs v in
+    let t = list-simulated lay pol ws mem gs v in
     let c = after lay pol ws mem gs in
     let s = startOf (c .machine) (g .memory) (g .log) in
     let w = enter lay pol ws _ _ (t .right) (t .bundled) _ c g (n .memory) lent (t .last) in
-    let k = tracks lay pol ws _ _ (t .right) (t .bundled) (c .records) (c .consumed) (g .readings) _ (c .begun) s w in
+    let k = sim-invariant lay pol ws _ _ (t .right) (t .bundled) (c .records) (c .consumed) (g .readings) _ (c .begun) s w in
     proceeds lay ws c g _ (join _ _ (layout-of lay ws (v .passed)) (eq-eqb (length (g .memory)) (lay .size) (n .memory)))
     (from-here lay pol ws _ _ (t .right) (t .bundled) (c .records) (c .consumed) (g .readings) _ (c .begun) s _ (k .0) w run (omega (arith, n .log), omega (arith, n .readings)) (k .1 .sim))
 
@@ -320,4 +320,4 @@ progress lay pol ws mem gs v x run g lent n =
     let c = after lay pol ws mem gs in
     let y = resumes lay pol ws mem gs v run g lent n in
     let one : begins lay (c .machine .pc) ≡ 1 = ⊎-elim (λ z. first-yes lay (c .machine .pc) z) (λ z. absurd (z run)) x in
-    record { budget = y .budget; few = y .few; stands = y .stands; begun = y .begun ∙ ap (λ (k : ℕ). c .begun + k) one }
+    record { budget = y .budget; few = y .few; boundary = y .boundary; begun = y .begun ∙ ap (λ (k : ℕ). c .begun + k) one }

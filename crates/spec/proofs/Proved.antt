@@ -3,7 +3,7 @@ use Rattle.spec.specs.Proved.{Proved}
 use Rattle.spec.proofs.Landings.{landings}
 use Rattle.spec.proofs.Masks.{masks, sizes}
 use Rattle.spec.proofs.Signs.{signs}
-use Rattle.spec.proofs.RoundTrip.{words-back, bytes-back}
+use Rattle.spec.proofs.RoundTrip.{words-round-trip, bytes-round-trip}
 use Rattle.spec.proofs.Conditions.{installs}
 use Rattle.spec.proofs.Passing.{rewrite-leaves, rewritten-passes, passed-rewrites, passed-decodes}
 use Rattle.spec.proofs.Shapes.{shapes, checks}
@@ -12,7 +12,7 @@ use Rattle.spec.proofs.Isolation.{guest-rule, recorded, isolation, no-w
 use Rattle.spec.proofs.Ceilings.{ceilings}
 use Rattle.spec.proofs.Progress.{resumes, progress}
 use Rattle.spec.proofs.Pauses.{state-cell, paused-waits, pause-rule}
-use Rattle.spec.proofs.Moments.{splits, cuts}
+use Rattle.spec.proofs.Prefixes.{runs-compose, prefix-closed}
 
 pub proved : Proved
 proved =
@@ -22,8 +22,8 @@ proved =
       installs = installs;
       sizes = sizes;
       signs = signs;
-      wordsBack = words-back;
-      bytesBack = bytes-back;
+      wordsRoundTrip = words-round-trip;
+      bytesRoundTrip = bytes-round-trip;
       rewriteLeaves = rewrite-leaves;
       rewrittenPasses = rewritten-passes;
       passedRewrites = passed-rewrites;
@@ -31,8 +31,8 @@ proved =
       checks = checks;
       passedDecodes = passed-decodes;
       endings = endings;
-      splits = splits;
-      cuts = cuts;
+      runsCompose = runs-compose;
+      prefixClosed = prefix-closed;
       guestRule = guest-rule;
       resumes = resumes;
       progress = progress;

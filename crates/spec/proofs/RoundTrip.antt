@@ -10,15 +10,15 @@ use lib.ListN.{length, getD, take, drop, length-append}
 use lib.Seq.{drop-cons, drop-at, getD-at, getD-drop, getD-append-add}
 use lib.Dec.{eqb, ltb}
 use borrow.Author.Tests.{ne-eqb, eq-eqb, eqb-true, le-ltb, ltb-false}
-use Rattle.types.specs.declared.One.{One}
-use Rattle.types.specs.declared.One.the-variants.{Word, RefusedWith}
+use Rattle.types.specs.declared.Decoded.{Decoded}
+use Rattle.types.specs.declared.Decoded.the-variants.{Word, RefusedWith}
 use Rattle.types.specs.declared.Answer.{Answer}
 use Rattle.types.specs.declared.Fields.{Fields}
 use Rattle.types.specs.Names.{mostInstructions, topWord, answer}
-use Rattle.spec.specs.Words.{judgeOf, packFields, fieldsOf, zeroOf, judgeWord}
-use Rattle.spec.specs.Bytes.{bitOf, mapOf, sizeOf, byteAt, quadAt, fieldsAt, oneOf, thenAnswer, scanOf, thenWords, wordsOf, countOf, wordsIn, readAnswer, readOutput}
-use Rattle.spec.specs.Bytes.{byteOut, quadOut, regsOut, fieldsOut, oneOut, bytesOf, routineOf, writeAnswer, writeOutput}
-use Rattle.spec.specs.Claims.{WordsBack, BytesBack}
+use Rattle.spec.specs.Words.{fieldsRefusal, packFields, fieldsOf, zeroOf, wordRefusal}
+use Rattle.spec.specs.Bytes.{bitOf, mapOf, sizeOf, byteAt, quadAt, fieldsAt, decodeOne, thenAnswer, scanOf, thenWords, wordsOf, countOf, wordsIn, readAnswer, readOutput}
+use Rattle.spec.specs.Bytes.{byteOut, quadOut, regsOut, fieldsOut, encodeOne, bytesOf, routineOf, writeAnswer, writeOutput}
+use Rattle.spec.specs.Claims.{WordsRoundTrip, BytesRoundTrip}
 use Rattle.spec.proofs.Bools.{no, cond-ind}
 use Rattle.spec.proofs.Refusals.{TakesEach, output-start}
 use Rattle.spec.proofs.WordLaws.{bounds, clean, fields-pack, pack-fields}
@@ -183,7 +183,7 @@ row-first : (f : Fields) (t : List ℕ) → (mapOf f ≡ getD (row f t) 0 0) × 
 unfolding row
 row-first f t = (refl, λ z. omega arith)
 
-fields-back : (f : Fields) → judgeOf false f ≡ 0 → (t : List ℕ) → oneOf (fieldsOut f ++ t) ≡ Word (packFields f) (length (fieldsOut f))
+fields-back : (f : Fields) → fieldsRefusal false f ≡ 0 → (t : List ℕ) → decodeOne (fieldsOut f ++ t) ≡ Word (packFields f) (length (fieldsOut f))
 fields-back f j t =
     let m : ℕ = mapOf f in
     let s : List ℕ = row f t in
@@ -191,24 +191,24 @@ fields-back f j t =
     let u : ℕ = length (fieldsOut f) in
     let eu : u ≡ sizeOf m = length-size m f (bits m f refl) in
     let ls : u ≤ length s = rw (← (in-row f t), length-append) (le-add-right _ _) in
-    let z : judgeOf (not (eqb m m)) f ≡ 0 = rw (eq-eqb m m refl) j in
-    ap oneOf (in-row f t)
+    let z : fieldsRefusal (not (eqb m m)) f ≡ 0 = rw (eq-eqb m m refl) j in
+    ap decodeOne (in-row f t)
     ∙ sym (one-fields s m (b .0) (b .1) f (row-back f (bounds false f j .word) t) u eu (map-small f) ls _
-    (fields-word m f m refl (judgeOf (not (eqb m m)) f) refl z (packFields f) u refl eu))
+    (fields-word m f m refl (fieldsRefusal (not (eqb m m)) f) refl z (packFields f) u refl eu))
 
-one-back : (w : ℕ) → judgeWord w ≡ 0 → (t : List ℕ) → oneOf (oneOut w ++ t) ≡ Word w (length (oneOut w))
+one-back : (w : ℕ) → wordRefusal w ≡ 0 → (t : List ℕ) → decodeOne (encodeOne w ++ t) ≡ Word w (length (encodeOne w))
 one-back w g t =
     let c = clean (ltb 0 (zeroOf w)) (fieldsOf w) g in
     let z : zeroOf w ≡ 0 = omega (arith, ltb-false 0 (zeroOf w) c) in
-    fields-back (fieldsOf w) (rw c at g) t ∙ ap (λ (x : ℕ). Word x (length (oneOut w))) (pack-fields w z)
+    fields-back (fieldsOf w) (rw c at g) t ∙ ap (λ (x : ℕ). Word x (length (encodeOne w))) (pack-fields w z)
 
-scan-back : (ws : List ℕ) (i : ℕ) → TakesEach judgeWord ws
+scan-back : (ws : List ℕ) (i : ℕ) → TakesEach wordRefusal ws
     → (scanOf (length ws) i (bytesOf ws) ≡ answer 0 (i + length ws)) × (wordsOf (length ws) (bytesOf ws) ≡ ws)
 unfolding bytesOf scanOf wordsOf
 scan-back [] i all = (rw add-zero, refl)
 scan-back (w ∷ ws) i all =
-    let o : oneOf (oneOut w ++ bytesOf ws) ≡ Word w (length (oneOut w)) = one-back w (all 0 (omega arith)) (bytesOf ws) in
-    let rest : drop (length (oneOut w)) (oneOut w ++ bytesOf ws) ≡ bytesOf ws = drop-at (oneOut w) (bytesOf ws) _ refl in
+    let o : decodeOne (encodeOne w ++ bytesOf ws) ≡ Word w (length (encodeOne w)) = one-back w (all 0 (omega arith)) (bytesOf ws) in
+    let rest : drop (length (encodeOne w)) (encodeOne w ++ bytesOf ws) ≡ bytesOf ws = drop-at (encodeOne w) (bytesOf ws) _ refl in
     let ih = scan-back ws (i + 1) (λ j l. all (suc j) (omega arith)) in
     (rw (o, rest, ih .0) (ap (λ (n : ℕ). answer 0 n) (omega arith)), rw (o, rest, ih .1))
 
@@ -234,8 +234,8 @@ taken-words : (s words : List ℕ) → readAnswer s (length words) .number ≡ 0
 unfolding readOutput
 taken-words s words e n l = output-start (readAnswer s (length words)) (wordsIn s) words e n l
 
-pub words-back : WordsBack
-words-back ws out words e l =
+pub words-round-trip : WordsRoundTrip
+words-round-trip ws out words e l =
     let bytes = taken-bytes ws out e _ (sym (write-ok ws (length out) e .size)) in
     let back = routine-back ws (length out) (length words) e l in
     let n : readAnswer (routineOf ws) (length words) .number ≡ 0 = ap (λ (a : Answer). a .number) (back .0) in
@@ -266,32 +266,32 @@ row-front s B f ef em full fits =
     (b ∙ ap (λ (l : List ℕ). byteOut (f .b) ++ l)
     (c ∙ ap (λ (l : List ℕ). byteOut (f .c) ++ l) v))))))
 
-one-front : (s : List ℕ) (w u : ℕ) → Bytes s → Word w u ≡ oneOf s → (s ≡ oneOut w ++ drop u s) × (judgeWord w ≡ 0)
+one-front : (s : List ℕ) (w u : ℕ) → Bytes s → Word w u ≡ decodeOne s → (s ≡ encodeOne w ++ drop u s) × (wordRefusal w ≡ 0)
 one-front s w u B e =
     let m : ℕ = getD s 0 0 in
     let f : Fields = fieldsAt m s in
     let t = one-read s w u e in
     let none = clean _ f (t .clean) in
     let em : m ≡ mapOf f = same-map m (mapOf f) none in
-    let j : judgeOf false f ≡ 0 = rw none at (t .clean) in
+    let j : fieldsRefusal false f ≡ 0 = rw none at (t .clean) in
     let un = fields-pack f (bounds false f j) in
     let size = t .size in
     let r = row-front s B f refl em (t .full) (rw size at (t .fits)) in
     (rw (t .word, un .0, in-row, size) r, rw (t .word, un .0, un .1) j)
 
-write-back : (n i : ℕ) (s : List ℕ) → Bytes s → scanOf n i s .number ≡ 0 → (bytesOf (wordsOf n s) ≡ s) × TakesEach judgeWord (wordsOf n s)
+write-back : (n i : ℕ) (s : List ℕ) → Bytes s → scanOf n i s .number ≡ 0 → (bytesOf (wordsOf n s) ≡ s) × TakesEach wordRefusal (wordsOf n s)
 unfolding Bytes scanOf wordsOf bytesOf Named
 write-back zero i [] B e = (refl, λ j h. absurd (omega arith))
 write-back zero i (x ∷ s) B e =
-    cond-ind (λ (a : Answer). a .number ≡ 0 → (_≡_ {A = List ℕ} [] (x ∷ s)) × TakesEach judgeWord []) (eqb (suc (length s)) 0)
+    cond-ind (λ (a : Answer). a .number ≡ 0 → (_≡_ {A = List ℕ} [] (x ∷ s)) × TakesEach wordRefusal []) (eqb (suc (length s)) 0)
     (λ h _. absurd (omega (arith, eqb-true (suc (length s)) 0 h))) (λ _ f. absurd (omega arith)) e
 write-back (suc n) i s B e =
-    go (oneOf s) refl (named s) (λ u. write-back n (i + 1) (drop u s) (λ j. rw getD-drop (B (u + j)))) e
+    go (decodeOne s) refl (named s) (λ u. write-back n (i + 1) (drop u s) (λ j. rw getD-drop (B (u + j)))) e
   where
-    go : (o : One) → o ≡ oneOf s → Named o
-        → ((u : ℕ) → scanOf n (i + 1) (drop u s) .number ≡ 0 → (bytesOf (wordsOf n (drop u s)) ≡ drop u s) × TakesEach judgeWord (wordsOf n (drop u s)))
+    go : (o : Decoded) → o ≡ decodeOne s → Named o
+        → ((u : ℕ) → scanOf n (i + 1) (drop u s) .number ≡ 0 → (bytesOf (wordsOf n (drop u s)) ≡ drop u s) × TakesEach wordRefusal (wordsOf n (drop u s)))
         → thenAnswer o i (λ u. scanOf n (i + 1) (drop u s)) .number ≡ 0
-        → (bytesOf (thenWords o (λ u. wordsOf n (drop u s))) ≡ s) × TakesEach judgeWord (thenWords o (λ u. wordsOf n (drop u s)))
+        → (bytesOf (thenWords o (λ u. wordsOf n (drop u s))) ≡ s) × TakesEach wordRefusal (thenWords o (λ u. wordsOf n (drop u s)))
     go (Word w u) eo p ih f =
         let w1 = one-front s w u B eo in
         let r = ih u f in
@@ -324,9 +324,9 @@ routine-front s room room′ B e l =
     let few : length ws ≤ mostInstructions = omega (arith, len, k .few) in
     (same, write-taken ws room′ few (back .1) ∙ rw (same, le-ltb room′ (length s) l))
 
-pub bytes-back : BytesBack
+pub bytes-round-trip : BytesRoundTrip
 unfolding Bytes
-bytes-back s words out B e l =
+bytes-round-trip s words out B e l =
     let k = read-ok s (length words) e in
     let ws = taken-words s words e _ (k .words) in
     let front = routine-front s (length words) (length out) B e l in

@@ -13,7 +13,7 @@ use Rattle.types.specs.declared.Instr.{Instr}
 use Rattle.types.specs.declared.Instr.the-variants.{HALT}
 use Rattle.types.specs.Names.{bundleLength, answer}
 use Rattle.spec.specs.Commands.{wordOf}
-use Rattle.spec.specs.Bundles.{shapeOf, bundleOf, readOff, bundleAt, isBundle, checkAnswer}
+use Rattle.spec.specs.Bundles.{shapeOf, bundleOf, decodeBundle, bundleAt, isBundle, checkAnswer}
 use Rattle.spec.specs.Claims.{Shapes, AllShaped, Checks}
 use Rattle.spec.proofs.Facts.{Valid}
 use Rattle.spec.proofs.Conditions.{four-words, bundle-parts, valid-is, some-ones, passed-of, passed-placed, passed-valid, passed-word, passed-last}
@@ -26,7 +26,7 @@ module _ (lay : Layout) (n : ℕ) where
       let z : 0 + p ≡ p = omega arith in
       rw z at (four-words (bundleOf lay n i .words) 0 (λ (q : ℕ). wordOf (shapeOf lay n i q)) refl refl refl refl p l)
 
-  found : (i : Instr) (w x y z : ℕ) → Valid n i → w ≡ wordOf (shapeOf lay n i 0) → x ≡ wordOf (shapeOf lay n i 1) → y ≡ wordOf (shapeOf lay n i 2) → z ≡ wordOf (shapeOf lay n i 3) → isBundle lay n (readOff lay w y z) w x y z ≡ true
+  found : (i : Instr) (w x y z : ℕ) → Valid n i → w ≡ wordOf (shapeOf lay n i 0) → x ≡ wordOf (shapeOf lay n i 1) → y ≡ wordOf (shapeOf lay n i 2) → z ≡ wordOf (shapeOf lay n i 3) → isBundle lay n (decodeBundle lay w y z) w x y z ≡ true
   unfolding isBundle
   found i w x y z g a b c d =
       rw (a, b, c, d, bundle-back lay n i g, is-valid lay n i g, eq-eqb (wordOf (shapeOf lay n i 0)) _ refl, eq-eqb (wordOf (shapeOf lay n i 1)) _ refl, eq-eqb (wordOf (shapeOf lay n i 2)) _ refl, eq-eqb (wordOf (shapeOf lay n i 3)) _ refl)
@@ -57,7 +57,7 @@ shapes lay n w x y z =
     record {
       shaped =
           λ t.
-          let i = readOff lay w y z in
+          let i = decodeBundle lay w y z in
           let p = bundle-parts lay n i w x y z t in
           record { instr = i; fields = is-valid lay n i (p .0); same = rw (← p .1, ← p .2, ← p .3, ← p .4) };
       found =

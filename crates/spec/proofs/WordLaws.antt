@@ -1,4 +1,4 @@
--- Laws of guest words: what a judgement of 0 gives, and fields packed and taken apart.
+-- Laws of guest words: what a refusal number of 0 gives, and fields packed and taken apart.
 use mathlib.Core.Path.{_≡_, refl}
 use mathlib.Core.Bool.{Bool, true, false, _||_}
 use Prim.Native.Nat.{ℕ, zero, suc, _+_, _*_, _/_, _≤_, _^_}
@@ -8,22 +8,22 @@ use borrow.Author.Tests.{ltb-false, le-ltb, ne-eqb}
 use Rattle.types.specs.declared.Fields.{Fields}
 use Rattle.types.specs.declared.Limits.{Limits}
 use Rattle.types.specs.Names.{topGuest, topCondition, topWord, topKind}
-use Rattle.spec.specs.Words.{kindOf, dOf, aOf, bOf, cOf, zeroOf, vOf, fieldsOf, packOf, packFields, guestLimits, lacks, hasStray, hasHigh, judgeOf}
+use Rattle.spec.specs.Words.{kindOf, dOf, aOf, bOf, cOf, zeroOf, vOf, fieldsOf, packOf, packFields, guestLimits, lacks, hasStray, hasHigh, fieldsRefusal}
 use Rattle.spec.proofs.Bools.{cond-ind, neither}
 use Rattle.spec.proofs.Tables.{all, raised}
 use Rattle.spec.proofs.Packing.{InBits, pack-kind, pack-d, pack-a, pack-b, pack-c, pack-zero, pack-v}
 
--- ---- the judgement of 0
+-- ---- the refusal number 0
 
 -- fields within limits
-pub record Kept (l : Limits) (f : Fields) : Type 0 where
+pub record InLimits (l : Limits) (f : Fields) : Type 0 where
   pub d : f .d ≤ l .d
   pub a : f .a ≤ l .a
   pub b : f .b ≤ l .b
   pub c : f .c ≤ l .c
   pub v : f .v ≤ l .v
 
-kept-of : (l : Limits) (f : Fields) → hasHigh l f ≡ false → Kept l f
+kept-of : (l : Limits) (f : Fields) → hasHigh l f ≡ false → InLimits l f
 kept-of l f e =
     let t4 = neither _ _ e in
     let t3 = neither _ _ (t4 .0) in
@@ -31,24 +31,24 @@ kept-of l f e =
     let t1 = neither _ _ (t2 .0) in
     record { d = ltb-false _ _ (t1 .0); a = ltb-false _ _ (t1 .1); b = ltb-false _ _ (t2 .1); c = ltb-false _ _ (t3 .1); v = ltb-false _ _ (t4 .1) }
 
-none-high : (l : Limits) (f : Fields) → Kept l f → hasHigh l f ≡ false
+none-high : (l : Limits) (f : Fields) → InLimits l f → hasHigh l f ≡ false
 none-high l f g = rw (le-ltb _ _ (g .d), le-ltb _ _ (g .a), le-ltb _ _ (g .b), le-ltb _ _ (g .c), le-ltb _ _ (g .v))
 
 has : (most x : ℕ) → x ≤ most → lacks most x ≡ false
 has zero x h = rw (le-ltb 0 x h)
 has (suc most) x h = rw (ne-eqb (suc most) 0 (λ (e : suc most ≡ 0). omega arith))
 
-none-stray : (l : Limits) (f : Fields) → Kept l f → hasStray l f ≡ false
+none-stray : (l : Limits) (f : Fields) → InLimits l f → hasStray l f ≡ false
 none-stray l f g = rw (has _ _ (g .d), has _ _ (g .a), has _ _ (g .b), has _ _ (g .c), has _ _ (g .v))
 
 -- what an instruction that is not refused has
 pub record Good (x : Bool) (f : Fields) : Type 0 where
   pub kind : f .kind ≤ topKind
   pub clean : x ≡ false
-  pub kept : Kept (guestLimits (f .kind)) f
+  pub kept : InLimits (guestLimits (f .kind)) f
 
-pub good : (x : Bool) (f : Fields) → judgeOf x f ≡ 0 → Good x f
-unfolding judgeOf
+pub good : (x : Bool) (f : Fields) → fieldsRefusal x f ≡ 0 → Good x f
+unfolding fieldsRefusal
 good x f =
     let P : ℕ → Type 0 = λ y. y ≡ 0 → Good x f in
     let l = guestLimits (f .kind) in
@@ -57,12 +57,12 @@ good x f =
     cond-ind P (hasHigh l f) (λ _ e. absurd (omega arith)) (λ h2 _.
     record { kind = ltb-false topKind (f .kind) h0; clean = neither _ _ h1 .0; kept = kept-of l f h2 })))
 
-pub judged : (x : Bool) (f : Fields) → Good x f → judgeOf x f ≡ 0
-unfolding judgeOf
+pub judged : (x : Bool) (f : Fields) → Good x f → fieldsRefusal x f ≡ 0
+unfolding fieldsRefusal
 judged x f g =
     rw (le-ltb topKind (f .kind) (g .kind), g .clean, none-stray (guestLimits (f .kind)) f (g .kept), none-high (guestLimits (f .kind)) f (g .kept))
 
--- the bounds that a judgement of 0 gives
+-- the bounds that a refusal number of 0 gives
 pub record Bounds (f : Fields) : Type 0 where
   pub kind : f .kind ≤ topKind
   pub d : f .d ≤ topGuest
@@ -75,7 +75,7 @@ pub record Bounds (f : Fields) : Type 0 where
 bounded : (f : Limits → ℕ) (top : ℕ) → all (λ k. leb (f (guestLimits k)) top) (topKind + 1) ≡ true → (k x : ℕ) → k ≤ topKind → x ≤ f (guestLimits k) → x ≤ top
 bounded f top e k x l h = raised (λ k. f (guestLimits k)) (λ _. top) (topKind + 1) e k x (omega arith) h
 
-pub bounds : (x : Bool) (f : Fields) → judgeOf x f ≡ 0 → Bounds f
+pub bounds : (x : Bool) (f : Fields) → fieldsRefusal x f ≡ 0 → Bounds f
 unfolding all
 bounds x f e =
     let g = good x f e in
@@ -89,7 +89,7 @@ bounds x f e =
     }
 
 -- nothing foreign in the form itself
-pub clean : (x : Bool) (f : Fields) → judgeOf x f ≡ 0 → x ≡ false
+pub clean : (x : Bool) (f : Fields) → fieldsRefusal x f ≡ 0 → x ≡ false
 clean x f e = good x f e .clean
 
 -- ---- fields packed and taken apart

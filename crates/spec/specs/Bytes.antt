@@ -1,8 +1,8 @@
 -- A routine's bytes: what reading and writing answer and leave.
-use Rattle.spec.specs.Kit.{ℕ, zero, suc, _+_, _*_, _/_, _%_, min, not, cond, List, [], _∷_, _++_, length, getD, drop, ltb, eqb}
-use Rattle.spec.specs.Types.{Fields, Answer, One, Word, RefusedWith, Taken, Short, Foreign, Oversize, Trailing, SmallOutput}
+use Rattle.spec.specs.Prelude.{ℕ, zero, suc, _+_, _*_, _/_, _%_, min, not, cond, List, [], _∷_, _++_, length, getD, drop, ltb, eqb}
+use Rattle.spec.specs.Types.{Fields, Answer, Decoded, Word, RefusedWith, Taken, Short, Foreign, Oversize, Trailing, SmallOutput}
 use Rattle.types.specs.Names.{mostInstructions, numberOf, answer, refusal, outputOf, roomFor, first}
-use Rattle.spec.specs.Words.{judgeOf, judgeWord, firstRefused, fieldsOf, packFields}
+use Rattle.spec.specs.Words.{fieldsRefusal, wordRefusal, firstRefused, fieldsOf, packFields}
 
 -- 1 of a number that is not 0
 abbrev pub bitOf : ℕ → ℕ
@@ -40,42 +40,42 @@ fieldsAt m s =
     }
 
 -- an instruction, or its refusal x
-abbrev pub orRefused : ℕ → One → One
+abbrev pub orRefused : ℕ → Decoded → Decoded
 orRefused x o = cond (eqb x 0) o (RefusedWith x)
 
 -- 3, 2, 4; a present field that is 0, which is foreign, makes the map another than the fields'
-unfoldable pub oneFields : ℕ → Fields → One
-oneFields m f = orRefused (judgeOf (not (eqb m (mapOf f))) f) (Word (packFields f) (sizeOf m))
+unfoldable pub decodeFields : ℕ → Fields → Decoded
+decodeFields m f = orRefused (fieldsRefusal (not (eqb m (mapOf f))) f) (Word (packFields f) (sizeOf m))
 
 -- map 2, then 1
-unfoldable pub oneMap : ℕ → List ℕ → One
-oneMap m s =
+unfoldable pub decodeMap : ℕ → List ℕ → Decoded
+decodeMap m s =
     cond (ltb 63 m) (RefusedWith (numberOf Foreign))
-    (cond (ltb (length s) (sizeOf m)) (RefusedWith (numberOf Short)) (oneFields m (fieldsAt m s)))
+    (cond (ltb (length s) (sizeOf m)) (RefusedWith (numberOf Short)) (decodeFields m (fieldsAt m s)))
 
 -- the instruction at the front of s; a missing map byte is 1
-unfoldable pub oneOf : List ℕ → One
-oneOf s = cond (eqb (length s) 0) (RefusedWith (numberOf Short)) (oneMap (getD s 0 0) s)
+unfoldable pub decodeOne : List ℕ → Decoded
+decodeOne s = cond (eqb (length s) 0) (RefusedWith (numberOf Short)) (decodeMap (getD s 0 0) s)
 
 -- the answer for what follows an instruction's bytes, or the instruction's own refusal at place i
-abbrev pub thenAnswer : One → ℕ → (ℕ → Answer) → Answer
+abbrev pub thenAnswer : Decoded → ℕ → (ℕ → Answer) → Answer
 thenAnswer (Word w u) i go = go u
 thenAnswer (RefusedWith x) i go = answer x i
 
 -- n instructions from s on, the first of them at place i, then 6
 unfoldable pub scanOf : ℕ → ℕ → List ℕ → Answer
 scanOf zero i s = cond (eqb (length s) 0) (answer (numberOf Taken) i) (refusal Trailing 0)
-scanOf (suc n) i s = thenAnswer (oneOf s) i (λ u. scanOf n (i + 1) (drop u s))
+scanOf (suc n) i s = thenAnswer (decodeOne s) i (λ u. scanOf n (i + 1) (drop u s))
 
 -- an instruction's word and the words of what follows its bytes, or none where it is refused
-abbrev pub thenWords : One → (ℕ → List ℕ) → List ℕ
+abbrev pub thenWords : Decoded → (ℕ → List ℕ) → List ℕ
 thenWords (Word w u) go = w ∷ go u
 thenWords (RefusedWith x) go = []
 
 -- the words of n instructions from s on
 unfoldable pub wordsOf : ℕ → List ℕ → List ℕ
 wordsOf zero s = []
-wordsOf (suc n) s = thenWords (oneOf s) (λ u. wordsOf n (drop u s))
+wordsOf (suc n) s = thenWords (decodeOne s) (λ u. wordsOf n (drop u s))
 
 -- 'n in two bytes, low first'
 abbrev pub countOf : List ℕ → ℕ
@@ -114,12 +114,12 @@ unfoldable pub fieldsOut : Fields → List ℕ
 fieldsOut f = mapOf f ∷ (byteOut (f .kind) ++ (regsOut f ++ quadOut (f .v)))
 
 -- the bytes of a word, and of a list of words
-abbrev pub oneOut : ℕ → List ℕ
-oneOut w = fieldsOut (fieldsOf w)
+abbrev pub encodeOne : ℕ → List ℕ
+encodeOne w = fieldsOut (fieldsOf w)
 
 unfoldable pub bytesOf : List ℕ → List ℕ
 bytesOf [] = []
-bytesOf (w ∷ ws) = oneOut w ++ bytesOf ws
+bytesOf (w ∷ ws) = encodeOne w ++ bytesOf ws
 
 -- the bytes of a routine: 'n in two bytes, low first, then n instructions'
 unfoldable pub routineOf : List ℕ → List ℕ
@@ -128,7 +128,7 @@ routineOf ws = length ws % 256 ∷ length ws / 256 ∷ bytesOf ws
 -- 'Writing: 5; per word 3, 2, 4; then 9'
 unfoldable pub writeAnswer : List ℕ → ℕ → Answer
 writeAnswer ws room =
-    cond (ltb mostInstructions (length ws)) (refusal Oversize 0) (firstRefused judgeWord ws 0 (roomFor room (length (routineOf ws))))
+    cond (ltb mostInstructions (length ws)) (refusal Oversize 0) (firstRefused wordRefusal ws 0 (roomFor room (length (routineOf ws))))
 
 -- what the output holds after writing
 unfoldable pub writeOutput : List ℕ → List ℕ → List ℕ

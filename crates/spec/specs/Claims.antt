@@ -1,5 +1,5 @@
 -- What is claimed of the definitions. Each claim is a type; its proof has the claim's name in small letters, in proofs/.
-use Rattle.spec.specs.Kit.{ℕ, suc, _+_, _-_, _*_, _/_, _%_, _^_, _<_, _≤_, _≡_, true, false, _⊎_, List, [], _∷_, _++_, length, getD, take, drop, ones, pos, sucℤ, _*ℤ_, _≤ℤ_, _<ℤ_, ltb}
+use Rattle.spec.specs.Prelude.{ℕ, suc, _+_, _-_, _*_, _/_, _%_, _^_, _<_, _≤_, _≡_, true, false, _⊎_, List, [], _∷_, _++_, length, getD, take, drop, ones, pos, sucℤ, _*ℤ_, _≤ℤ_, _<ℤ_, ltb}
 use Rattle.spec.specs.Types.{Layout, Instr, HALT, EVENT, Machine, Outcome, Status, Running, Ended, Stopped, Faulted, Strayed, Ending, Done, NoArrow, Fault, LogFull, Silent, Spent, NoLanding, Refused, BadLayout}
 use Rattle.types.specs.Names.{events, orders, noArrow, mostInstructions, mostBundles, bundleLength, bundleShift, landingCells, cellBits, guestRegisters, numberOf, answer, endingNumber}
 use Rattle.spec.specs.Signed.{twos, sarOf, lessOf}
@@ -9,11 +9,11 @@ use Rattle.spec.specs.Landings.{listed, landingsOf, bitAt, marked}
 use Rattle.spec.specs.Words.{routine, bundlesFor}
 use Rattle.spec.specs.Bytes.{readAnswer, readOutput, writeAnswer, writeOutput}
 use Rattle.spec.specs.Commands.{shlOf, fetchOf}
-use Rattle.spec.specs.Bundles.{addressOf, lastAddress, positionOf, shapeOf, bundleOf, valid, readOff, bundleAt, isBundle, baseRight, countRight, commandsOf, rewriteAnswer, rewriteOutput, checkAnswer}
-use Rattle.spec.specs.Machines.{State, onward, Ran, ranOf, leftIn, fits, runFrom, runOf, installAnswer, installMemory}
+use Rattle.spec.specs.Bundles.{addressOf, lastAddress, positionOf, shapeOf, bundleOf, valid, decodeBundle, bundleAt, isBundle, baseRight, countRight, commandsOf, rewriteAnswer, rewriteOutput, checkAnswer}
+use Rattle.spec.specs.Machines.{State, nextPc, RunResult, runResultOf, finalState, fits, runFrom, runOf, installAnswer, installMemory}
 use Rattle.types.specs.Records.{outcomeOf}
 use Rattle.spec.specs.Guests.{Pair, Guest, guestAfter, guestStart, boxOf}
-use Rattle.spec.specs.Runs.{begins, begunFrom, Given, Every, Each, eachRun, Carried, afterRun, runAs, allRuns, after, Run, recordedIn, Matches, Lent, Served, pairsOf, eventsOf, waitingAt, pendingAt}
+use Rattle.spec.specs.Runs.{begins, begunFrom, RunInput, Every, Pairwise, eachRun, Session, afterRun, runAs, allRuns, after, Run, recordedIn, LowEqual, MemoryPreserved, HostPremise, pairsOf, eventsOf, waitingAt, pendingAt}
 
 -- ---- masks and sizes
 
@@ -69,21 +69,21 @@ Signs = (x y v : ℕ) → x < 2 ^ 32 → y < 2 ^ 32 → SignLaws x y v
 -- ---- bytes
 
 -- 'Words that writing takes are read again as the same words'
-pub record ReadsBack (ws out words : List ℕ) : Type 0 where
+pub record ReadAfterWrite (ws out words : List ℕ) : Type 0 where
   pub answers : readAnswer (take (writeAnswer ws (length out) .place) (writeOutput ws out)) (length words) ≡ answer 0 (length ws)
   pub leaves : take (length ws) (readOutput (take (writeAnswer ws (length out) .place) (writeOutput ws out)) words) ≡ ws
 
-abbrev pub WordsBack : Type 0
-WordsBack = (ws out words : List ℕ) → writeAnswer ws (length out) .number ≡ 0 → length ws ≤ length words → ReadsBack ws out words
+abbrev pub WordsRoundTrip : Type 0
+WordsRoundTrip = (ws out words : List ℕ) → writeAnswer ws (length out) .number ≡ 0 → length ws ≤ length words → ReadAfterWrite ws out words
 
 -- 'bytes that reading takes are written again as the same bytes'
-pub record WritesBack (bytes words out : List ℕ) : Type 0 where
+pub record WriteAfterRead (bytes words out : List ℕ) : Type 0 where
   pub answers : writeAnswer (take (readAnswer bytes (length words) .place) (readOutput bytes words)) (length out) ≡ answer 0 (length bytes)
   pub leaves : take (length bytes) (writeOutput (take (readAnswer bytes (length words) .place) (readOutput bytes words)) out) ≡ bytes
 
-abbrev pub BytesBack : Type 0
-BytesBack =
-    (bytes words out : List ℕ) → ((j : ℕ) → getD bytes j 0 < 256) → readAnswer bytes (length words) .number ≡ 0 → length bytes ≤ length out → WritesBack bytes words out
+abbrev pub BytesRoundTrip : Type 0
+BytesRoundTrip =
+    (bytes words out : List ℕ) → ((j : ℕ) → getD bytes j 0 < 256) → readAnswer bytes (length words) .number ≡ 0 → length bytes ≤ length out → WriteAfterRead bytes words out
 
 -- ---- rewriter and checker
 
@@ -117,8 +117,8 @@ pub record Shaped (lay : Layout) (N : ℕ) (words : List ℕ) : Type 0 where
 -- four words are the bundle of the instruction that is read off them exactly if they are the bundle of some valid instruction:
 -- how it is read off need not be believed
 pub record ShapeLaws (lay : Layout) (N w x y z : ℕ) : Type 0 where
-  pub shaped : isBundle lay N (readOff lay w y z) w x y z ≡ true → Shaped lay N (w ∷ x ∷ y ∷ z ∷ [])
-  pub found : Shaped lay N (w ∷ x ∷ y ∷ z ∷ []) → isBundle lay N (readOff lay w y z) w x y z ≡ true
+  pub shaped : isBundle lay N (decodeBundle lay w y z) w x y z ≡ true → Shaped lay N (w ∷ x ∷ y ∷ z ∷ [])
+  pub found : Shaped lay N (w ∷ x ∷ y ∷ z ∷ []) → isBundle lay N (decodeBundle lay w y z) w x y z ≡ true
 
 abbrev pub Shapes : Type 0
 Shapes = (lay : Layout) (N w x y z : ℕ) → ShapeLaws lay N w x y z
@@ -165,9 +165,9 @@ statusAfter Refused = Running
 
 -- a run answers 7 exactly where the layout is not right or the lent memory's length not U, and then leaves all as it was;
 -- any other answers 20, 21, 22 or 26 exactly where its record has ended, stopped, faulted or strayed
-pub record EndingLaws (lay : Layout) (m : Machine) (mem log : List ℕ) (r : Ran) : Type 0 where
+pub record EndingLaws (lay : Layout) (m : Machine) (mem log : List ℕ) (r : RunResult) : Type 0 where
   pub refused : endingNumber (r .outcome .answer .ending) ≡ numberOf BadLayout → fits lay mem ≡ false
-  pub refuses : fits lay mem ≡ false → r ≡ ranOf (outcomeOf m Refused 0 0 0) mem log
+  pub refuses : fits lay mem ≡ false → r ≡ runResultOf (outcomeOf m Refused 0 0 0) mem log
   pub status : fits lay mem ≡ true → r .outcome .machine .status ≡ statusAfter (r .outcome .answer .ending)
 
 abbrev pub Endings : Type 0
@@ -178,36 +178,36 @@ Endings =
 -- ---- every moment
 
 -- a run with a budget above j comes to where the run with budget j ends, and goes on from there as a run does; so do the bundles begun
-pub record SplitLaws (lay : Layout) (ws reads : List ℕ) (j l k b : ℕ) (s : State) : Type 0 where
+pub record ComposeLaws (lay : Layout) (ws reads : List ℕ) (j l k b : ℕ) (s : State) : Type 0 where
   pub run :
       let r = runFrom lay ws reads j k s in
-      runFrom lay ws reads (j + suc l) k s ≡ runFrom lay ws reads (suc l) (r .outcome .answer .steps) (leftIn r)
+      runFrom lay ws reads (j + suc l) k s ≡ runFrom lay ws reads (suc l) (r .outcome .answer .steps) (finalState r)
   pub begun :
       let r = runFrom lay ws reads j k s in
-      begunFrom lay ws reads (j + suc l) b s ≡ begunFrom lay ws reads (suc l) (begunFrom lay ws reads j b s) (leftIn r)
+      begunFrom lay ws reads (j + suc l) b s ≡ begunFrom lay ws reads (suc l) (begunFrom lay ws reads j b s) (finalState r)
 
-abbrev pub Splits : Type 0
-Splits = (lay : Layout) (ws reads : List ℕ) (j l k b : ℕ) (s : State) → SplitLaws lay ws reads j l k b s
+abbrev pub RunsCompose : Type 0
+RunsCompose = (lay : Layout) (ws reads : List ℕ) (j l k b : ℕ) (s : State) → ComposeLaws lay ws reads j l k b s
 
--- what a run is given, with another budget
-abbrev pub givenFor : Given → ℕ → Given
-givenFor g j = record { memory = g .memory; budget = j; readings = g .readings; log = g .log }
+-- a run's input, with another budget
+abbrev pub withBudget : RunInput → ℕ → RunInput
+withBudget g j = record { memory = g .memory; budget = j; readings = g .readings; log = g .log }
 
 -- a list of runs cut off within a run is on the premise too
-abbrev pub Cuts : Type 0
-Cuts =
-    (lay : Layout) (pol : Policy) (ws mem : List ℕ) (xs ys : List Given) (g : Given) (j : ℕ) →
-    Served lay pol ws mem (xs ++ (g ∷ ys)) → Served lay pol ws mem (xs ++ (givenFor g j ∷ []))
+abbrev pub PrefixClosed : Type 0
+PrefixClosed =
+    (lay : Layout) (pol : Policy) (ws mem : List ℕ) (xs ys : List RunInput) (g : RunInput) (j : ℕ) →
+    HostPremise lay pol ws mem (xs ++ (g ∷ ys)) → HostPremise lay pol ws mem (xs ++ (withBudget g j ∷ []))
 
 -- ---- the guest rule
 
--- on the first command of a bundle, or no longer running
-abbrev pub Stands : Layout → Machine → Type 0
-Stands lay m = (positionOf lay (m .pc) ≡ 0) ⊎ (m .status ≡ Running → ⊥)
+-- at a boundary: on the first command of a bundle, or no longer running
+abbrev pub AtBoundary : Layout → Machine → Type 0
+AtBoundary lay m = (positionOf lay (m .pc) ≡ 0) ⊎ (m .status ≡ Running → ⊥)
 
 -- 'on ending, r0 to' r14 (since request 6), 'sandbox, state cell, records and readings used'; and on the instruction to come, in whose bundle pc is at position p.
 -- The ending is the record's status: by Endings a run answers 20, 21 or 26 exactly where it has ended, stopped or strayed
-pub record AgreesAt (lay : Layout) (p : ℕ) (g : Guest) (c : Carried) : Type 0 where
+pub record SimulatesAt (lay : Layout) (p : ℕ) (g : Guest) (c : Session) : Type 0 where
   pub ending : c .machine .status ≡ g .status
   pub regs : take guestRegisters (c .machine .regs) ≡ g .regs
   pub box : boxOf lay (c .memory) ≡ g .box
@@ -216,11 +216,11 @@ pub record AgreesAt (lay : Layout) (p : ℕ) (g : Guest) (c : Carried) : Type 0 
   pub used : length (c .consumed) ≡ g .used
   pub next : c .machine .status ≡ Running → c .machine .pc ≡ addressOf lay (g .at) + p
 
-abbrev pub Agrees : Layout → Guest → Carried → Type 0
-Agrees lay g c = AgreesAt lay 0 g c
+abbrev pub Simulates : Layout → Guest → Session → Type 0
+Simulates lay g c = SimulatesAt lay 0 g c
 
 -- the guest after k instructions of a routine, 'from instruction 0, registers 0', given the readings that the runs used
-abbrev pub guestFor : Layout → Policy → List ℕ → List ℕ → Carried → ℕ → Guest
+abbrev pub guestFor : Layout → Policy → List ℕ → List ℕ → Session → ℕ → Guest
 guestFor lay pol code mem c k = guestAfter lay pol (bundlesFor (length code)) (routine code) (c .consumed) (guestStart lay pol (installMemory lay pol mem)) k
 
 -- 'Guest rule (from instruction 0, registers 0) and machine are compared from installation on, on demand 3's premise, at each first command of a bundle and at every end or stop':
@@ -228,21 +228,21 @@ guestFor lay pol code mem c k = guestAfter lay pol (bundlesFor (length code)) (r
 -- A list of runs may end anywhere and budgets are any, so this speaks of every moment
 abbrev pub GuestRule : Type 0
 GuestRule =
-    (lay : Layout) (pol : Policy) (code mem : List ℕ) (room : ℕ) (gs : List Given) → rewriteAnswer lay code room .number ≡ 0 →
+    (lay : Layout) (pol : Policy) (code mem : List ℕ) (room : ℕ) (gs : List RunInput) → rewriteAnswer lay code room .number ≡ 0 →
     let c = after lay pol (commandsOf lay code) mem gs in
-    Served lay pol (commandsOf lay code) mem gs → Stands lay (c .machine) → Agrees lay (guestFor lay pol code mem c (c .begun)) c
+    HostPremise lay pol (commandsOf lay code) mem gs → AtBoundary lay (c .machine) → Simulates lay (guestFor lay pol code mem c (c .begun)) c
 
 -- ---- progress: a machine that can go on reaches the next place of comparison in at most four steps
 
--- after a run of at most four steps the machine stands again, with b bundles begun
-pub record Proceeds (lay : Layout) (ws : List ℕ) (c : Carried) (g : Given) (b : ℕ) : Type 0 where
+-- after a run of at most four steps the machine is at a boundary again, with b bundles begun
+pub record ReachesBoundary (lay : Layout) (ws : List ℕ) (c : Session) (g : RunInput) (b : ℕ) : Type 0 where
   pub budget : ℕ
   pub few : budget ≤ bundleLength
-  pub stands : Stands lay (afterRun lay ws c (givenFor g budget) .machine)
-  pub begun : afterRun lay ws c (givenFor g budget) .begun ≡ b
+  pub boundary : AtBoundary lay (afterRun lay ws c (withBudget g budget) .machine)
+  pub begun : afterRun lay ws c (withBudget g budget) .begun ≡ b
 
 -- a run that is lent its memory, a free pair of the log and a reading
-pub record Enough (lay : Layout) (g : Given) : Type 0 where
+pub record Resumable (lay : Layout) (g : RunInput) : Type 0 where
   pub memory : length (g .memory) ≡ lay .size
   pub log : 2 ≤ length (g .log)
   pub readings : 1 ≤ length (g .readings)
@@ -251,57 +251,57 @@ pub record Enough (lay : Layout) (g : Given) : Type 0 where
 -- place of comparison; no bundle is begun on the way but the one on whose first command it is
 abbrev pub Resumes : Type 0
 Resumes =
-    (lay : Layout) (pol : Policy) (ws mem : List ℕ) (gs : List Given) → Served lay pol ws mem gs →
+    (lay : Layout) (pol : Policy) (ws mem : List ℕ) (gs : List RunInput) → HostPremise lay pol ws mem gs →
     let c = after lay pol ws mem gs in
-    c .machine .status ≡ Running → (g : Given) → Lent lay (c .memory) g → Enough lay g →
-    Proceeds lay ws c g (c .begun + begins lay (c .machine .pc))
+    c .machine .status ≡ Running → (g : RunInput) → MemoryPreserved lay (c .memory) g → Resumable lay g →
+    ReachesBoundary lay ws c g (c .begun + begins lay (c .machine .pc))
 
--- so one that stands comes one bundle on
+-- so one at a boundary comes one bundle on
 abbrev pub Progress : Type 0
 Progress =
-    (lay : Layout) (pol : Policy) (ws mem : List ℕ) (gs : List Given) → Served lay pol ws mem gs →
+    (lay : Layout) (pol : Policy) (ws mem : List ℕ) (gs : List RunInput) → HostPremise lay pol ws mem gs →
     let c = after lay pol ws mem gs in
-    Stands lay (c .machine) → c .machine .status ≡ Running →
-    (g : Given) → Lent lay (c .memory) g → Enough lay g → Proceeds lay ws c g (c .begun + 1)
+    AtBoundary lay (c .machine) → c .machine .status ≡ Running →
+    (g : RunInput) → MemoryPreserved lay (c .memory) g → Resumable lay g → ReachesBoundary lay ws c g (c .begun + 1)
 
 -- ---- isolation
 
 -- the pairs carried from run to run are those that the runs' answers count: whichever of the two a claim names, it is the same record
 abbrev pub Recorded : Type 0
-Recorded = (lay : Layout) (pol : Policy) (ws mem : List ℕ) (gs : List Given) → after lay pol ws mem gs .records ≡ recordedIn (allRuns lay pol ws mem gs)
+Recorded = (lay : Layout) (pol : Policy) (ws mem : List ℕ) (gs : List RunInput) → after lay pol ws mem gs .records ≡ recordedIn (allRuns lay pol ws mem gs)
 
 -- request 2: an order's pair is at most its ceiling; of every list of runs of any commands, from any record
 abbrev pub Limited : Layout → Pair → Type 0
 Limited lay p = p .event < orders → p .value ≤ getD (lay .ceilings) (p .event) 0
 
 abbrev pub Ceilings : Type 0
-Ceilings = (lay : Layout) (ws : List ℕ) (c : Carried) (gs : List Given) → Every (Limited lay) (recordedIn (eachRun (runAs lay ws) (afterRun lay ws) c gs))
+Ceilings = (lay : Layout) (ws : List ℕ) (c : Session) (gs : List RunInput) → Every (Limited lay) (recordedIn (eachRun (runAs lay ws) (afterRun lay ws) c gs))
 
 -- a run does not answer 22, fault
 abbrev pub Faultless : {O : Type 0} → Run O → Type 0
 Faultless r = r .number ≡ endingNumber Fault → ⊥
 
--- a run leaves its memory's length and every cell outside the sandbox but the state cell as it found them; the pairs that it counts
+-- the frame condition: a run leaves its memory's length and every cell outside the sandbox but the state cell as it found them; the pairs that it counts
 -- are in its log, the readings among those it was given; beyond the counted pairs a log is as it was found
-pub record Kept {O : Type 0} (lay : Layout) (r : Run O) : Type 0 where
-  pub size : length (r .ran .mem) ≡ length (r .given .memory)
-  pub cells : (i : ℕ) → inBox lay i ≡ false → (i ≡ lay .cell → ⊥) → getD (r .ran .mem) i 0 ≡ getD (r .given .memory) i 0
-  pub counted : 2 * r .pairs ≤ length (r .ran .log)
-  pub drawn : r .used ≤ length (r .given .readings)
-  pub logSize : length (r .ran .log) ≡ length (r .given .log)
-  pub logRest : (i : ℕ) → 2 * r .pairs ≤ i → getD (r .ran .log) i 0 ≡ getD (r .given .log) i 0
+pub record FrameCondition {O : Type 0} (lay : Layout) (r : Run O) : Type 0 where
+  pub size : length (r .result .mem) ≡ length (r .input .memory)
+  pub cells : (i : ℕ) → inBox lay i ≡ false → (i ≡ lay .cell → ⊥) → getD (r .result .mem) i 0 ≡ getD (r .input .memory) i 0
+  pub counted : 2 * r .pairs ≤ length (r .result .log)
+  pub drawn : r .used ≤ length (r .input .readings)
+  pub logSize : length (r .result .log) ≡ length (r .input .log)
+  pub logRest : (i : ℕ) → 2 * r .pairs ≤ i → getD (r .result .log) i 0 ≡ getD (r .input .log) i 0
 
 -- two runs given the same readings and budget, and logs and memories of the same lengths
-pub record Alike (g g′ : Given) : Type 0 where
+pub record SameInputs (g g′ : RunInput) : Type 0 where
   pub readings : g .readings ≡ g′ .readings
   pub budget : g .budget ≡ g′ .budget
   pub log : length (g .log) ≡ length (g′ .log)
   pub memory : length (g .memory) ≡ length (g′ .memory)
 
 -- two runs with the same answer and record, the same logged pairs, and after them the same state cell and sandbox
-pub record Same {O : Type 0} (lay : Layout) (r r′ : Run O) : Type 0 where
-  pub outcome : r .ran .outcome ≡ r′ .ran .outcome
-  pub logged : pairsOf (r .ran .log) (r .pairs) ≡ pairsOf (r′ .ran .log) (r′ .pairs)
+pub record SameObservations {O : Type 0} (lay : Layout) (r r′ : Run O) : Type 0 where
+  pub outcome : r .result .outcome ≡ r′ .result .outcome
+  pub logged : pairsOf (r .result .log) (r .pairs) ≡ pairsOf (r′ .result .log) (r′ .pairs)
   pub cell : getD (r .memory) (lay .cell) 0 ≡ getD (r′ .memory) (lay .cell) 0
   pub box : (i : ℕ) → inBox lay i ≡ true → getD (r .memory) i 0 ≡ getD (r′ .memory) i 0
 
@@ -309,41 +309,41 @@ pub record Same {O : Type 0} (lay : Layout) (r r′ : Run O) : Type 0 where
 -- (a) no run faults; (b) each leaves every cell outside the sandbox but the state cell as it found it, and its log beyond the counted pairs,
 --     so that in the end table and landing cells are as installing left them;
 -- (c) the events of all counted pairs, log after log, are a list that the policy allows;
--- (d) a second list, from an installation alike in sandbox and protected cells, its runs given alike, does the same run by run:
+-- (d) noninterference: a second list, from a low-equivalent installation, its runs given the same inputs, shows the same run by run:
 --     free memory and what logs held before have no influence
-pub record Isolated (lay : Layout) (pol : Policy) (ws mem : List ℕ) (gs : List Given) : Type 0 where
-  pub sound : Every Faultless (allRuns lay pol ws mem gs)
-  pub kept : Every (Kept lay) (allRuns lay pol ws mem gs)
-  pub lasting : (i : ℕ) → protected lay i ≡ true → (i ≡ lay .cell → ⊥) → getD (after lay pol ws mem gs .memory) i 0 ≡ getD (installMemory lay pol mem) i 0
+pub record Isolated (lay : Layout) (pol : Policy) (ws mem : List ℕ) (gs : List RunInput) : Type 0 where
+  pub faultless : Every Faultless (allRuns lay pol ws mem gs)
+  pub frame : Every (FrameCondition lay) (allRuns lay pol ws mem gs)
+  pub protectedKept : (i : ℕ) → protected lay i ≡ true → (i ≡ lay .cell → ⊥) → getD (after lay pol ws mem gs .memory) i 0 ≡ getD (installMemory lay pol mem) i 0
   pub allowed : allowed pol (eventsOf (recordedIn (allRuns lay pol ws mem gs))) ≡ true
-  pub alone :
-      (pol′ : Policy) (mem′ : List ℕ) (gs′ : List Given) → Served lay pol′ ws mem′ gs′ →
-      Matches lay (installMemory lay pol mem) (installMemory lay pol′ mem′) → Each Alike gs gs′ →
-      Each (Same lay) (allRuns lay pol ws mem gs) (allRuns lay pol′ ws mem′ gs′)
+  pub noninterference :
+      (pol′ : Policy) (mem′ : List ℕ) (gs′ : List RunInput) → HostPremise lay pol′ ws mem′ gs′ →
+      LowEqual lay (installMemory lay pol mem) (installMemory lay pol′ mem′) → Pairwise SameInputs gs gs′ →
+      Pairwise (SameObservations lay) (allRuns lay pol ws mem gs) (allRuns lay pol′ ws mem′ gs′)
 
 -- demand 3
 abbrev pub Isolation : Type 0
-Isolation = (lay : Layout) (pol : Policy) (ws mem : List ℕ) (gs : List Given) → Served lay pol ws mem gs → Isolated lay pol ws mem gs
+Isolation = (lay : Layout) (pol : Policy) (ws mem : List ℕ) (gs : List RunInput) → HostPremise lay pol ws mem gs → Isolated lay pol ws mem gs
 
 -- ---- the pc
 
 -- 'The pc wraps at 2^32, which a passed routine, on demand 3's premise, never does': it stays in the list, which ends at 2^32 or before it,
 -- and where one more step goes on by one, that is no wrap
-pub record PcLaws (lay : Layout) (ws : List ℕ) (c : Carried) : Type 0 where
+pub record PcLaws (lay : Layout) (ws : List ℕ) (c : Session) : Type 0 where
   pub from : lay .base ≤ c .machine .pc
   pub within : c .machine .pc < lay .base + length ws
   pub top : lay .base + length ws ≤ 2 ^ 32
-  pub onward : (g : Given) → Lent lay (c .memory) g → afterRun lay ws c (givenFor g 1) .machine .pc ≡ onward (c .machine .pc) → c .machine .pc + 1 < 2 ^ 32
+  pub nextPc : (g : RunInput) → MemoryPreserved lay (c .memory) g → afterRun lay ws c (withBudget g 1) .machine .pc ≡ nextPc (c .machine .pc) → c .machine .pc + 1 < 2 ^ 32
 
 -- at every moment: a list of runs may end anywhere
 abbrev pub NoWrap : Type 0
-NoWrap = (lay : Layout) (pol : Policy) (ws mem : List ℕ) (gs : List Given) → Served lay pol ws mem gs → PcLaws lay ws (after lay pol ws mem gs)
+NoWrap = (lay : Layout) (pol : Policy) (ws mem : List ℕ) (gs : List RunInput) → HostPremise lay pol ws mem gs → PcLaws lay ws (after lay pol ws mem gs)
 
 -- ---- the state cell
 
 -- 'the state cell is the policy's state over the recorded events … but for one point. With pc on the fourth command of an event bundle …
 -- it is behind by that one event': it is the state over `kept`, the recorded events without that one, which is the last
-pub record CellLaws (lay : Layout) (pol : Policy) (ws : List ℕ) (c : Carried) : Type 0 where
+pub record CellLaws (lay : Layout) (pol : Policy) (ws : List ℕ) (c : Session) : Type 0 where
   pub kept : List ℕ
   pub recorded : eventsOf (c .records) ≡ kept ++ pendingAt lay ws (c .machine)
   pub state : getD (c .memory) (lay .cell) 0 ≡ stateOver pol kept
@@ -352,12 +352,12 @@ pub record CellLaws (lay : Layout) (pol : Policy) (ws : List ℕ) (c : Carried) 
 -- 'which only a spent budget can show': a run that leaves pc there answers 25; a refused one leaves pc where it was
 abbrev pub OnlySpent : Layout → List ℕ → Run Outcome → Type 0
 OnlySpent lay ws r =
-    (r .ran .outcome .answer .ending ≡ Refused → ⊥) → (pendingAt lay ws (r .ran .outcome .machine) ≡ [] → ⊥) → r .number ≡ endingNumber Spent
+    (r .result .outcome .answer .ending ≡ Refused → ⊥) → (pendingAt lay ws (r .result .outcome .machine) ≡ [] → ⊥) → r .number ≡ endingNumber Spent
 
 -- at every moment, those of pauses too: a list of runs may end anywhere
 abbrev pub StateCell : Type 0
 StateCell =
-    (lay : Layout) (pol : Policy) (ws mem : List ℕ) (gs : List Given) → Served lay pol ws mem gs →
+    (lay : Layout) (pol : Policy) (ws mem : List ℕ) (gs : List RunInput) → HostPremise lay pol ws mem gs →
     CellLaws lay pol ws (after lay pol ws mem gs) × Every (OnlySpent lay ws) (allRuns lay pol ws mem gs)
 
 -- ---- pauses for log or probe
@@ -374,19 +374,19 @@ pub record Waiting (lay : Layout) (ws : List ℕ) (m : Machine) : Type 0 where
 
 abbrev pub PausedWaits : Type 0
 PausedWaits =
-    (lay : Layout) (pol : Policy) (ws mem : List ℕ) (gs : List Given) → Served lay pol ws mem gs →
-    Every (λ r. Paused (r .ran .outcome .answer .ending) → Waiting lay ws (r .ran .outcome .machine)) (allRuns lay pol ws mem gs)
+    (lay : Layout) (pol : Policy) (ws mem : List ℕ) (gs : List RunInput) → HostPremise lay pol ws mem gs →
+    Every (λ r. Paused (r .result .outcome .answer .ending) → Waiting lay ws (r .result .outcome .machine)) (allRuns lay pol ws mem gs)
 
 -- there the guest stands before an event that has its arrow: of the bundles begun this one is not done, and all agrees, the state cell too
-pub record WaitsFor (lay : Layout) (pol : Policy) (code : List ℕ) (e : ℕ) (g : Guest) (c : Carried) : Type 0 where
+pub record WaitsFor (lay : Layout) (pol : Policy) (code : List ℕ) (e : ℕ) (g : Guest) (c : Session) : Type 0 where
   pub begun : 1 ≤ c .begun
   pub event : routine code (g .at) ≡ EVENT e
   pub arrow : arrow pol (g .state) e ≡ noArrow → ⊥
-  pub agrees : AgreesAt lay 2 g c
+  pub simulates : SimulatesAt lay 2 g c
 
 abbrev pub PauseRule : Type 0
 PauseRule =
-    (lay : Layout) (pol : Policy) (code mem : List ℕ) (room : ℕ) (gs : List Given) → rewriteAnswer lay code room .number ≡ 0 →
+    (lay : Layout) (pol : Policy) (code mem : List ℕ) (room : ℕ) (gs : List RunInput) → rewriteAnswer lay code room .number ≡ 0 →
     let ws = commandsOf lay code in
     let c = after lay pol ws mem gs in
-    Served lay pol ws mem gs → (w : Waiting lay ws (c .machine)) → WaitsFor lay pol code (w .event) (guestFor lay pol code mem c (c .begun - 1)) c
+    HostPremise lay pol ws mem gs → (w : Waiting lay ws (c .machine)) → WaitsFor lay pol code (w .event) (guestFor lay pol code mem c (c .begun - 1)) c

@@ -1,4 +1,4 @@
-pub mod Kit
+pub mod Prelude
 pub mod Types
 pub mod Signed
 pub mod Layouts

@@ -1,5 +1,5 @@
 -- Policies: a start state and a table of 16 bytes a state.
-use Rattle.spec.specs.Kit.{ℕ, _+_, _*_, Bool, true, _&&_, _||_, not, cond, List, [], _∷_, length, getD, eqb, leb, ltb}
+use Rattle.spec.specs.Prelude.{ℕ, _+_, _*_, Bool, true, _&&_, _||_, not, cond, List, [], _∷_, length, getD, eqb, leb, ltb}
 use Rattle.spec.specs.Types.{Layout, PolicyNumbers}
 use Rattle.types.specs.Names.{mostStates, events, noArrow}
 
@@ -51,7 +51,7 @@ entriesRight s (b ∷ bs) = entryRight s b && entriesRight s bs
 abbrev pub statesRight : ℕ → Bool
 statesRight s = leb 1 s && leb s mostStates
 
--- what 10 does not refuse: 'S not the layout's, length not 16 × S, start not below S, or a byte neither below S nor 255'
+-- what is not refused with 10 (bad policy): 'S not the layout's, length not 16 × S, start not below S, or a byte neither below S nor 255'
 unfoldable pub rightPolicy : Layout → Policy → Bool
 rightPolicy l pol =
     eqb (pol .states) (l .states) && eqb (length (pol .table)) (events * pol .states) && ltb (pol .start) (pol .states) && entriesRight (pol .states) (pol .table)

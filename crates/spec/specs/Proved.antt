@@ -1,5 +1,5 @@
 -- Every claim of this crate, a field each: its one term is `proved`, in proofs/Proved.antt.
-use Rattle.spec.specs.Claims.{Masks, Landings, Installs, Sizes, Signs, WordsBack, BytesBack, RewriteLeaves, RewrittenPasses, PassedRewrites, Shapes, Checks, PassedDecodes, Endings, Splits, Cuts, GuestRule, Resumes, Progress, Recorded, Ceilings, Isolation, NoWrap, StateCell, PausedWaits, PauseRule}
+use Rattle.spec.specs.Claims.{Masks, Landings, Installs, Sizes, Signs, WordsRoundTrip, BytesRoundTrip, RewriteLeaves, RewrittenPasses, PassedRewrites, Shapes, Checks, PassedDecodes, Endings, RunsCompose, PrefixClosed, GuestRule, Resumes, Progress, Recorded, Ceilings, Isolation, NoWrap, StateCell, PausedWaits, PauseRule}
 
 pub record Proved : Type 0 where
   pub masks : Masks
@@ -7,8 +7,8 @@ pub record Proved : Type 0 where
   pub installs : Installs
   pub sizes : Sizes
   pub signs : Signs
-  pub wordsBack : WordsBack
-  pub bytesBack : BytesBack
+  pub wordsRoundTrip : WordsRoundTrip
+  pub bytesRoundTrip : BytesRoundTrip
   pub rewriteLeaves : RewriteLeaves
   pub rewrittenPasses : RewrittenPasses
   pub passedRewrites : PassedRewrites
@@ -16,8 +16,8 @@ pub record Proved : Type 0 where
   pub checks : Checks
   pub passedDecodes : PassedDecodes
   pub endings : Endings
-  pub splits : Splits
-  pub cuts : Cuts
+  pub runsCompose : RunsCompose
+  pub prefixClosed : PrefixClosed
   pub guestRule : GuestRule
   pub resumes : Resumes
   pub progress : Progress

@@ -1,5 +1,5 @@
 -- Two's complement at 32 bits.
-use Rattle.spec.specs.Kit.{ℕ, suc, _-_, _^_, Bool, ℤ, pos, negsuc, shrZ, ltZ, ltb, sel}
+use Rattle.spec.specs.Prelude.{ℕ, suc, _-_, _^_, Bool, ℤ, pos, negsuc, shrZ, ltZ, ltb, sel}
 
 -- the integer of a 32-bit pattern: x below 2 ^ 31, else x - 2 ^ 32; `negsuc n` is -(n + 1)
 abbrev pub twos : ℕ → ℤ

@@ -1,4 +1,4 @@
-pub mod Like
-pub mod Undisturbed
+pub mod RawSimulation
+pub mod Transparent
 pub mod Samples
 pub mod Proved

@@ -10,33 +10,33 @@ use Rattle.types.specs.declared.Status.the-variants.{Running, Ended}
 use Rattle.spec.specs.Layouts.{rightLayout, inBox}
 use Rattle.spec.specs.Policies.{rightPolicy}
 use Rattle.spec.specs.Landings.{rightLandings, bitsFrom, landingsOf, marked}
-use Rattle.spec.specs.Words.{judgeOf, judgeAt, firstRefused, instrOf, routine, bundlesFor}
+use Rattle.spec.specs.Words.{fieldsRefusal, refusalAt, firstRefused, instrOf, routine, bundlesFor}
 use Rattle.spec.specs.Commands.{isCommand, commandOf, wordOf, fetchOf, plainOf}
-use Rattle.spec.specs.Bundles.{shapeOf, valid, readOff, bundleAt, isBundle, shapedAt, passesAt, checkFrom, checkAnswer, placeAnswer, rewriteAnswer}
-use Rattle.spec.specs.Machines.{landsAt, installAnswer, installMemory, installMachine, effectOf, applyOf, runOf, loopFrom}
-use Rattle.spec.specs.Runs.{Given, begins, runOn, afterTaken, afterRun, after, Served, eachRun, afterAll}
+use Rattle.spec.specs.Bundles.{shapeOf, valid, decodeBundle, bundleAt, isBundle, shapedAt, passesAt, checkFrom, checkAnswer, baseRoomAnswer, rewriteAnswer}
+use Rattle.spec.specs.Machines.{isLanding, installAnswer, installMemory, installMachine, effectOf, applyOf, runOf, loopFrom}
+use Rattle.spec.specs.Runs.{RunInput, begins, runOn, afterTaken, afterRun, after, HostPremise, eachRun, afterAll}
 use Rattle.spec.specs.Claims.{Waiting}
 use Rattle.samples.specs.Sample.{layout}
-use Rattle.engine_spec.specs.Engines.{sendOf, actOf, nextFor, movedOf, effectOn, refusalOf, refusalBy, runOf as engineRunOf}
+use Rattle.engine_spec.specs.Engines.{checkedEvent, instrEffect, instrEffectAt, withState, applyEffect, refusalOf, refusalBy, runOf as engineRunOf}
 use Rattle.engine_spec.specs.Claims.{runOn as engineOn, afterTaken as engineTaken, afterRun as engineRun, after as engineAfter}
-use Rattle.transparency.specs.Raw.{rawSent, rawDo, rawStep, rawAfter, Behaves}
-use Rattle.transparency.specs.Claims.{Begins, Behaved}
+use Rattle.transparency.specs.Raw.{rawEvent, rawExec, rawStep, rawAfter, Behaves}
+use Rattle.transparency.specs.Claims.{IsPrefix, Behaved}
 use Rattle.transparency.specs.Sample.{policy, code, commands, memory, readings, run, pausedRun, rawAt, SampleHolds}
 
 passed : checkAnswer layout commands .number ≡ 0
-unfolding ones leadingZeros rightLayout instrOf routine bundlesFor wordOf shapeOf valid readOff bundleAt isBundle shapedAt passesAt checkFrom checkAnswer
+unfolding ones leadingZeros rightLayout instrOf routine bundlesFor wordOf shapeOf valid decodeBundle bundleAt isBundle shapedAt passesAt checkFrom checkAnswer
 passed = refl
 
 installed : installAnswer layout policy memory .number ≡ 0
 unfolding ones rightLayout rightPolicy rightLandings installAnswer
 installed = refl
 
-served : (g : Given) → g .memory ≡ installMemory layout policy memory → Served layout policy commands memory (g ∷ [])
+premise : (g : RunInput) → g .memory ≡ installMemory layout policy memory → HostPremise layout policy commands memory (g ∷ [])
 unfolding eachRun
-served g e = record { passed = passed; installed = installed; lends = (λ l i s. ap (λ (m : List ℕ). getD m i 0) e, tt) }
+premise g e = record { passed = passed; installed = installed; preserved = (λ l i s. ap (λ (m : List ℕ). getD m i 0) e, tt) }
 
 behaves : (j : ℕ) → j < 8 → rawAt j .status ≡ Running → Behaves layout policy 16 (routine code (rawAt j .at)) (rawAt j)
-unfolding instrOf routine plainOf rawSent rawDo rawStep rawAfter inBox
+unfolding instrOf routine plainOf rawEvent rawExec rawStep rawAfter inBox
 behaves zero h t = tt
 behaves (suc zero) h t = tt
 behaves (suc (suc zero)) h t = refl
@@ -48,25 +48,25 @@ behaves (suc (suc (suc (suc (suc (suc (suc zero))))))) h t = tt
 behaves (suc (suc (suc (suc (suc (suc (suc (suc j)))))))) h t = absurd (omega (arith, h))
 
 -- of the first k instructions, where the runs used no reading but the first
-behaved : (us : List ℕ) (k : ℕ) → k ≤ 8 → Begins us readings → Behaved layout policy code memory memory us readings k
+behaved : (us : List ℕ) (k : ℕ) → k ≤ 8 → IsPrefix us readings → Behaved layout policy code memory memory us readings k
 unfolding leadingZeros bundlesFor
 behaved us k l b = record { box = record { room = lit< tt; cells = λ i h. refl }; readings = b; behaves = λ j m. behaves j (omega (arith, l, m)) }
 
 rewritten : rewriteAnswer layout code 64 .number ≡ 0
-unfolding ones leadingZeros rightLayout judgeOf judgeAt firstRefused bundlesFor placeAnswer rewriteAnswer
+unfolding ones leadingZeros rightLayout fieldsRefusal refusalAt firstRefused bundlesFor baseRoomAnswer rewriteAnswer
 rewritten = refl
 
 -- the machine, to its end and to the pause
 record MachineHolds : Type 0 where
   begun : after layout policy commands memory (run ∷ []) .begun ≡ 8
   over : after layout policy commands memory (run ∷ []) .machine .status ≡ Ended
-  used : Begins (after layout policy commands memory (run ∷ []) .consumed) readings
+  used : IsPrefix (after layout policy commands memory (run ∷ []) .consumed) readings
   pausedBegun : after layout policy commands memory (pausedRun ∷ []) .begun ≡ 7
   waiting : Waiting layout commands (after layout policy commands memory (pausedRun ∷ []) .machine)
-  pausedUsed : Begins (after layout policy commands memory (pausedRun ∷ []) .consumed) readings
+  pausedUsed : IsPrefix (after layout policy commands memory (pausedRun ∷ []) .consumed) readings
 
 machine-holds : MachineHolds
-unfolding ones leadingZeros rightLayout rightPolicy rightLandings bitsFrom landingsOf marked instrOf routine bundlesFor wordOf shapeOf readOff bundleAt isCommand commandOf fetchOf plainOf landsAt installAnswer installMemory installMachine effectOf applyOf loopFrom runOf begins runOn afterTaken afterRun afterAll
+unfolding ones leadingZeros rightLayout rightPolicy rightLandings bitsFrom landingsOf marked instrOf routine bundlesFor wordOf shapeOf decodeBundle bundleAt isCommand commandOf fetchOf plainOf isLanding installAnswer installMemory installMachine effectOf applyOf loopFrom runOf begins runOn afterTaken afterRun afterAll
 machine-holds =
     record {
       begun = refl;
@@ -82,27 +82,27 @@ record EngineHolds : Type 0 where
   taken : refusalOf layout code memory .number ≡ 0
   counted : engineAfter layout policy code memory (run ∷ []) .counted ≡ 8
   over : engineAfter layout policy code memory (run ∷ []) .engine .status ≡ Ended
-  used : Begins (engineAfter layout policy code memory (run ∷ []) .consumed) readings
+  used : IsPrefix (engineAfter layout policy code memory (run ∷ []) .consumed) readings
 
 engine-holds : EngineHolds
-unfolding ones leadingZeros rightLayout rightPolicy rightLandings bitsFrom landingsOf marked judgeOf judgeAt firstRefused instrOf routine bundlesFor plainOf installAnswer installMemory applyOf sendOf actOf nextFor movedOf effectOn loopFrom refusalBy engineRunOf engineOn engineTaken engineRun afterAll
+unfolding ones leadingZeros rightLayout rightPolicy rightLandings bitsFrom landingsOf marked fieldsRefusal refusalAt firstRefused instrOf routine bundlesFor plainOf installAnswer installMemory applyOf checkedEvent instrEffect instrEffectAt withState applyEffect loopFrom refusalBy engineRunOf engineOn engineTaken engineRun afterAll
 engine-holds = record { taken = refl; counted = refl; over = refl; used = λ i h. refl }
 
 pub sample-holds : SampleHolds
-unfolding instrOf routine plainOf rawSent rawDo rawStep rawAfter eachRun
+unfolding instrOf routine plainOf rawEvent rawExec rawStep rawAfter eachRun
 sample-holds =
     let m = machine-holds in
     let e = engine-holds in
     record {
-      caged = record { taken = rewritten; served = served run refl; behaved = behaved _ 8 (lit≤ tt) (m .used) };
+      sandboxed = record { taken = rewritten; premise = premise run refl; behaved = behaved _ 8 (lit≤ tt) (m .used) };
       begun = m .begun;
       over = m .over;
       recorded = refl;
       ended = refl;
-      pausedCaged = record { taken = rewritten; served = served pausedRun refl; behaved = behaved _ 6 (lit≤ tt) (m .pausedUsed) };
+      pausedSandboxed = record { taken = rewritten; premise = premise pausedRun refl; behaved = behaved _ 6 (lit≤ tt) (m .pausedUsed) };
       pausedBegun = m .pausedBegun;
       waiting = m .waiting;
-      engineServed = record { taken = e .taken; installed = installed; lends = (λ l i s. refl, tt) };
+      enginePremise = record { taken = e .taken; installed = installed; preserved = (λ l i s. refl, tt) };
       engineBehaved = behaved _ 8 (lit≤ tt) (e .used);
       counted = e .counted;
       engineOver = e .over;

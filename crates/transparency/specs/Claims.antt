@@ -13,9 +13,9 @@ use Rattle.spec.specs.Policies.{Policy}
 use Rattle.spec.specs.Words.{routine, bundlesFor}
 use Rattle.spec.specs.Bundles.{rewriteAnswer, commandsOf}
 use Rattle.spec.specs.Guests.{Pair}
-use Rattle.spec.specs.Runs.{Given, Carried, Lent, Served, after}
-use Rattle.spec.specs.Claims.{Stands, Waiting, Proceeds, givenFor, Enough}
-use Rattle.engine_spec.specs.Claims.{Served as EngineServed, after as engineAfter, afterRun as engineRun}
+use Rattle.spec.specs.Runs.{RunInput, Session, MemoryPreserved, HostPremise, after}
+use Rattle.spec.specs.Claims.{AtBoundary, Waiting, ReachesBoundary, withBudget, Resumable}
+use Rattle.engine_spec.specs.Claims.{HostPremise as EnginePremise, after as engineAfter, afterRun as engineRun}
 use Rattle.transparency.specs.Raw.{Raw, rawStart, rawRun, BehavesFor}
 
 -- a raw memory that has the sandbox, with the same cells in it
@@ -24,19 +24,19 @@ pub record SameBox (lay : Layout) (mem raw : List ℕ) : Type 0 where
   pub cells : (i : ℕ) → inBox lay i ≡ true → getD mem i 0 ≡ getD raw i 0
 
 -- the readings that the runs used are the first ones of those that the raw run is given, which reads 0 where it has none
-abbrev pub Begins : List ℕ → List ℕ → Type 0
-Begins used reads = (i : ℕ) → i < length used → getD used i 0 ≡ getD reads i 0
+abbrev pub IsPrefix : List ℕ → List ℕ → Type 0
+IsPrefix used reads = (i : ℕ) → i < length used → getD used i 0 ≡ getD reads i 0
 
 -- [14]'s premise, of the first k instructions of a routine: the raw run behaves, on a memory with the same sandbox and given readings
--- of which the caged run used the first ones
+-- of which the sandboxed run used the first ones
 pub record Behaved (lay : Layout) (pol : Policy) (code mem raw used reads : List ℕ) (k : ℕ) : Type 0 where
   pub box : SameBox lay mem raw
-  pub readings : Begins used reads
+  pub readings : IsPrefix used reads
   pub behaves : BehavesFor lay pol (bundlesFor (length code)) (routine code) reads (rawStart raw) k
 
 -- 'the same records, the same r0 to r14 and sandbox, and the same ending or none'; and as many readings used.
--- The ending is the record's status: no raw run stops or strays, so no caged one does
-pub record AsRaw (lay : Layout) (r : Raw) (regs mem : List ℕ) (records : List Pair) (used : ℕ) (t : Status) : Type 0 where
+-- The ending is the record's status: no raw run stops or strays, so no sandboxed one does
+pub record SameAsRaw (lay : Layout) (r : Raw) (regs mem : List ℕ) (records : List Pair) (used : ℕ) (t : Status) : Type 0 where
   pub ending : t ≡ r .status
   pub registers : regs ≡ r .regs
   pub box : (i : ℕ) → inBox lay i ≡ true → getD mem i 0 ≡ getD (r .mem) i 0
@@ -46,54 +46,54 @@ pub record AsRaw (lay : Layout) (r : Raw) (regs mem : List ℕ) (records : List 
 -- ---- the machine
 
 -- 'a routine that the rewriter takes', 'newly installed, on demand 3's premise', behaves for k instructions
-pub record Caged (lay : Layout) (pol : Policy) (code mem raw reads : List ℕ) (room : ℕ) (gs : List Given) (k : ℕ) : Type 0 where
+pub record Sandboxed (lay : Layout) (pol : Policy) (code mem raw reads : List ℕ) (room : ℕ) (gs : List RunInput) (k : ℕ) : Type 0 where
   pub taken : rewriteAnswer lay code room .number ≡ 0
-  pub served : Served lay pol (commandsOf lay code) mem gs
+  pub premise : HostPremise lay pol (commandsOf lay code) mem gs
   pub behaved : Behaved lay pol code mem raw (after lay pol (commandsOf lay code) mem gs .consumed) reads k
 
 -- what the runs left of the machine, r0 to r14 of its registers
-abbrev pub MachineAsRaw : Layout → Raw → Carried → Type 0
-MachineAsRaw lay r c = AsRaw lay r (take guestRegisters (c .machine .regs)) (c .memory) (c .records) (length (c .consumed)) (c .machine .status)
+abbrev pub MachineSameAsRaw : Layout → Raw → Session → Type 0
+MachineSameAsRaw lay r c = SameAsRaw lay r (take guestRegisters (c .machine .regs)) (c .memory) (c .records) (length (c .consumed)) (c .machine .status)
 
 -- wherever a list of runs ends on the first command of a bundle or is over, beside the raw run after as many instructions
 -- as the runs began bundles, if these behaved. A list of runs may end anywhere and budgets are any: so for every count of instructions
-abbrev pub Undisturbed : Type 0
-Undisturbed =
-    (lay : Layout) (pol : Policy) (code mem raw reads : List ℕ) (room : ℕ) (gs : List Given) →
+abbrev pub Transparent : Type 0
+Transparent =
+    (lay : Layout) (pol : Policy) (code mem raw reads : List ℕ) (room : ℕ) (gs : List RunInput) →
     let c = after lay pol (commandsOf lay code) mem gs in
-    Caged lay pol code mem raw reads room gs (c .begun) → Stands lay (c .machine) → MachineAsRaw lay (rawRun lay code raw reads (c .begun)) c
+    Sandboxed lay pol code mem raw reads room gs (c .begun) → AtBoundary lay (c .machine) → MachineSameAsRaw lay (rawRun lay code raw reads (c .begun)) c
 
 -- at a pause for log or probe, on the third command of an event bundle, beside the raw run after the bundles wholly behind
-abbrev pub UndisturbedPaused : Type 0
-UndisturbedPaused =
-    (lay : Layout) (pol : Policy) (code mem raw reads : List ℕ) (room : ℕ) (gs : List Given) →
+abbrev pub TransparentPaused : Type 0
+TransparentPaused =
+    (lay : Layout) (pol : Policy) (code mem raw reads : List ℕ) (room : ℕ) (gs : List RunInput) →
     let c = after lay pol (commandsOf lay code) mem gs in
-    Caged lay pol code mem raw reads room gs (c .begun - 1) → Waiting lay (commandsOf lay code) (c .machine) → MachineAsRaw lay (rawRun lay code raw reads (c .begun - 1)) c
+    Sandboxed lay pol code mem raw reads room gs (c .begun - 1) → Waiting lay (commandsOf lay code) (c .machine) → MachineSameAsRaw lay (rawRun lay code raw reads (c .begun - 1)) c
 
--- 'A pause is no instruction, and a run that can go on follows it': where the raw run is not over, the caged one, lent its memory,
+-- 'A pause is no instruction, and a run that can go on follows it': where the raw run is not over, the sandboxed one, lent its memory,
 -- two log cells and a reading, comes to the next place of comparison in at most four steps, one bundle on; from a pause by `Resumes`,
 -- with the bundle that it had begun
-abbrev pub UndisturbedNext : Type 0
-UndisturbedNext =
-    (lay : Layout) (pol : Policy) (code mem raw reads : List ℕ) (room : ℕ) (gs : List Given) →
+abbrev pub TransparentNext : Type 0
+TransparentNext =
+    (lay : Layout) (pol : Policy) (code mem raw reads : List ℕ) (room : ℕ) (gs : List RunInput) →
     let c = after lay pol (commandsOf lay code) mem gs in
-    Caged lay pol code mem raw reads room gs (c .begun) → Stands lay (c .machine) → rawRun lay code raw reads (c .begun) .status ≡ Running →
-    (g : Given) → Lent lay (c .memory) g → Enough lay g → Proceeds lay (commandsOf lay code) c g (c .begun + 1)
+    Sandboxed lay pol code mem raw reads room gs (c .begun) → AtBoundary lay (c .machine) → rawRun lay code raw reads (c .begun) .status ≡ Running →
+    (g : RunInput) → MemoryPreserved lay (c .memory) g → Resumable lay g → ReachesBoundary lay (commandsOf lay code) c g (c .begun + 1)
 
 -- ---- the engine
 
 -- wherever a list of runs ends, beside the raw run after as many instructions as it counted
-abbrev pub EngineUndisturbed : Type 0
-EngineUndisturbed =
-    (lay : Layout) (pol : Policy) (code mem raw reads : List ℕ) (gs : List Given) → EngineServed lay pol code mem gs →
+abbrev pub EngineTransparent : Type 0
+EngineTransparent =
+    (lay : Layout) (pol : Policy) (code mem raw reads : List ℕ) (gs : List RunInput) → EnginePremise lay pol code mem gs →
     let c = engineAfter lay pol code mem gs in
     Behaved lay pol code mem raw (c .consumed) reads (c .counted) →
-    AsRaw lay (rawRun lay code raw reads (c .counted)) (c .engine .regs) (c .memory) (c .records) (length (c .consumed)) (c .engine .status)
+    SameAsRaw lay (rawRun lay code raw reads (c .counted)) (c .engine .regs) (c .memory) (c .records) (length (c .consumed)) (c .engine .status)
 
 -- and where the raw run is not over, it counts one more instruction
-abbrev pub EngineUndisturbedNext : Type 0
-EngineUndisturbedNext =
-    (lay : Layout) (pol : Policy) (code mem raw reads : List ℕ) (gs : List Given) → EngineServed lay pol code mem gs →
+abbrev pub EngineTransparentNext : Type 0
+EngineTransparentNext =
+    (lay : Layout) (pol : Policy) (code mem raw reads : List ℕ) (gs : List RunInput) → EnginePremise lay pol code mem gs →
     let c = engineAfter lay pol code mem gs in
     Behaved lay pol code mem raw (c .consumed) reads (c .counted) → rawRun lay code raw reads (c .counted) .status ≡ Running →
-    (g : Given) → Lent lay (c .memory) g → Enough lay g → engineRun lay code c (givenFor g 1) .counted ≡ c .counted + 1
+    (g : RunInput) → MemoryPreserved lay (c .memory) g → Resumable lay g → engineRun lay code c (withBudget g 1) .counted ≡ c .counted + 1

@@ -1,11 +1,11 @@
 -- Every claim of this crate, a field each: its one term is `proved`, in proofs/Proved.antt.
-use Rattle.transparency.specs.Claims.{Undisturbed, EngineUndisturbed, UndisturbedPaused, UndisturbedNext, EngineUndisturbedNext}
+use Rattle.transparency.specs.Claims.{Transparent, EngineTransparent, TransparentPaused, TransparentNext, EngineTransparentNext}
 use Rattle.transparency.specs.Sample.{SampleHolds}
 
 pub record Proved : Type 0 where
-  pub undisturbed : Undisturbed
-  pub engineUndisturbed : EngineUndisturbed
-  pub undisturbedPaused : UndisturbedPaused
-  pub undisturbedNext : UndisturbedNext
-  pub engineUndisturbedNext : EngineUndisturbedNext
+  pub transparent : Transparent
+  pub engineTransparent : EngineTransparent
+  pub transparentPaused : TransparentPaused
+  pub transparentNext : TransparentNext
+  pub engineTransparentNext : EngineTransparentNext
   pub sampleHolds : SampleHolds

@@ -34,33 +34,33 @@ pub record Raw : Type 0 where
 abbrev pub rawOf : List ℕ → ℕ → List ℕ → List Pair → ℕ → Status → Raw
 rawOf regs at mem rec u t = record { regs = regs; at = at; mem = mem; records = rec; used = u; status = t }
 
-abbrev pub rReg : Raw → ℕ → ℕ
-rReg r i = getD (r .regs) i 0
+abbrev pub rawReg : Raw → ℕ → ℕ
+rawReg r i = getD (r .regs) i 0
 
 -- on to an instruction, with these registers and memory
-abbrev pub rawOn : Raw → List ℕ → List ℕ → ℕ → Raw
-rawOn r regs mem at = rawOf regs at mem (r .records) (r .used) Running
+abbrev pub rawGoto : Raw → List ℕ → List ℕ → ℕ → Raw
+rawGoto r regs mem at = rawOf regs at mem (r .records) (r .used) Running
 
 -- an event, which nothing forbids: 'Ceilings apply to both'
-unfoldable pub rawSent : Layout → List ℕ → ℕ → Raw → Raw
-rawSent lay reads e r =
+unfoldable pub rawEvent : Layout → List ℕ → ℕ → Raw → Raw
+rawEvent lay reads e r =
     cond (ltb e orders)
-    (rawOf (r .regs) (r .at + 1) (r .mem) (snoc (r .records) (pairOf e (limited (lay .ceilings) e (rReg r 0)))) (r .used) Running)
+    (rawOf (r .regs) (r .at + 1) (r .mem) (snoc (r .records) (pairOf e (limited (lay .ceilings) e (rawReg r 0)))) (r .used) Running)
     (rawOf (set (r .regs) 0 (getD reads (r .used) 0)) (r .at + 1) (r .mem) (snoc (r .records) (pairOf e (getD reads (r .used) 0))) (r .used + 1) Running)
 
 -- the table of instructions, 'with raw addresses and raw jump targets and no policy'
-unfoldable pub rawDo : Layout → List ℕ → Instr → Raw → Raw
-rawDo lay reads HALT r = rawOf (r .regs) (r .at) (r .mem) (r .records) (r .used) Ended
-rawDo lay reads (PLAIN k d a b v) r = rawOn r (set (r .regs) d (plainOf (k + plainStep) (rReg r a) (rReg r b) v)) (r .mem) (r .at + 1)
-rawDo lay reads (LOAD d a) r = rawOn r (set (r .regs) d (getD (r .mem) (rReg r a) 0)) (r .mem) (r .at + 1)
-rawDo lay reads (STORE a b) r = rawOn r (r .regs) (set (r .mem) (rReg r a) (rReg r b)) (r .at + 1)
-rawDo lay reads (GOIF a b c v) r = rawOn r (r .regs) (r .mem) (cond (holdsOf c (rReg r a) (rReg r b)) v (r .at + 1))
-rawDo lay reads (GOX d a b c) r = rawOn r (r .regs) (r .mem) (cond (holdsOf c (rReg r a) (rReg r b)) (rReg r d) (r .at + 1))
-rawDo lay reads (EVENT e) r = rawSent lay reads e r
+unfoldable pub rawExec : Layout → List ℕ → Instr → Raw → Raw
+rawExec lay reads HALT r = rawOf (r .regs) (r .at) (r .mem) (r .records) (r .used) Ended
+rawExec lay reads (PLAIN k d a b v) r = rawGoto r (set (r .regs) d (plainOf (k + plainStep) (rawReg r a) (rawReg r b) v)) (r .mem) (r .at + 1)
+rawExec lay reads (LOAD d a) r = rawGoto r (set (r .regs) d (getD (r .mem) (rawReg r a) 0)) (r .mem) (r .at + 1)
+rawExec lay reads (STORE a b) r = rawGoto r (r .regs) (set (r .mem) (rawReg r a) (rawReg r b)) (r .at + 1)
+rawExec lay reads (GOIF a b c v) r = rawGoto r (r .regs) (r .mem) (cond (holdsOf c (rawReg r a) (rawReg r b)) v (r .at + 1))
+rawExec lay reads (GOX d a b c) r = rawGoto r (r .regs) (r .mem) (cond (holdsOf c (rawReg r a) (rawReg r b)) (rawReg r d) (r .at + 1))
+rawExec lay reads (EVENT e) r = rawEvent lay reads e r
 
 -- one instruction of those that `is` lists, and k of them
 unfoldable pub rawStep : Layout → (ℕ → Instr) → List ℕ → Raw → Raw
-rawStep lay is reads r = unlessOver (r .status) r (rawDo lay reads (is (r .at)) r)
+rawStep lay is reads r = unlessOver (r .status) r (rawExec lay reads (is (r .at)) r)
 
 unfoldable pub rawAfter : Layout → (ℕ → Instr) → List ℕ → Raw → ℕ → Raw
 rawAfter lay is reads r zero = r
@@ -81,10 +81,10 @@ rawRun lay code raw reads k = rawAfter lay (routine code) reads (rawStart raw) k
 abbrev pub Behaves : Layout → Policy → ℕ → Instr → Raw → Type 0
 Behaves lay pol N HALT r = Unit {0}
 Behaves lay pol N (PLAIN k d a b v) r = Unit {0}
-Behaves lay pol N (LOAD d a) r = inBox lay (rReg r a) ≡ true
-Behaves lay pol N (STORE a b) r = inBox lay (rReg r a) ≡ true
+Behaves lay pol N (LOAD d a) r = inBox lay (rawReg r a) ≡ true
+Behaves lay pol N (STORE a b) r = inBox lay (rawReg r a) ≡ true
 Behaves lay pol N (GOIF a b c v) r = Unit {0}
-Behaves lay pol N (GOX d a b c) r = holdsOf c (rReg r a) (rReg r b) ≡ true → (rReg r d < N) × (listed (pol .landings) (rReg r d) ≡ true)
+Behaves lay pol N (GOX d a b c) r = holdsOf c (rawReg r a) (rawReg r b) ≡ true → (rawReg r d < N) × (listed (pol .landings) (rawReg r d) ≡ true)
 Behaves lay pol N (EVENT e) r = arrow pol (stateOver pol (eventsOf (r .records))) e ≡ noArrow → ⊥
 
 -- each of the first k instructions behaves, where the raw run is not over before it

@@ -9,12 +9,12 @@ use Rattle.spec.specs.Words.{packOf}
 use Rattle.spec.specs.Bundles.{commandsOf}
 use Rattle.spec.specs.Machines.{installMemory}
 use Rattle.spec.specs.Guests.{pairOf}
-use Rattle.spec.specs.Runs.{Given, after}
+use Rattle.spec.specs.Runs.{RunInput, after}
 use Rattle.spec.specs.Claims.{Waiting}
 use Rattle.samples.specs.Sample.{layout}
-use Rattle.engine_spec.specs.Claims.{Served as EngineServed, after as engineAfter}
+use Rattle.engine_spec.specs.Claims.{HostPremise as EnginePremise, after as engineAfter}
 use Rattle.transparency.specs.Raw.{Raw, rawRun}
-use Rattle.transparency.specs.Claims.{Behaved, Caged}
+use Rattle.transparency.specs.Claims.{Behaved, Sandboxed}
 
 -- the policy of `samples`, with instruction 6 as the one landing
 abbrev pub policy : Policy
@@ -35,7 +35,7 @@ memory = replicate 1024 0
 abbrev pub readings : List ℕ
 readings = 1800 ∷ []
 
-abbrev pub run : Given
+abbrev pub run : RunInput
 run = record { memory = installMemory layout policy memory; budget = 1000; readings = readings; log = replicate 4 0 }
 
 -- the raw run after k instructions
@@ -43,21 +43,21 @@ abbrev pub rawAt : ℕ → Raw
 rawAt k = rawRun layout code memory readings k
 
 -- with a log of one pair the second event is waited for
-abbrev pub pausedRun : Given
+abbrev pub pausedRun : RunInput
 pausedRun = record { memory = installMemory layout policy memory; budget = 1000; readings = readings; log = replicate 2 0 }
 
--- the premises of Undisturbed can be met: the caged run comes to its end after eight bundles, and the raw one after eight instructions;
--- so can those of UndisturbedPaused, with the seventh bundle begun, and of EngineUndisturbed
+-- the premises of Transparent can be met: the sandboxed run comes to its end after eight bundles, and the raw one after eight instructions;
+-- so can those of TransparentPaused, with the seventh bundle begun, and of EngineTransparent
 pub record SampleHolds : Type 0 where
-  pub caged : Caged layout policy code memory memory readings 64 (run ∷ []) 8
+  pub sandboxed : Sandboxed layout policy code memory memory readings 64 (run ∷ []) 8
   pub begun : after layout policy commands memory (run ∷ []) .begun ≡ 8
   pub over : after layout policy commands memory (run ∷ []) .machine .status ≡ Ended
   pub recorded : rawAt 8 .records ≡ pairOf 0 6 ∷ pairOf 8 1800 ∷ []
   pub ended : rawAt 8 .status ≡ Ended
-  pub pausedCaged : Caged layout policy code memory memory readings 64 (pausedRun ∷ []) 6
+  pub pausedSandboxed : Sandboxed layout policy code memory memory readings 64 (pausedRun ∷ []) 6
   pub pausedBegun : after layout policy commands memory (pausedRun ∷ []) .begun ≡ 7
   pub waiting : Waiting layout commands (after layout policy commands memory (pausedRun ∷ []) .machine)
-  pub engineServed : EngineServed layout policy code memory (run ∷ [])
+  pub enginePremise : EnginePremise layout policy code memory (run ∷ [])
   pub engineBehaved : Behaved layout policy code memory memory (engineAfter layout policy code memory (run ∷ []) .consumed) readings 8
   pub counted : engineAfter layout policy code memory (run ∷ []) .counted ≡ 8
   pub engineOver : engineAfter layout policy code memory (run ∷ []) .engine .status ≡ Ended

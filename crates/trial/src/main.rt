@@ -58,7 +58,7 @@ fn run(layout: Layout, commands: &[u64], start: Machine, memory: &mut [u32; CELL
     let a = out.answer;
     print_events(&log, a.pairs);
     let e = a.ending;
-    print_end(machine_step::endings::number(e), a.steps, memory[0]);
+    print_end(machine_step::endings::ending_number(e), a.steps, memory[0]);
 }
 
 // Landings 0 to 1,023.

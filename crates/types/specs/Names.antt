@@ -123,7 +123,7 @@ numberOf BadDrawing = 16  -- bad drawing
 numberOf BadPair = 17  -- bad pair
 numberOf NotForward = 18  -- not forward
 
--- the table of endings, with its words; a refused run answers 7
+-- the table of endings, with its words; a refused run answers 7 (bad layout)
 abbrev pub endingNumber : Ending → ℕ
 endingNumber Done = 20  -- ended
 endingNumber NoArrow = 21  -- no arrow

@@ -136,7 +136,7 @@ impl Instr {
     pub const PLAIN_STEP: u64 = Command::SET - Instr::KIND_SET;
 }
 
-// A command. Plain holds the arithmetic kinds SET to SHL: kind, d, a, b, v. Stray is a word that is no command.
+// A command. Plain holds the arithmetic kinds SET to SHL: kind, d, a, b, v. Invalid is a word that is no command.
 pub enum Command {
     Nop,
     Halt,
@@ -149,7 +149,7 @@ pub enum Command {
     StopIf(u64),
     Keep(u64),
     Event(u64),
-    Stray,
+    Invalid,
 }
 
 impl Command {
@@ -353,7 +353,7 @@ impl Answer {
 }
 
 // One instruction read: its word and the bytes that it took, or the refusal's number.
-pub enum One {
+pub enum Decoded {
     Word(u64, usize),
     RefusedWith(u8),
 }
@@ -411,8 +411,8 @@ pub struct Installed {
 // take a reading, end with a status, or wait.
 pub enum Effect {
     Go(u32),
-    Put(usize, u32),
-    Cell(usize, u32),
+    SetReg(usize, u32),
+    SetCell(usize, u32),
     Order(u32),
     Probe(u32),
     End(Status),

@@ -1,3 +1,3 @@
-pub mod Judging
+pub mod RefusalLaws
 pub mod Laws
 pub mod Laying

@@ -1,2 +1,2 @@
 -- The guest's registers in a word, passed on.
-pub use Rattle.words.specs.fields.Guests.{guestsOf}
+pub use Rattle.words.specs.fields.Guests.{onlyGuestRegisters}

@@ -1,5 +1,5 @@
 -- What a bundle is made of: words of fields that are cut, passed on, and an instruction that is valid.
-pub use Rattle.words.specs.fields.Cut.{cutWord}
+pub use Rattle.words.specs.fields.Truncation.{truncatedWord}
 use Prim.Native.Nat.{ℕ, _^_, _<_, _≤_}
 use mathlib.Core.Path.{_≡_}
 use mathlib.Core.Bool.{true}

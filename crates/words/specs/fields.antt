@@ -1,3 +1,3 @@
-pub mod Cut
+pub mod Truncation
 pub mod Strays
 pub mod Guests

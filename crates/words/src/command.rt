@@ -64,7 +64,7 @@ pub fn command(w: u64) -> Command
     ensures { λ r. ⌜ r ≡ commandOf w ⌝ }
 {
     if !is_command(w) {
-        return Command::Stray;
+        return Command::Invalid;
     }
     let f = fields(w);
     let kind = f.kind;
@@ -80,6 +80,6 @@ pub fn command(w: u64) -> Command
         Command::STOPIF => Command::StopIf(f.d),
         Command::KEEP => Command::Keep(f.d),
         Command::EVENT => Command::Event(f.v),
-        _ => Command::Stray,
+        _ => Command::Invalid,
     }
 }

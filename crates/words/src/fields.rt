@@ -5,8 +5,8 @@ use types::Fields;
 use types::Instr;
 ghost use mathlib.Core.Path.{_≡_};
 ghost use Rattle.spec.specs.Words.{fieldsOf, packFields, instrOf};
-ghost use Rattle.words.specs.fields.Cut.{cutOf, cutWord};
-ghost use Rattle.words.specs.fields.Guests.{guestsOf};
+ghost use Rattle.words.specs.fields.Truncation.{truncateFields, truncatedWord};
+ghost use Rattle.words.specs.fields.Guests.{onlyGuestRegisters};
 
 pub fn fields(w: u64) -> Fields
     ensures { λ r. ⌜ r ≡ fieldsOf w ⌝ }
@@ -23,7 +23,7 @@ pub fn fields(w: u64) -> Fields
 
 // The word of six fields, each cut to its width.
 pub fn word(kind: u64, d: u64, a: u64, b: u64, c: u64, v: u64) -> u64
-    ensures { λ r. ⌜ r ≡ cutWord kind d a b c v ⌝ }
+    ensures { λ r. ⌜ r ≡ truncatedWord kind d a b c v ⌝ }
 {
     kind % field::BYTE
         + ((d % field::FOUR_BITS) << field::AT_D)
@@ -34,7 +34,7 @@ pub fn word(kind: u64, d: u64, a: u64, b: u64, c: u64, v: u64) -> u64
 }
 
 pub fn pack(f: Fields) -> u64
-    ensures { λ r. ⌜ r ≡ packFields (cutOf f) ⌝ }
+    ensures { λ r. ⌜ r ≡ packFields (truncateFields f) ⌝ }
 {
     word(f.kind, f.d, f.a, f.b, f.c, f.v)
 }
@@ -43,8 +43,8 @@ pub fn pack(f: Fields) -> u64
 const LOWEST: u64 = (1 << field::AT_D) + (1 << field::AT_A) + (1 << field::AT_B);
 
 // Whether no register field of a word names the hidden register, all of whose four bits stand: one test for the three.
-pub fn guests(w: u64) -> bool
-    ensures { λ r. ⌜ r ≡ guestsOf w ⌝ }
+pub fn only_guest_registers(w: u64) -> bool
+    ensures { λ r. ⌜ r ≡ onlyGuestRegisters w ⌝ }
 {
     let pairs = w & (w >> 1);
     (pairs & (pairs >> 2)) & LOWEST == 0

@@ -1,16 +1,16 @@
 // The first refusal of a guest word.
 use crate::fields::field;
 use crate::fields::fields;
-use crate::fields::guests;
+use crate::fields::only_guest_registers;
 use crate::refusals::TOP_KIND;
-use crate::refusals::judge;
+use crate::refusals::fields_refusal;
 use types::Instr;
 use types::Refusal;
 ghost use mathlib.Core.Path.{_≡_};
 ghost use Prim.Native.Nat.{_≤_};
 ghost use lib.Dec.{eqb};
 ghost use Rattle.types.specs.Names.{topKind};
-ghost use Rattle.spec.specs.Words.{guestLimits, judgeWord};
+ghost use Rattle.spec.specs.Words.{guestLimits, wordRefusal};
 ghost use Rattle.words.specs.fields.Strays.{strayOf};
 
 // The bits that no instruction of a kind has: those of the fields that it lacks, and those above the bounds of c and v.
@@ -38,28 +38,28 @@ fn stray_bits(k: u64) -> u64
 
 // Whether a word is an instruction: one AND and its registers tell. A register field that the kind lacks is 0, and
 // passes.
-pub fn clean(w: u64) -> bool
-    ensures { λ r. ⌜ r ≡ eqb (judgeWord w) 0 ⌝ }
+pub fn is_instruction(w: u64) -> bool
+    ensures { λ r. ⌜ r ≡ eqb (wordRefusal w) 0 ⌝ }
 {
     let k = field::kind(w);
     if k > TOP_KIND {
         return false;
     }
-    (w & stray_bits(k) == 0) & guests(w)
+    (w & stray_bits(k) == 0) & only_guest_registers(w)
 }
 
-// The first refusal of a word by its fields, for callers that have tested `clean`. A call, for it is seldom needed.
-pub fn by_fields(w: u64) -> u8
-    ensures { λ r. ⌜ r ≡ judgeWord w ⌝ }
+// The first refusal of a word by its fields, for callers that have tested `is_instruction`. A call, for it is seldom needed.
+pub fn refusal_by_fields(w: u64) -> u8
+    ensures { λ r. ⌜ r ≡ wordRefusal w ⌝ }
 {
-    judge(field::zero(w) > 0, fields(w))
+    fields_refusal(field::zero(w) > 0, fields(w))
 }
 
-pub fn judge_word(w: u64) -> u8
-    ensures { λ r. ⌜ r ≡ judgeWord w ⌝ }
+pub fn word_refusal(w: u64) -> u8
+    ensures { λ r. ⌜ r ≡ wordRefusal w ⌝ }
 {
-    if clean(w) {
+    if is_instruction(w) {
         return Refusal::TAKEN;
     }
-    by_fields(w)
+    refusal_by_fields(w)
 }

@@ -8,7 +8,7 @@ use types::Refusal;
 ghost use mathlib.Core.Path.{_≡_};
 ghost use Prim.Native.Nat.{_≤_};
 ghost use Rattle.types.specs.Names.{topKind};
-ghost use Rattle.spec.specs.Words.{limitOf, guestLimits, hasStray, hasHigh, judgeOf};
+ghost use Rattle.spec.specs.Words.{limitOf, guestLimits, hasStray, hasHigh, fieldsRefusal};
 
 // The greatest kind, the greatest guest register and the greatest condition.
 pub const TOP_KIND: u64 = Instr::KIND_EVENT;
@@ -72,8 +72,8 @@ fn high(l: Limits, f: Fields) -> bool
 }
 
 // An instruction's first refusal, 3, 2 or 4, or 0; `foreign` where its form has foreign matter of its own.
-pub fn judge(foreign: bool, f: Fields) -> u8
-    ensures { λ r. ⌜ r ≡ judgeOf foreign f ⌝ }
+pub fn fields_refusal(foreign: bool, f: Fields) -> u8
+    ensures { λ r. ⌜ r ≡ fieldsRefusal foreign f ⌝ }
 {
     let kind = f.kind;
     if kind > TOP_KIND {

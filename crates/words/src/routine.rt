@@ -1,23 +1,23 @@
 // The first refusal of a guest word among others, and the first among the words of a routine.
 use crate::fields::field;
-use crate::guest::by_fields;
-use crate::guest::clean;
+use crate::guest::is_instruction;
+use crate::guest::refusal_by_fields;
 use types::Answer;
 use types::Instr;
 use types::Refusal;
 ghost use mathlib.Core.Path.{_≡_};
 ghost use lib.ListN.{length};
-ghost use Rattle.spec.specs.Words.{judgeAt, firstRefused};
+ghost use Rattle.spec.specs.Words.{refusalAt, firstRefused};
 
 // The first refusal of a word among n instructions, 3, 2, 4 or 8, or 0.
-pub fn judge_at(n: usize, w: u64) -> u8
-    ensures { λ r. ⌜ r ≡ judgeAt n w ⌝ }
+pub fn refusal_at(n: usize, w: u64) -> u8
+    ensures { λ r. ⌜ r ≡ refusalAt n w ⌝ }
 {
     let landing_bad = (field::kind(w) == Instr::KIND_GOIF) & ((n as u64) < field::v(w));
-    if clean(w) & !landing_bad {
+    if is_instruction(w) & !landing_bad {
         return Refusal::TAKEN;
     }
-    let number = by_fields(w);
+    let number = refusal_by_fields(w);
     if number != Refusal::TAKEN {
         return number;
     }
@@ -28,13 +28,13 @@ pub fn judge_at(n: usize, w: u64) -> u8
 }
 
 // The first refusal among the words, or what is answered where there is none.
-pub fn judge_all(words: &[u64], taken: Answer) -> Answer
-    ensures { λ r. ⌜ r ≡ firstRefused (judgeAt (length (now (words .entry)))) (now (words .entry)) 0 taken ⌝ }
+pub fn first_refusal(words: &[u64], taken: Answer) -> Answer
+    ensures { λ r. ⌜ r ≡ firstRefused (refusalAt (length (now (words .entry)))) (now (words .entry)) 0 taken ⌝ }
 {
     let n = words.len();
     let mut i: usize = 0;
     while i < n {
-        let number = judge_at(n, words[i]);
+        let number = refusal_at(n, words[i]);
         if number != Refusal::TAKEN {
             return Answer::refused_at(number, i);
         }

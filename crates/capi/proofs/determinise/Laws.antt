@@ -49,14 +49,14 @@ narrow s q ms room m e = subst (λ (x : Made). x .answer .place < 2 ^ 32) (sym e
 
 -- what is answered and left is that of the starts as the host gave them
 module _ (s q r : ℕ) (ms table : List ℕ) (e : r ≡ startsFrom q) where
-  abbrev Same : Type 0
-  Same = (determiniseOf (drawingOf s r ms) (length table) ≡ determiniseOf (drawingOf s q ms) (length table)) × (determiniseTable (drawingOf s r ms) table ≡ determiniseTable (drawingOf s q ms) table)
+  abbrev SameObservations : Type 0
+  SameObservations = (determiniseOf (drawingOf s r ms) (length table) ≡ determiniseOf (drawingOf s q ms) (length table)) × (determiniseTable (drawingOf s r ms) table ≡ determiniseTable (drawingOf s q ms) table)
 
-  same : Same
+  same : SameObservations
   unfolding startsFrom determiniseOf determiniseTable
   same = go (ltb q (2 ^ mostStates)) refl
     where
-      go : (b : Bool) → ltb q (2 ^ mostStates) ≡ b → Same
+      go : (b : Bool) → ltb q (2 ^ mostStates) ≡ b → SameObservations
       go true f = rw (e, f) (refl, refl)
       go false f = rw (e, f, none s ms, wide s q ms (ltb-false q (2 ^ mostStates) f)) (refl, refl)
 

@@ -7,7 +7,7 @@ use Rattle.types.specs.Names.{mostStates}
 use Rattle.capi_spec.specs.Numbers.{madeTo}
 use Rattle.policy_spec.specs.declared.reachability.Made.{Made}
 
--- a map of starts that has a bit above 15 counts as none: 16 refuses both
+-- a map of starts that has a bit above 15 counts as none: both are refused with 16 (bad drawing)
 unfoldable pub startsFrom : ℕ → ℕ
 startsFrom q = cond (ltb q (2 ^ mostStates)) q 0
 

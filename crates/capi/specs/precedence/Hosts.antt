@@ -6,4 +6,4 @@ use Rattle.policy_spec.specs.declared.precedence.Made.{Made}
 
 -- a made policy as number, place, states and the map of the events that no allowed word holds
 abbrev pub precedenceTo : Made → List ℕ
-precedenceTo m = madeTo (m .answer) (m .policy .states) (m .never)
+precedenceTo m = madeTo (m .answer) (m .policy .states) (m .unreachable)

@@ -7,10 +7,10 @@ use lib.ListN.{replicate}
 use Rattle.spec.specs.Layouts.{rightLayout, inBox, inTable, inLandings, protected}
 use Rattle.spec.specs.Policies.{rightPolicy}
 use Rattle.spec.specs.Landings.{rightLandings, bitsFrom, landingsOf}
-use Rattle.spec.specs.Words.{judgeOf, judgeAt, firstRefused, instrOf, routine, bundlesFor}
-use Rattle.spec.specs.Bytes.{byteAt, quadAt, fieldsAt, oneFields, oneMap, oneOf, scanOf, wordsOf, readAnswer}
+use Rattle.spec.specs.Words.{fieldsRefusal, refusalAt, firstRefused, instrOf, routine, bundlesFor}
+use Rattle.spec.specs.Bytes.{byteAt, quadAt, fieldsAt, decodeFields, decodeMap, decodeOne, scanOf, wordsOf, readAnswer}
 use Rattle.spec.specs.Commands.{isCommand, commandOf, wordOf, fetchOf, plainOf}
-use Rattle.spec.specs.Bundles.{shapeOf, placeAnswer, rewriteAnswer, valid, readOff, bundleAt, isBundle, shapedAt, passesAt, checkFrom, checkAnswer}
+use Rattle.spec.specs.Bundles.{shapeOf, baseRoomAnswer, rewriteAnswer, valid, decodeBundle, bundleAt, isBundle, shapedAt, passesAt, checkFrom, checkAnswer}
 use Rattle.spec.specs.Machines.{installAnswer, installMemory, installMachine, applyOf, loopFrom}
 use Rattle.spec.specs.Runs.{eachRun}
 use Rattle.sandbox_spec.specs.Loading.{translateAnswer, loadAnswer, loadCommands, loadMemory, loadMachine}
@@ -19,18 +19,18 @@ use Rattle.capi_spec.specs.Hosts.{checkFor, installFor, loadFor}
 use Rattle.capi_spec.specs.Claims.{callsOf}
 use Rattle.capi_spec.specs.Sample.{bytes}
 use Rattle.capi_spec.proofs.Samples.{free-set}
-use Rattle.engine_spec.specs.Engines.{sendOf, actOf, nextFor, movedOf, effectOn, refusalBy, runOf}
+use Rattle.engine_spec.specs.Engines.{checkedEvent, instrEffect, instrEffectAt, withState, applyEffect, refusalBy, runOf}
 use Rattle.engine_spec.specs.Claims.{runOn, afterTaken, afterRun}
 use Rattle.capi_spec.specs.engine.Records.{engineFor}
 use Rattle.capi_spec.specs.engine.Claims.{loaded}
 use Rattle.capi_spec.specs.engine.Sample.{left, SampleHolds}
 
 pub sample-holds : SampleHolds
-unfolding ones leadingZeros layoutFrom rightLayout rightPolicy rightLandings inBox inTable inLandings protected bitsFrom landingsOf judgeOf judgeAt firstRefused byteAt quadAt fieldsAt oneFields oneMap oneOf scanOf wordsOf readAnswer instrOf routine bundlesFor wordOf shapeOf placeAnswer rewriteAnswer valid readOff bundleAt isBundle shapedAt passesAt checkFrom checkAnswer isCommand commandOf fetchOf plainOf installAnswer installMemory installMachine translateAnswer loadAnswer loadCommands loadMemory loadMachine applyOf loopFrom checkFor installFor loadFor sendOf actOf nextFor movedOf effectOn refusalBy runOf runOn afterTaken afterRun engineFor callsOf eachRun
+unfolding ones leadingZeros layoutFrom rightLayout rightPolicy rightLandings inBox inTable inLandings protected bitsFrom landingsOf fieldsRefusal refusalAt firstRefused byteAt quadAt fieldsAt decodeFields decodeMap decodeOne scanOf wordsOf readAnswer instrOf routine bundlesFor wordOf shapeOf baseRoomAnswer rewriteAnswer valid decodeBundle bundleAt isBundle shapedAt passesAt checkFrom checkAnswer isCommand commandOf fetchOf plainOf installAnswer installMemory installMachine translateAnswer loadAnswer loadCommands loadMemory loadMachine applyOf loopFrom checkFor installFor loadFor checkedEvent instrEffect instrEffectAt withState applyEffect refusalBy runOf runOn afterTaken afterRun engineFor callsOf eachRun
 sample-holds =
     record {
       laid = loaded bytes (replicate 40 0) refl;
       taken = refl;
-      lends = (λ l i s. refl, (λ l. absurd (let z : _≡_ {A = ℕ} 0 128 = l in omega arith), (λ l. free-set left 8 5 refl, tt)));
+      preserved = (λ l i s. refl, (λ l. absurd (let z : _≡_ {A = ℕ} 0 128 = l in omega arith), (λ l. free-set left 8 5 refl, tt)));
       answers = refl;
     }

@@ -5,42 +5,42 @@ use mathlib.Core.List.{List, [], map}
 use lib.ListN.{replicate}
 use Rattle.types.specs.Names.{guestRegisters}
 use Rattle.spec.specs.Policies.{Policy}
-use Rattle.spec.specs.Runs.{Given}
-use Rattle.capi_spec.specs.Numbers.{layoutFrom, behind}
-use Rattle.capi_spec.specs.Hosts.{installFor, loadFor, HostRan}
-use Rattle.capi_spec.specs.Claims.{ComesBack, callsOf, number}
-use Rattle.engine_spec.specs.Engines.{engineFirst, refusalOf}
-use Rattle.engine_spec.specs.Claims.{carriedOf, Lends, allRuns, Isolated}
-use Rattle.capi_spec.specs.engine.Records.{engineFrom, engineTo, ranTo, engineFor}
+use Rattle.spec.specs.Runs.{RunInput}
+use Rattle.capi_spec.specs.Numbers.{layoutFrom, trailer}
+use Rattle.capi_spec.specs.Hosts.{installFor, loadFor, HostResult}
+use Rattle.capi_spec.specs.Claims.{RoundTrips, callsOf, number}
+use Rattle.engine_spec.specs.Engines.{initialEngine, refusalOf}
+use Rattle.engine_spec.specs.Claims.{sessionOf, MemoriesPreserved, allRuns, Isolated}
+use Rattle.capi_spec.specs.engine.Records.{engineFrom, engineTo, resultTo, engineFor}
 
 -- the engine's record, of fifteen registers, in numbers and back
-abbrev pub EngineBack : Type 0
-EngineBack = ComesBack guestRegisters (λ m. m .regs) engineFrom engineTo
+abbrev pub EngineRoundTrips : Type 0
+EngineRoundTrips = RoundTrips guestRegisters (λ m. m .regs) engineFrom engineTo
 
 -- ---- a list of calls
 
 -- a record 'at first zeros and running'
 abbrev pub zeros : List ℕ
-zeros = replicate (guestRegisters + behind) 0
+zeros = replicate (guestRegisters + trailer) 0
 
 -- a call of hemdroas_engine
-abbrev pub engineCall : List ℕ → List ℕ → List ℕ → Given → HostRan
+abbrev pub engineCall : List ℕ → List ℕ → List ℕ → RunInput → HostResult
 engineCall lay ws xs g = engineFor lay ws xs (g .memory) (g .budget) (g .readings) (g .log)
 
 -- a memory that hemdroas_install or hemdroas_load left, which answered 0
-pub data Laid (lay : List ℕ) (pol : Policy) (mem : List ℕ) : List ℕ → Type 0 where
-  installed : number (installFor lay pol mem .answer) ≡ 0 → Laid lay pol mem (installFor lay pol mem .memory)
-  loaded : (bytes out : List ℕ) → number (loadFor lay pol bytes out mem .answer) ≡ 0 → Laid lay pol mem (loadFor lay pol bytes out mem .memory)
+pub data InstalledMemory (lay : List ℕ) (pol : Policy) (mem : List ℕ) : List ℕ → Type 0 where
+  installed : number (installFor lay pol mem .answer) ≡ 0 → InstalledMemory lay pol mem (installFor lay pol mem .memory)
+  loaded : (bytes out : List ℕ) → number (loadFor lay pol bytes out mem .answer) ≡ 0 → InstalledMemory lay pol mem (loadFor lay pol bytes out mem .memory)
 
 -- words that the engine takes, as all that hemdroas_rewrite takes (`EngineTakes`), and calls of hemdroas_engine from a record of zeros, each with the
 -- record's numbers as the last call left them and a memory that is, but for free cells, what the last call left: the calls are the runs of which
 -- `EngineIsolation` speaks, and it holds of them
-pub record CallsIsolated (lay : List ℕ) (pol : Policy) (ws mem : List ℕ) (gs : List Given) : Type 0 where
-  pub calls : callsOf (engineCall lay ws) zeros gs ≡ map (λ r. ranTo (r .ran)) (allRuns (layoutFrom lay) pol ws mem gs)
+pub record CallsIsolated (lay : List ℕ) (pol : Policy) (ws mem : List ℕ) (gs : List RunInput) : Type 0 where
+  pub calls : callsOf (engineCall lay ws) zeros gs ≡ map (λ r. resultTo (r .result)) (allRuns (layoutFrom lay) pol ws mem gs)
   pub isolated : Isolated (layoutFrom lay) pol ws mem gs
 
 abbrev pub HostEngineIsolation : Type 0
 HostEngineIsolation =
-    (lay : List ℕ) (pol : Policy) (mem ws left : List ℕ) (gs : List Given) →
-    Laid lay pol mem left → refusalOf (layoutFrom lay) ws left .number ≡ 0 →
-    Lends (layoutFrom lay) ws (carriedOf engineFirst left [] [] 0) gs → CallsIsolated lay pol ws mem gs
+    (lay : List ℕ) (pol : Policy) (mem ws left : List ℕ) (gs : List RunInput) →
+    InstalledMemory lay pol mem left → refusalOf (layoutFrom lay) ws left .number ≡ 0 →
+    MemoriesPreserved (layoutFrom lay) ws (sessionOf initialEngine left [] [] 0) gs → CallsIsolated lay pol ws mem gs

@@ -3,10 +3,10 @@ use Prim.Native.Nat.{ℕ}
 use mathlib.Core.List.{List, [], _∷_}
 use Rattle.types.specs.Names.{guestRegisters}
 use Rattle.capi_spec.specs.Numbers.{layoutFrom, recordTo, recordFrom}
-use Rattle.capi_spec.specs.Hosts.{HostRan, hostRan, hostLeft}
+use Rattle.capi_spec.specs.Hosts.{HostResult, hostResult, hostAfter}
 use Rattle.engine_spec.specs.declared.Engine.{Engine}
 use Rattle.engine_spec.specs.declared.EngineOutcome.{EngineOutcome}
-use Rattle.engine_spec.specs.Engines.{engineOf, Ran, runOf}
+use Rattle.engine_spec.specs.Engines.{engineOf, RunResult, runOf}
 
 -- a record as its registers, index and status
 abbrev pub engineFrom : List ℕ → Engine
@@ -20,9 +20,9 @@ abbrev pub answerTo : EngineOutcome → List ℕ
 answerTo o = o .answer .number ∷ o .answer .place ∷ o .steps ∷ o .pairs ∷ o .used ∷ []
 
 -- what a run answers and leaves, in numbers
-abbrev pub ranTo : Ran → HostRan
-ranTo r = hostRan (answerTo (r .outcome)) (engineTo (r .outcome .engine)) (r .mem) (r .log)
+abbrev pub resultTo : RunResult → HostResult
+resultTo r = hostResult (answerTo (r .outcome)) (engineTo (r .outcome .engine)) (r .mem) (r .log)
 
 -- hemdroas_engine: the answer, the record after it, memory, the log
-unfoldable pub engineFor : List ℕ → List ℕ → List ℕ → List ℕ → ℕ → List ℕ → List ℕ → HostRan
-engineFor lay ws xs mem budget rd log = hostLeft guestRegisters xs (ranTo (runOf (layoutFrom lay) ws (engineFrom xs) mem budget rd log))
+unfoldable pub engineFor : List ℕ → List ℕ → List ℕ → List ℕ → ℕ → List ℕ → List ℕ → HostResult
+engineFor lay ws xs mem budget rd log = hostAfter guestRegisters xs (resultTo (runOf (layoutFrom lay) ws (engineFrom xs) mem budget rd log))

@@ -8,10 +8,10 @@ use lib.ListN.{length, getD, set, take, drop, length-append, length-set}
 use lib.Seq.{sets, length-sets, length-take-le, set-at}
 use Rattle.types.specs.declared.Status.{Status}
 use Rattle.buffers.proofs.stores.Storing.{store-front, store-all}
-use Rattle.capi_spec.specs.Numbers.{statuses, statusNumber, behind, recordTo, statusIn, numbersAfter}
+use Rattle.capi_spec.specs.Numbers.{statuses, statusNumber, trailer, recordTo, statusIn, numbersAfter}
 use Rattle.capi_spec.proofs.Numbers.{last-two}
 
-module _ (xs regs : List ℕ) (l : length xs ≡ length regs + behind) where
+module _ (xs regs : List ℕ) (l : length xs ≡ length regs + trailer) where
   pub front : length regs ≡ length (take (length regs) xs)
   front = sym (length-take-le (length regs) xs (omega arith))
 

@@ -9,9 +9,9 @@ use Rattle.types.specs.Names.{guestRegisters, hidden, command}
 use Rattle.spec.specs.Words.{kindOf, dOf, aOf, bOf, packOf}
 use Rattle.spec.specs.Commands.{wordOf}
 use Rattle.spec.specs.Bundles.{shapeOf, valid, isBundle}
-use Rattle.checker.specs.masked_access.Masked.{masksOf, loadOf, storeOf, accessOf}
+use Rattle.checker.specs.masked_access.MaskedAccess.{maskWords, loadOf, storeOf, accessOf}
 
-pub masks-is : (l : Layout) (w x a : ℕ) (p q : Bool) → a ≡ aOf w → p ≡ eqb w (packOf (command .andi) hidden a 0 0 (l .high)) → q ≡ eqb x (packOf (command .ori) hidden hidden 0 0 (l .low)) → (ltb a guestRegisters && p && q) ≡ masksOf l w x
+pub masks-is : (l : Layout) (w x a : ℕ) (p q : Bool) → a ≡ aOf w → p ≡ eqb w (packOf (command .andi) hidden a 0 0 (l .high)) → q ≡ eqb x (packOf (command .ori) hidden hidden 0 0 (l .low)) → (ltb a guestRegisters && p && q) ≡ maskWords l w x
 masks-is l w x a p q ea ep eq = rw (ep, eq, ea)
 
 pub loads-is : (y d : ℕ) (p : Bool) → d ≡ dOf y → p ≡ eqb y (packOf (command .load) d hidden 0 0 0) → (ltb d guestRegisters && p) ≡ loadOf y
@@ -30,7 +30,7 @@ store-order true p q true s t = refl
 store-order true p q false s t = rw (and-false (p && q))
 store-order false p q b s t = refl
 
-module _ (l : Layout) (w x y z k : ℕ) (m r : Bool) (ek : k ≡ kindOf y) (em : m ≡ masksOf l w x) where
+module _ (l : Layout) (w x y z k : ℕ) (m r : Bool) (ek : k ≡ kindOf y) (em : m ≡ maskWords l w x) where
   pub by-load : k ≡ command .load → r ≡ loadOf y → (m && r && eqb z 0) ≡ isBundle l 0 (accessOf w y) w x y z
   unfolding isBundle valid shapeOf wordOf
   by-load h er = rw (em, er, ← ek, h) (load-order (ltb (aOf w) guestRegisters) _ _ (ltb (dOf y) guestRegisters) _ _)

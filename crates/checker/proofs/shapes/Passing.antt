@@ -11,12 +11,12 @@ use Rattle.types.specs.declared.Instr.the-variants.{HALT, PLAIN, LOAD, STORE, G
 use Rattle.types.specs.Names.{guest, command, plainStep}
 use Rattle.spec.specs.Words.{kindOf, dOf, aOf, bOf, cOf, vOf}
 use Rattle.spec.specs.Commands.{wordOf}
-use Rattle.spec.specs.Bundles.{shapeOf, valid, readOff, isBundle}
+use Rattle.spec.specs.Bundles.{shapeOf, valid, decodeBundle, isBundle}
 use Rattle.spec.proofs.Bools.{both}
-use Rattle.checker.specs.single.Alone.{alone, plainWords, landingOf, goifWords}
-use Rattle.checker.specs.masked_access.Masked.{accessOf}
-use Rattle.checker.specs.event.Looked.{eventWords}
-use Rattle.checker.specs.shapes.Sameness.{passesOf}
+use Rattle.checker.specs.single.Single.{singleWords, plainWords, bundleIndex, goifWords}
+use Rattle.checker.specs.masked_access.MaskedAccess.{accessOf}
+use Rattle.checker.specs.event.Event.{eventWords}
+use Rattle.checker.specs.shapes.FourWords.{passesOf}
 use Rattle.checker.proofs.shapes.Shapes.{plain-is, goif-is}
 
 -- no count of bundles is asked of LOAD and STORE
@@ -26,7 +26,7 @@ any-count l n w x y z d a b true = refl
 any-count l n w x y z d a b false = refl
 
 module _ (l : Layout) (n w x y z : ℕ) where
-  halt-is : alone w x y z (command .halt) ≡ isBundle l n HALT w x y z
+  halt-is : singleWords w x y z (command .halt) ≡ isBundle l n HALT w x y z
   unfolding isBundle valid shapeOf wordOf
   halt-is = refl
 
@@ -34,36 +34,36 @@ module _ (l : Layout) (n w x y z : ℕ) where
   unfolding isBundle valid shapeOf wordOf
   event-is = refl
 
-  off-halt : kindOf w ≡ command .halt → HALT ≡ readOff l w y z
-  unfolding readOff
+  off-halt : kindOf w ≡ command .halt → HALT ≡ decodeBundle l w y z
+  unfolding decodeBundle
   off-halt k = rw k
 
   off-plain : (kindOf w ≡ command .halt → ⊥) → (kindOf w ≡ command .andi → ⊥) → (kindOf w ≡ command .goif → ⊥) → (kindOf w ≡ command .shl → ⊥) → (kindOf w ≡ command .look → ⊥)
-      → PLAIN (kindOf w - plainStep) (dOf w) (aOf w) (bOf w) (vOf w) ≡ readOff l w y z
-  unfolding readOff
+      → PLAIN (kindOf w - plainStep) (dOf w) (aOf w) (bOf w) (vOf w) ≡ decodeBundle l w y z
+  unfolding decodeBundle
   off-plain a b c d f =
       rw (ne-eqb (kindOf w) (command .halt) a, ne-eqb (kindOf w) (command .andi) b, ne-eqb (kindOf w) (command .goif) c, ne-eqb (kindOf w) (command .shl) d, ne-eqb (kindOf w) (command .look) f)
 
   -- ---- the last bundle
 
   module _ (m : Bool) where
-    pub last-is : m ≡ false → (r : Bool) → r ≡ alone w x y z (command .halt) → r ≡ passesOf l n w x y z m
+    pub last-is : m ≡ false → (r : Bool) → r ≡ singleWords w x y z (command .halt) → r ≡ passesOf l n w x y z m
     last-is em r er = er ∙ rw em (go (eqb (kindOf w) (command .halt)) refl)
       where
-        go : (t : Bool) → eqb (kindOf w) (command .halt) ≡ t → alone w x y z (command .halt) ≡ (isBundle l n (readOff l w y z) w x y z && eqb (kindOf w) (command .halt))
+        go : (t : Bool) → eqb (kindOf w) (command .halt) ≡ t → singleWords w x y z (command .halt) ≡ (isBundle l n (decodeBundle l w y z) w x y z && eqb (kindOf w) (command .halt))
         go true e = rw (e, ← (off-halt (eqb-true _ _ e))) (halt-is ∙ sym (and-true (isBundle l n HALT w x y z)))
         go false e =
             rw (e, ne-eqb w (command .halt) (λ (q : w ≡ command .halt). eqb-false _ _ e (ap (λ (v : ℕ). kindOf v) q)))
-            (sym (and-false (isBundle l n (readOff l w y z) w x y z)))
+            (sym (and-false (isBundle l n (decodeBundle l w y z) w x y z)))
 
     -- ---- those before it, by the kind of the first word
 
     module _ (k : ℕ) (ek : k ≡ kindOf w) where
       module _ (em : m ≡ true) (r : Bool) where
-        passing : (i : Instr) → i ≡ readOff l w y z → r ≡ isBundle l n i w x y z → r ≡ passesOf l n w x y z m
-        passing i ei er = rw (em, and-true (isBundle l n (readOff l w y z) w x y z), ← ei) er
+        passing : (i : Instr) → i ≡ decodeBundle l w y z → r ≡ isBundle l n i w x y z → r ≡ passesOf l n w x y z m
+        passing i ei er = rw (em, and-true (isBundle l n (decodeBundle l w y z) w x y z), ← ei) er
 
-        pub pass-halt : k ≡ command .halt → r ≡ alone w x y z (command .halt) → r ≡ passesOf l n w x y z m
+        pub pass-halt : k ≡ command .halt → r ≡ singleWords w x y z (command .halt) → r ≡ passesOf l n w x y z m
         pass-halt e er = passing HALT (off-halt (sym ek ∙ e)) (er ∙ halt-is)
 
         pub pass-plain : (leb (command .set) k && leb k (command .sar)) ≡ true → r ≡ plainWords w x y z → r ≡ passesOf l n w x y z m
@@ -76,21 +76,21 @@ module _ (l : Layout) (n w x y z : ℕ) where
             (er ∙ plain-is n w (omega arith) (omega arith) l x y z)
 
         pub pass-access : k ≡ command .andi → r ≡ isBundle l 0 (accessOf w y) w x y z → r ≡ passesOf l n w x y z m
-        unfolding readOff
+        unfolding decodeBundle
         pass-access e er =
             passing (accessOf w y) (rw (← ek, e)) (er ∙ any-count l n w x y z (dOf y) (aOf w) (bOf y) (eqb (kindOf y) (command .load)))
 
         pub pass-gox : k ≡ command .shl → r ≡ isBundle l n (GOX (aOf w) (aOf z) (bOf z) (cOf z)) w x y z → r ≡ passesOf l n w x y z m
-        unfolding readOff
+        unfolding decodeBundle
         pass-gox e er = passing (GOX (aOf w) (aOf z) (bOf z) (cOf z)) (rw (← ek, e)) er
 
         pub pass-goif : w < 2 ^ 64 → k ≡ command .goif → r ≡ goifWords l n w x y z → r ≡ passesOf l n w x y z m
-        unfolding readOff
+        unfolding decodeBundle
         pass-goif fits e er =
-            passing (GOIF (aOf w) (bOf w) (cOf w) (landingOf l (vOf w))) (rw (← ek, e)) (er ∙ goif-is l n w fits (sym ek ∙ e) x y z)
+            passing (GOIF (aOf w) (bOf w) (cOf w) (bundleIndex l (vOf w))) (rw (← ek, e)) (er ∙ goif-is l n w fits (sym ek ∙ e) x y z)
 
         pub pass-event : k ≡ command .look → r ≡ eventWords w x y z → r ≡ passesOf l n w x y z m
-        unfolding readOff
+        unfolding decodeBundle
         pass-event e er = passing (EVENT (vOf w)) (rw (← ek, e)) (er ∙ event-is)
 
       -- a kind that no shape begins with

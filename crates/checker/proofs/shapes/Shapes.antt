@@ -19,13 +19,13 @@ use Rattle.spec.proofs.Facts.{Valid}
 use Rattle.spec.proofs.Conditions.{valid-is}
 use Rattle.spec.proofs.Packing.{InBits}
 use Rattle.spec.proofs.WordLaws.{bits-pack, pack-fields}
-use Rattle.words.specs.Guests.{guestsOf}
+use Rattle.words.specs.Guests.{onlyGuestRegisters}
 use Rattle.words.proofs.Laws.{Within, command-in, command-from, bool-ext}
-use Rattle.checker.specs.single.Alone.{landingOf, landsOf}
+use Rattle.checker.specs.single.Single.{bundleIndex, isBundleAddress}
 
 -- ---- a command of the guest's registers, and a word packed from its fields
 
-guests-in : (w : ℕ) → guestsOf w ≡ true → (ltb (dOf w) guestRegisters ≡ true) × (ltb (aOf w) guestRegisters ≡ true) × (ltb (bOf w) guestRegisters ≡ true)
+guests-in : (w : ℕ) → onlyGuestRegisters w ≡ true → (ltb (dOf w) guestRegisters ≡ true) × (ltb (aOf w) guestRegisters ≡ true) × (ltb (bOf w) guestRegisters ≡ true)
 guests-in w t =
     let b = both (ltb (dOf w) guestRegisters && ltb (aOf w) guestRegisters) (ltb (bOf w) guestRegisters) t in
     let a = both (ltb (dOf w) guestRegisters) (ltb (aOf w) guestRegisters) (b .0) in
@@ -41,7 +41,7 @@ read-back w f h t =
 
 module _ (l : Layout) (n w : ℕ) (fits : w < 2 ^ 64) (k : kindOf w ≡ command .goif) where
   abbrev g : ℕ
-  g = landingOf l (vOf w)
+  g = bundleIndex l (vOf w)
 
   abbrev goif : Instr
   goif = GOIF (aOf w) (bOf w) (cOf w) g
@@ -49,11 +49,11 @@ module _ (l : Layout) (n w : ℕ) (fits : w < 2 ^ 64) (k : kindOf w ≡ command 
   abbrev goif-fields : Fields
   goif-fields = record { kind = command .goif; d = 0; a = aOf w; b = bOf w; c = cOf w; v = addressOf l g }
 
-  goif-in : (isCommand w && guestsOf w && landsOf l n (vOf w)) ≡ true → (valid n goif && eqb w (packFields goif-fields)) ≡ true
+  goif-in : (isCommand w && onlyGuestRegisters w && isBundleAddress l n (vOf w)) ≡ true → (valid n goif && eqb w (packFields goif-fields)) ≡ true
   unfolding valid
   goif-in t =
-      let t₁ = both (isCommand w && guestsOf w) (landsOf l n (vOf w)) t in
-      let t₀ = both (isCommand w) (guestsOf w) (t₁ .0) in
+      let t₁ = both (isCommand w && onlyGuestRegisters w) (isBundleAddress l n (vOf w)) t in
+      let t₀ = both (isCommand w) (onlyGuestRegisters w) (t₁ .0) in
       let i : Within (limitsOf (command .goif)) w = subst (λ (j : ℕ). Within (limitsOf j) w) k (command-in w (t₀ .0)) in
       let r = guests-in w (t₀ .1) in
       let at = both (eqb (vOf w) (addressOf l g)) (ltb g n) (t₁ .1) in
@@ -62,7 +62,7 @@ module _ (l : Layout) (n w : ℕ) (fits : w < 2 ^ 64) (k : kindOf w ≡ command 
       let ew : w ≡ packFields goif-fields = sym (rw (k, ed, ev) at (pack-fields w (i .zero))) in
       simp (r .1, r .2, le-leb (cOf w) topCondition (i .c), at .1, eq-eqb w (packFields goif-fields) ew)
 
-  goif-out : (valid n goif && eqb w (packFields goif-fields)) ≡ true → (isCommand w && guestsOf w && landsOf l n (vOf w)) ≡ true
+  goif-out : (valid n goif && eqb w (packFields goif-fields)) ≡ true → (isCommand w && onlyGuestRegisters w && isBundleAddress l n (vOf w)) ≡ true
   goif-out t =
       let t₀ = both (valid n goif) (eqb w (packFields goif-fields)) t in
       let h : Valid n goif = valid-is n goif (t₀ .0) in
@@ -74,11 +74,11 @@ module _ (l : Layout) (n w : ℕ) (fits : w < 2 ^ 64) (k : kindOf w ≡ command 
       let c : isCommand w ≡ true = command-from w (subst (λ (j : ℕ). Within (limitsOf j) w) (sym k) i) in
       simp (c, lt-ltb (dOf w) guestRegisters (omega arith), lt-ltb (aOf w) guestRegisters (h .0), lt-ltb (bOf w) guestRegisters (h .1), eq-eqb (vOf w) (addressOf l g) ev, lt-ltb g n (h .3))
 
-  pub goif-is : (x y z : ℕ) → (isCommand w && guestsOf w && landsOf l n (vOf w) && eqb x 0 && eqb y 0 && eqb z 0) ≡ isBundle l n goif w x y z
+  pub goif-is : (x y z : ℕ) → (isCommand w && onlyGuestRegisters w && isBundleAddress l n (vOf w) && eqb x 0 && eqb y 0 && eqb z 0) ≡ isBundle l n goif w x y z
   unfolding isBundle shapeOf wordOf
   goif-is x y z =
       ap (λ (t : Bool). t && eqb x 0 && eqb y 0 && eqb z 0)
-      (bool-ext (isCommand w && guestsOf w && landsOf l n (vOf w)) (valid n goif && eqb w (packFields goif-fields)) goif-in goif-out)
+      (bool-ext (isCommand w && onlyGuestRegisters w && isBundleAddress l n (vOf w)) (valid n goif && eqb w (packFields goif-fields)) goif-in goif-out)
 
 -- ---- the plain kinds
 
@@ -96,10 +96,10 @@ module _ (n w : ℕ) (lo : command .set ≤ kindOf w) (hi : kindOf w ≤ command
   next : kindOf w - plainStep + plainStep ≡ kindOf w
   next = omega arith
 
-  plain-in : (isCommand w && guestsOf w) ≡ true → (valid n plain-instr && eqb w (packFields plain-fields)) ≡ true
+  plain-in : (isCommand w && onlyGuestRegisters w) ≡ true → (valid n plain-instr && eqb w (packFields plain-fields)) ≡ true
   unfolding valid
   plain-in t =
-      let t₀ = both (isCommand w) (guestsOf w) t in
+      let t₀ = both (isCommand w) (onlyGuestRegisters w) t in
       let i₀ : Within (limitsOf (kindOf w)) w = command-in w (t₀ .0) in
       let i : Within (limitsOf (kindOf w - plainStep + plainStep)) w = subst (λ (j : ℕ). Within (limitsOf j) w) (sym next) i₀ in
       let r = guests-in w (t₀ .1) in
@@ -108,7 +108,7 @@ module _ (n w : ℕ) (lo : command .set ≤ kindOf w) (hi : kindOf w ≤ command
       let ew : w ≡ packFields plain-fields = rw next (sym (rw ec at (pack-fields w (i₀ .zero)))) in
       simp (le-leb (guest .set) (kindOf w - plainStep) (omega arith), le-leb (kindOf w - plainStep) (guest .sar) (omega arith), r .0, r .1, r .2, le-leb _ _ (i .d), le-leb _ _ (i .a), le-leb _ _ (i .b), le-leb _ _ (i .v), eq-eqb w (packFields plain-fields) ew)
 
-  plain-out : (valid n plain-instr && eqb w (packFields plain-fields)) ≡ true → (isCommand w && guestsOf w) ≡ true
+  plain-out : (valid n plain-instr && eqb w (packFields plain-fields)) ≡ true → (isCommand w && onlyGuestRegisters w) ≡ true
   plain-out t =
       let t₀ = both (valid n plain-instr) (eqb w (packFields plain-fields)) t in
       let h : Valid n plain-instr = valid-is n plain-instr (t₀ .0) in
@@ -119,8 +119,8 @@ module _ (n w : ℕ) (lo : command .set ≤ kindOf w) (hi : kindOf w ≤ command
       let c : isCommand w ≡ true = command-from w (subst (λ (j : ℕ). Within (limitsOf j) w) next i) in
       simp (c, lt-ltb _ _ (h .2), lt-ltb _ _ (h .3), lt-ltb _ _ (h .4))
 
-  pub plain-is : (l : Layout) (x y z : ℕ) → (isCommand w && guestsOf w && eqb x 0 && eqb y 0 && eqb z 0) ≡ isBundle l n plain-instr w x y z
+  pub plain-is : (l : Layout) (x y z : ℕ) → (isCommand w && onlyGuestRegisters w && eqb x 0 && eqb y 0 && eqb z 0) ≡ isBundle l n plain-instr w x y z
   unfolding isBundle shapeOf wordOf
   plain-is l x y z =
       ap (λ (t : Bool). t && eqb x 0 && eqb y 0 && eqb z 0)
-      (bool-ext (isCommand w && guestsOf w) (valid n plain-instr && eqb w (packFields plain-fields)) plain-in plain-out)
+      (bool-ext (isCommand w && onlyGuestRegisters w) (valid n plain-instr && eqb w (packFields plain-fields)) plain-in plain-out)

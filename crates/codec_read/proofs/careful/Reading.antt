@@ -8,12 +8,12 @@ use native.Mathlib.Nat.{zero-mul, one-mul, mul-one}
 use lib.ListN.{getD}
 use lib.Dec.{eqb}
 use Rattle.types.specs.declared.Fields.{Fields}
-use Rattle.types.specs.declared.One.the-variants.{Word}
-use Rattle.spec.specs.Words.{judgeOf, packFields}
-use Rattle.words.specs.fields.Cut.{cutOf}
-use Rattle.spec.specs.Bytes.{byteAt, quadAt, fieldsAt, mapOf, sizeOf, oneFields}
+use Rattle.types.specs.declared.Decoded.the-variants.{Word}
+use Rattle.spec.specs.Words.{fieldsRefusal, packFields}
+use Rattle.words.specs.fields.Truncation.{truncateFields}
+use Rattle.spec.specs.Bytes.{byteAt, quadAt, fieldsAt, mapOf, sizeOf, decodeFields}
 use Rattle.spec.proofs.Bytes.{fields-are, fields-word}
-use Rattle.words.proofs.Judging.{uncut}
+use Rattle.words.proofs.RefusalLaws.{untruncated}
 use Rattle.codec_read.specs.careful.Parts.{fieldsFrom}
 
 -- a field's byte without a branch: the place of its byte, or 0, and the byte, or 0
@@ -49,7 +49,7 @@ pub all-are : (m : ℕ) (s : List ℕ) (at k d a : ℕ) → at ≡ 1 + m % 2 + m
 unfolding fieldsAt
 all-are m s at k d a e ek ed ea f ef = ef ∙ fields-are m s k d a _ _ _ ek ed ea (rw e) (rw e) (rw e)
 
--- a judgement of 0 lets packing cut nothing off
-pub fields-good : (m : ℕ) (f : Fields) (n : ℕ) → n ≡ mapOf f → (x : ℕ) → x ≡ judgeOf (not (eqb m n)) f → x ≡ 0
-    → (p u : ℕ) → p ≡ packFields (cutOf f) → u ≡ sizeOf m → Word p u ≡ oneFields m f
-fields-good m f n en x ex z p u ep eu = fields-word m f n en x ex z p u (ep ∙ ap packFields (uncut _ f (sym ex ∙ z))) eu
+-- a refusal number of 0 lets packing cut nothing off
+pub fields-good : (m : ℕ) (f : Fields) (n : ℕ) → n ≡ mapOf f → (x : ℕ) → x ≡ fieldsRefusal (not (eqb m n)) f → x ≡ 0
+    → (p u : ℕ) → p ≡ packFields (truncateFields f) → u ≡ sizeOf m → Word p u ≡ decodeFields m f
+fields-good m f n en x ex z p u ep eu = fields-word m f n en x ex z p u (ep ∙ ap packFields (untruncated _ f (sym ex ∙ z))) eu

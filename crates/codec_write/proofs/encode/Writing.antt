@@ -9,9 +9,9 @@ use lib.ListN.{length, set}
 use lib.Seq.{sets as stores}
 use Rattle.types.specs.declared.Fields.{Fields}
 use Rattle.spec.specs.Words.{fieldsOf}
-use Rattle.spec.specs.Bytes.{bitOf, mapOf, byteOut, quadOut, regsOut, fieldsOut, oneOut}
+use Rattle.spec.specs.Bytes.{bitOf, mapOf, byteOut, quadOut, regsOut, fieldsOut, encodeOne}
 use Rattle.spec.proofs.Bytes.{byte-none, byte-some, length-byte, quad-none, quad-some, length-two, length-regs, length-fields}
-use Rattle.codec_write.specs.encode.Widths.{weightOf, Small}
+use Rattle.codec_write.specs.encode.Widths.{encodedSize, Small}
 use Rattle.codec_write.proofs.encode.Storing.{put-after}
 
 -- ---- a field
@@ -59,20 +59,20 @@ put-fields f m em o o₁ o₂ o₃ o₄ at a b c e₁ ea e₂ eb e₃ ec e₄ =
 
 -- ---- what is said of the fields, said of the word
 module _ (w : ℕ) (f : Fields) (e : f ≡ fieldsOf w) where
-  weight-length : weightOf f ≡ length (oneOut w)
+  weight-length : encodedSize f ≡ length (encodeOne w)
   weight-length = sym (length-fields f) ∙ rw e
 
-  pub word-weight : (x : ℕ) → x ≡ weightOf f → x ≡ length (oneOut w)
+  pub word-weight : (x : ℕ) → x ≡ encodedSize f → x ≡ length (encodeOne w)
   word-weight x ex = ex ∙ weight-length
 
-  pub word-room : (at n : ℕ) → at + length (oneOut w) ≤ n → at + weightOf f ≤ n
+  pub word-room : (at n : ℕ) → at + length (encodeOne w) ≤ n → at + encodedSize f ≤ n
   word-room at n h = rw weight-length h
 
   pub word-small : Small f
   word-small = rw e (record { kind = omega arith; d = omega arith; a = omega arith; b = omega arith; c = omega arith })
 
-  pub word-next : (at x : ℕ) → x ≡ at + weightOf f → x ≡ at + length (oneOut w)
+  pub word-next : (at x : ℕ) → x ≡ at + encodedSize f → x ≡ at + length (encodeOne w)
   word-next at x ex = ex ∙ rw weight-length
 
-  pub word-out : (o o₁ : List ℕ) (at : ℕ) → o₁ ≡ stores o at (fieldsOut f) → o₁ ≡ stores o at (oneOut w)
+  pub word-out : (o o₁ : List ℕ) (at : ℕ) → o₁ ≡ stores o at (fieldsOut f) → o₁ ≡ stores o at (encodeOne w)
   word-out o o₁ at eo = eo ∙ rw e

@@ -11,4 +11,4 @@ write-check-spec =
     (λ c κs. search needs)
     (λ c. c .refused .ensures ∙ search (write-many, needs))
     (λ c κs. search needs)
-    (λ c. c .weigh .ensures ∙ sym (write-few _ _ (search needs))))
+    (λ c. c .measure .ensures ∙ sym (write-few _ _ (search needs))))

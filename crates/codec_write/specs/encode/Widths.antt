@@ -4,8 +4,8 @@ use Rattle.types.specs.declared.Fields.{Fields}
 use Rattle.spec.specs.Bytes.{bitOf}
 
 -- how many bytes the fields take, as the code counts them; by `length-fields` it is the length of their bytes
-abbrev pub weightOf : Fields → ℕ
-weightOf f = 1 + bitOf (f .kind) + bitOf (f .d) + bitOf (f .a) + bitOf (f .b) + bitOf (f .c) + 4 * bitOf (f .v)
+abbrev pub encodedSize : Fields → ℕ
+encodedSize f = 1 + bitOf (f .kind) + bitOf (f .d) + bitOf (f .a) + bitOf (f .b) + bitOf (f .c) + 4 * bitOf (f .v)
 
 -- the fields of one byte fit one
 pub record Small (f : Fields) : Type 0 where

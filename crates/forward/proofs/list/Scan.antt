@@ -13,7 +13,7 @@ use Rattle.types.specs.declared.Instr.{Instr}
 use Rattle.types.specs.declared.Refusal.the-variants.{Taken, NotForward}
 use Rattle.types.specs.Names.{bundleLength, numberOf, answer, refusal, command}
 use Rattle.spec.specs.Words.{kindOf, vOf}
-use Rattle.spec.specs.Bundles.{readOff, bundleAt, checkAnswer}
+use Rattle.spec.specs.Bundles.{decodeBundle, bundleAt, checkAnswer}
 use Rattle.spec.proofs.Bools.{cond-ind}
 use Rattle.forward_spec.specs.Forward.{forwardAt, forwardFrom, checkForwardAnswer, forwardWord}
 use Rattle.forward_spec.proofs.Laws.{scan-more, scan-stop, scan-done, list-refused, list-passed}
@@ -21,18 +21,18 @@ use Rattle.forward_spec.proofs.Laws.{scan-more, scan-stop, scan-done, list-refu
 -- ---- bundles, by their first words
 module _ (lay : Layout) (h w y z : ℕ) where
   abbrev Read : Type 0
-  Read = forwardWord lay h w ≡ forwardAt h (readOff lay w y z)
+  Read = forwardWord lay h w ≡ forwardAt h (decodeBundle lay w y z)
 
   module _ (e1 : eqb (kindOf w) (command .halt) ≡ false) (e9 : eqb (kindOf w) (command .andi) ≡ false) where
     read-far : (s t u : Bool) → eqb (kindOf w) (command .goif) ≡ s → eqb (kindOf w) (command .shl) ≡ t → eqb (kindOf w) (command .look) ≡ u → Read
-    unfolding forwardWord readOff forwardAt
+    unfolding forwardWord decodeBundle forwardAt
     read-far true t u e14 e11 e16 = rw (e1, e9, e14)
     read-far false true u e14 e11 e16 = rw (e1, e9, e14, e11)
     read-far false false true e14 e11 e16 = rw (e1, e9, e14, e11, e16)
     read-far false false false e14 e11 e16 = rw (e1, e9, e14, e11, e16)
 
   read-near : (s t : Bool) → eqb (kindOf w) (command .halt) ≡ s → eqb (kindOf w) (command .andi) ≡ t → Read
-  unfolding forwardWord readOff forwardAt
+  unfolding forwardWord decodeBundle forwardAt
   read-near true t e1 e9 = let q : kindOf w ≡ command .halt = eqb-true _ _ e1 in rw q
   read-near false true e1 e9 =
       let q : kindOf w ≡ command .andi = eqb-true _ _ e9 in

@@ -142,12 +142,12 @@ marks-more ls x l =
     (λ q.
     let f = eqb-false i k q in
     getD-set-other (landingsOf ls) k i v 0 f ∙ landings-at ls i li
-    ∙ sym (bits-other ls x (cellBits * i) cellBits (beside i f))
+    ∙ sym (bits-other ls x (cellBits * i) cellBits (paired i f))
     ∙ sym (landings-at (snoc ls x) i li))
     (cases (eqb i k)))
   where
-    beside : (i : ℕ) → (i ≡ x / cellBits → ⊥) → (x < cellBits * i) ⊎ (cellBits * i + cellBits ≤ x)
-    beside i f = ⊎-elim (λ q. inl (omega (arith, ltb-true (x / cellBits) i q))) (λ q. inr (omega (arith, ltb-false (x / cellBits) i q))) (cases (ltb (x / cellBits) i))
+    paired : (i : ℕ) → (i ≡ x / cellBits → ⊥) → (x < cellBits * i) ⊎ (cellBits * i + cellBits ≤ x)
+    paired i f = ⊎-elim (λ q. inl (omega (arith, ltb-true (x / cellBits) i q))) (λ q. inr (omega (arith, ltb-false (x / cellBits) i q))) (cases (ltb (x / cellBits) i))
 
 module _ (ls cells : List ℕ) (i : ℕ) (e : cells ≡ landingsOf (take i ls)) where
   pub mark-more : i < length ls → getD ls i 0 < mostBundles → (cells′ : List ℕ) → cells′ ≡ set cells (getD ls i 0 / cellBits) (bitOr (getD cells (getD ls i 0 / cellBits) 0) (2 ^ (getD ls i 0 % cellBits))) → cells′ ≡ landingsOf (take (i + 1) ls)

@@ -11,7 +11,7 @@ use borrow.Author.Tests.{le-ltb, lt-ltb, le-leb, lt-leb, eq-eqb, ne-eqb}
 use Rattle.types.specs.declared.Layout.{Layout}
 use Rattle.types.specs.Names.{mostCells, baseBound, cellBits}
 use Rattle.spec.specs.Policies.{statesRight}
-use Rattle.spec.specs.Layouts.{rightLayout, inRange, span, widthOf, inMemory, apart}
+use Rattle.spec.specs.Layouts.{rightLayout, inRange, span, widthOf, inMemory, disjoint}
 use Rattle.spec.proofs.Masks.{one-bit}
 
 -- two parts of a number: one is all of it when the other is 0
@@ -57,7 +57,7 @@ module _ (l : Layout) where
     abbrev pub rest : ℕ → Bool
     rest w =
         (leb 1 (l .size) && leb (l .size) mostCells && statesRight (l .states))
-        && (eqb ((l .low / 2 ^ w * 2 ^ w) % 2 ^ cellBits) (l .low) && (inMemory l && apart l))
+        && (eqb ((l .low / 2 ^ w * 2 ^ w) % 2 ^ cellBits) (l .low) && (inMemory l && disjoint l))
 
     pub right-rest : (w : ℕ) → l .low ≤ l .high → l .low < 2 ^ cellBits → l .base < baseBound → w ≡ widthOf l → rest w ≡ rightLayout l
     unfolding rightLayout

@@ -6,9 +6,9 @@ use lib.ListN.{getD, set}
 use Rattle.types.specs.declared.Status.{Status}
 use Rattle.types.specs.declared.Ending.{Ending}
 use Rattle.types.specs.declared.Effect.{Effect}
-use Rattle.types.specs.declared.Effect.the-variants.{Go, Put, Cell, Order, Probe, End, Wait}
+use Rattle.types.specs.declared.Effect.the-variants.{Go, SetReg, SetCell, Order, Probe, End, Wait}
 use Rattle.spec.specs.Layouts.{limited}
-use Rattle.spec.specs.Machines.{onward, applyOf, withPair}
+use Rattle.spec.specs.Machines.{nextPc, applyOf, withPair}
 use Rattle.machine_step.specs.declared.points.Point.{Point}
 use Rattle.machine_step.specs.points.Points.{pointOf, stateAt}
 
@@ -17,24 +17,24 @@ module _ (caps rd regs mem log : List ℕ) (at r : Point) (e : Effect) where
   unfolding applyOf
   goes to p q = rw (p, q)
 
-  pub puts : (d x : ℕ) (regs′ : List ℕ) → e ≡ Put d x → regs′ ≡ set regs d x → r ≡ pointOf (onward (at .pc)) (at .status) (at .pairs) (at .used)
+  pub puts : (d x : ℕ) (regs′ : List ℕ) → e ≡ SetReg d x → regs′ ≡ set regs d x → r ≡ pointOf (nextPc (at .pc)) (at .status) (at .pairs) (at .used)
       → stateAt regs′ r mem log ≡ applyOf caps rd e (stateAt regs at mem log)
   unfolding applyOf
   puts d x regs′ p s q = rw (p, q, s)
 
-  pub stores : (i x : ℕ) (mem′ : List ℕ) → e ≡ Cell i x → mem′ ≡ set mem i x → r ≡ pointOf (onward (at .pc)) (at .status) (at .pairs) (at .used)
+  pub stores : (i x : ℕ) (mem′ : List ℕ) → e ≡ SetCell i x → mem′ ≡ set mem i x → r ≡ pointOf (nextPc (at .pc)) (at .status) (at .pairs) (at .used)
       → stateAt regs r mem′ log ≡ applyOf caps rd e (stateAt regs at mem log)
   unfolding applyOf
   stores i x mem′ p s q = rw (p, q, s)
 
   pub orders : (v : ℕ) (log′ : List ℕ) → e ≡ Order v → log′ ≡ withPair log (at .pairs) v (limited caps v (getD regs 0 0))
-      → r ≡ pointOf (onward (at .pc)) (at .status) (at .pairs + 1) (at .used) → stateAt regs r mem log′ ≡ applyOf caps rd e (stateAt regs at mem log)
+      → r ≡ pointOf (nextPc (at .pc)) (at .status) (at .pairs + 1) (at .used) → stateAt regs r mem log′ ≡ applyOf caps rd e (stateAt regs at mem log)
   unfolding applyOf
   orders v log′ p s q = rw (p, q, s)
 
   pub probes : (v : ℕ) (regs′ log′ : List ℕ) → e ≡ Probe v
       → (regs′ ≡ set regs 0 (getD rd (at .used) 0)) × (log′ ≡ withPair log (at .pairs) v (getD rd (at .used) 0))
-      → r ≡ pointOf (onward (at .pc)) (at .status) (at .pairs + 1) (at .used + 1) → stateAt regs′ r mem log′ ≡ applyOf caps rd e (stateAt regs at mem log)
+      → r ≡ pointOf (nextPc (at .pc)) (at .status) (at .pairs + 1) (at .used + 1) → stateAt regs′ r mem log′ ≡ applyOf caps rd e (stateAt regs at mem log)
   unfolding applyOf
   probes v regs′ log′ p s q = rw (p, q, s .0, s .1)
 

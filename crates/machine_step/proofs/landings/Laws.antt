@@ -9,30 +9,30 @@ use native.Mathlib.Nat.{zero-div}
 use Rattle.types.specs.declared.Effect.{Effect}
 use Rattle.types.specs.Names.{mostBundles, bundleLength, cellBits}
 use Rattle.spec.specs.Landings.{bitAt, marked}
-use Rattle.spec.specs.Machines.{landsAt}
+use Rattle.spec.specs.Machines.{isLanding}
 
 module _ (mem : List ℕ) (b q to : ℕ) where
-  pub lands-below : to < b → false ≡ landsAt mem b q to
-  unfolding landsAt
+  pub lands-below : to < b → false ≡ isLanding mem b q to
+  unfolding isLanding
   lands-below h = rw (lt-leb b to h)
 
   module _ (h : b ≤ to) where
-    pub lands-off : ((to - b) % bundleLength ≡ 0 → ⊥) → false ≡ landsAt mem b q to
-    unfolding landsAt
+    pub lands-off : ((to - b) % bundleLength ≡ 0 → ⊥) → false ≡ isLanding mem b q to
+    unfolding isLanding
     lands-off k = rw (le-leb b to h, ne-eqb ((to - b) % bundleLength) 0 k)
 
     module _ (k : (to - b) % bundleLength ≡ 0) where
-      pub lands-high : mostBundles ≤ (to - b) / bundleLength → false ≡ landsAt mem b q to
-      unfolding landsAt
+      pub lands-high : mostBundles ≤ (to - b) / bundleLength → false ≡ isLanding mem b q to
+      unfolding isLanding
       lands-high l = rw (le-leb b to h, k, le-ltb ((to - b) / bundleLength) mostBundles l)
 
       module _ (l : (to - b) / bundleLength < mostBundles) where
-        pub lands-in : q + (to - b) / bundleLength / cellBits < length mem → bitAt (getD mem (q + (to - b) / bundleLength / cellBits) 0) ((to - b) / bundleLength % cellBits) ≡ landsAt mem b q to
-        unfolding landsAt marked
+        pub lands-in : q + (to - b) / bundleLength / cellBits < length mem → bitAt (getD mem (q + (to - b) / bundleLength / cellBits) 0) ((to - b) / bundleLength % cellBits) ≡ isLanding mem b q to
+        unfolding isLanding marked
         lands-in m = rw (le-leb b to h, k, lt-ltb ((to - b) / bundleLength) mostBundles l)
 
-        pub lands-out : length mem ≤ q + (to - b) / bundleLength / cellBits → false ≡ landsAt mem b q to
-        unfolding landsAt marked
+        pub lands-out : length mem ≤ q + (to - b) / bundleLength / cellBits → false ≡ isLanding mem b q to
+        unfolding isLanding marked
         lands-out m =
             let z : 0 / 2 ^ ((to - b) / bundleLength % cellBits) % 2 ≡ 0 = ap (λ (x : ℕ). x % 2) (zero-div (2 ^ ((to - b) / bundleLength % cellBits))) in
             rw (le-leb b to h, k, lt-ltb ((to - b) / bundleLength) mostBundles l, List·getD-eq-default mem 0 m, z)

@@ -12,10 +12,10 @@ returns : tie.Need-returns
 returns c =
     let judged = c .before .before in
     let start = judged .before .before .before in
-    bad-drawing _ _ (judged .right .ensures) (now (start .args .table)) _ (not-true _ (c .before .if1 .taken)) (c .refused .ensures)
+    bad-drawing _ _ (judged .drawing-right .ensures) (now (start .args .table)) _ (not-true _ (c .before .if1 .taken)) (c .refused .ensures)
 
 explore-requires : tie.Need-explore-requires
-explore-requires c κs = fit-of _ (sym (c .before .right .ensures) ∙ not-false _ (c .if1 .left))
+explore-requires c κs = fit-of _ (sym (c .before .drawing-right .ensures) ∙ not-false _ (c .if1 .left))
 
 returns-2 : tie.Need-returns-2
 returns-2 c =
@@ -23,7 +23,7 @@ returns-2 c =
     let explored = written .before .before in
     let judged = explored .before .before in
     let start = judged .before .before .before in
-    makes _ _ (judged .right .ensures) (now (start .args .table)) _ _ _ (not-false _ (explored .before .if1 .left)) (explored .explore .ensures) (written .write .ensures .0) (written .write .ensures .1)
+    makes _ _ (judged .drawing-right .ensures) (now (start .args .table)) _ _ _ (not-false _ (explored .before .if1 .left)) (explored .explore .ensures) (written .write .ensures .0) (written .write .ensures .1)
 
 pub determinise-spec : {M : Type 1} → statement M
 determinise-spec =

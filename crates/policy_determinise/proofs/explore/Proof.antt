@@ -2,7 +2,7 @@ use Prim.Native.Nat.{_-_, _*_, _<_, _≤_}
 use native.Mathlib.Omega.{arith}
 use borrow.Author.Needs.{needs}
 use Rattle.types.specs.Names.{events, mostStates}
-use Rattle.policy_spec.specs.reachability.Founds.{Holds}
+use Rattle.policy_spec.specs.reachability.Worklists.{WorklistInvariant}
 use Rattle.policy_spec.proofs.reachability.Explore.{going, holds-start, holds-more, holds-done}
 use Rattle.policy_determinise.specs.Drawings.{drawingOf, setAfter}
 use Rattle.policy_determinise.proofs.Runs.{arrows}
@@ -11,7 +11,7 @@ use Rattle.policy_determinise.proofs.explore.Tie as tie
 
 -- the arrows so far
 abbrev Inv-loop : tie.InvT-loop
-Inv-loop states starts arrows found₀ k₀ found k = Holds (setAfter (drawingOf states starts arrows)) starts found k
+Inv-loop states starts arrows found₀ k₀ found k = WorklistInvariant (setAfter (drawingOf states starts arrows)) starts found k
 
 abbrev μ-loop : tie.MeasureT-loop
 μ-loop states starts arrows found₀ k₀ found k = events * mostStates - k
@@ -21,7 +21,7 @@ loop-holds c = let start = c .before .before in holds-start _ (start .args .star
 
 -- an arrow that is to be taken is one of sixteen nodes
 low : (c : tie.Then1 Inv-loop μ-loop) → (c .before .before .loop .found .count ≤ mostStates) × (c .before .before .loop .k < events * mostStates)
-low c = let at = c .before .before .loop in going (at .found) (at .k) _ (c .before .more .ensures) (c .if1 .taken)
+low c = let at = c .before .before .loop in going (at .found) (at .k) _ (c .before .has-pending .ensures) (c .if1 .taken)
 
 node-requires : tie.Need-node-requires Inv-loop μ-loop
 node-requires c κs = low c .1
@@ -43,13 +43,13 @@ loop-again c =
     let test = c .before .before .before in
     let at = test .before .before .loop in
     let start = test .before .before .before .before .before in
-    holds-more _ (start .args .starts) (arrows _ (start .pre)) (at .found) (at .k) (at .inv) _ (test .before .more .ensures) (test .if1 .taken) _ _ (c .before .before .node .ensures) (c .before .next .ensures) _ (c .step .ensures)
+    holds-more _ (start .args .starts) (arrows _ (start .pre)) (at .found) (at .k) (at .inv) _ (test .before .has-pending .ensures) (test .if1 .taken) _ _ (c .before .before .node .ensures) (c .before .next .ensures) _ (c .step .ensures)
 
 returns : tie.Need-returns Inv-loop μ-loop
 returns c =
     let at = c .before .before in
     let start = at .before .before .before in
-    holds-done _ (start .args .starts) (arrows _ (start .pre)) (at .loop .found) (at .loop .k) (at .loop .inv) _ (c .before .more .ensures) (c .if1 .left)
+    holds-done _ (start .args .starts) (arrows _ (start .pre)) (at .loop .found) (at .loop .k) (at .loop .inv) _ (c .before .has-pending .ensures) (c .if1 .left)
 
 pub explore-spec : {M : Type 1} → statement M
 explore-spec =

@@ -3,7 +3,7 @@ use mathlib.Core.List.{[]}
 use native.Mathlib.Omega.{arith}
 use borrow.Author.Needs.{needs}
 use Rattle.types.specs.Names.{events, mostStates}
-use Rattle.policy_spec.specs.reachability.Founds.{Holds}
+use Rattle.policy_spec.specs.reachability.Worklists.{WorklistInvariant}
 use Rattle.policy_spec.proofs.reachability.Explore.{going, holds-start, holds-more, holds-done}
 use Rattle.spec.specs.Policies.{policyOf}
 use Rattle.policy_merge.specs.Pairs.{pairAfter}
@@ -13,7 +13,7 @@ use Rattle.policy_merge.proofs.explore.Tie as tie
 
 -- the arrows so far
 abbrev Inv-loop : tie.InvT-loop
-Inv-loop left right start found₀ k₀ found k = Holds (pairAfter (policyOf 0 0 left []) (policyOf 0 0 right [])) start found k
+Inv-loop left right start found₀ k₀ found k = WorklistInvariant (pairAfter (policyOf 0 0 left []) (policyOf 0 0 right [])) start found k
 
 abbrev μ-loop : tie.MeasureT-loop
 μ-loop left right start found₀ k₀ found k = events * mostStates - k
@@ -23,7 +23,7 @@ loop-holds c = let start = c .before .before .before in holds-start _ (start .ar
 
 -- an arrow that is to be taken is one of sixteen nodes
 low : (c : tie.Then1 Inv-loop μ-loop) → (c .before .before .loop .found .count ≤ mostStates) × (c .before .before .loop .k < events * mostStates)
-low c = let at = c .before .before .loop in going (at .found) (at .k) _ (c .before .more .ensures) (c .if1 .taken)
+low c = let at = c .before .before .loop in going (at .found) (at .k) _ (c .before .has-pending .ensures) (c .if1 .taken)
 
 node-requires : tie.Need-node-requires Inv-loop μ-loop
 node-requires c κs = low c .1
@@ -45,13 +45,13 @@ loop-again c =
     let test = c .before .before .before in
     let at = test .before .before .loop in
     let start = test .before .before .before .before .before .before in
-    holds-more _ (start .args .start) (pairs _ _ _ (λ z. omega (arith, start .pre))) (at .found) (at .k) (at .inv) _ (test .before .more .ensures) (test .if1 .taken) _ _ (c .before .before .node .ensures) (c .before .next .ensures) _ (c .step .ensures)
+    holds-more _ (start .args .start) (pairs _ _ _ (λ z. omega (arith, start .pre))) (at .found) (at .k) (at .inv) _ (test .before .has-pending .ensures) (test .if1 .taken) _ _ (c .before .before .node .ensures) (c .before .next .ensures) _ (c .step .ensures)
 
 returns : tie.Need-returns Inv-loop μ-loop
 returns c =
     let at = c .before .before in
     let start = at .before .before .before .before in
-    holds-done _ (start .args .start) (pairs _ _ _ (λ z. omega (arith, start .pre))) (at .loop .found) (at .loop .k) (at .loop .inv) _ (c .before .more .ensures) (c .if1 .left)
+    holds-done _ (start .args .start) (pairs _ _ _ (λ z. omega (arith, start .pre))) (at .loop .found) (at .loop .k) (at .loop .inv) _ (c .before .has-pending .ensures) (c .if1 .left)
 
 pub explore-spec : {M : Type 1} → statement M
 explore-spec =

@@ -12,7 +12,7 @@ taken-spec =
     (λ c κs. search needs)
     (λ c κs. search needs)
     (λ c. let start = c .before .before .before .before in record { fits = states-fit (now (start .args .pairs)) _ _ (start .pre .0) (start .pre .1) })
-    (λ c. record { fits = never-fits _ _ (c .before .stuck-all .ensures) })
+    (λ c. record { fits = never-fits _ _ (c .before .blocked-events .ensures) })
     (λ c.
     let start = c .before .before .before .before in
-    taken-is (now (start .args .pairs)) (start .args .bytes) _ _ _ (start .pre .1) (c .before .before .full .ensures .0) (c .before .stuck-all .ensures) _ (search needs)))
+    taken-is (now (start .args .pairs)) (start .args .bytes) _ _ _ (start .pre .1) (c .before .before .fixpoint .ensures .0) (c .before .blocked-events .ensures) _ (search needs)))

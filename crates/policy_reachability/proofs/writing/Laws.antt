@@ -10,9 +10,9 @@ use Rattle.types.specs.declared.Answer.{Answer}
 use Rattle.types.specs.declared.Refusal.the-variants.{SmallOutput, TooManyStates}
 use Rattle.types.specs.Names.{mostStates, events, answer, refusal}
 use Rattle.policy_spec.specs.reachability.Reach.{madeWith}
-use Rattle.policy_spec.specs.declared.reachability.Found.{Found}
+use Rattle.policy_spec.specs.declared.reachability.Worklist.{Worklist}
 use Rattle.policy_spec.specs.declared.reachability.Made.{Made}
-use Rattle.policy_spec.specs.reachability.Founds.{Sized, foundAnswer, writtenOf, writtenTable}
+use Rattle.policy_spec.specs.reachability.Worklists.{Sized, worklistAnswer, writtenOf, writtenTable}
 
 -- one more byte copied
 pub copy-more : (s t₀ t : List ℕ) (i r : ℕ) → t ≡ take i s ++ drop i t₀ → i < length s → i < length t₀ → r ≡ getD s i 0 → set t i r ≡ take (i + 1) s ++ drop (i + 1) t₀
@@ -27,20 +27,20 @@ copy-done s t₀ t i n e h k = let q : i ≡ n = omega arith in e ∙ ap (λ (j 
 pub refused-is : (x : ℕ) (a : Answer) → a ≡ answer x 0 → madeWith a 0 ≡ madeWith (answer x 0) 0
 refused-is x a e = rw e
 
-module _ (f : Found) (sized : Sized f) where
+module _ (f : Worklist) (sized : Sized f) where
   abbrev pub Writes : List ℕ → Made → List ℕ → Type 0
   Writes t made t′ = (made ≡ writtenOf f (length t)) × (t′ ≡ writtenTable f t)
 
   pub too-many : (t : List ℕ) (made : Made) → mostStates < f .count → made ≡ madeWith (refusal TooManyStates 0) 0 → Writes t made t
-  unfolding writtenOf writtenTable foundAnswer
+  unfolding writtenOf writtenTable worklistAnswer
   too-many t made h q = rw (lt-leb (f .count) mostStates h) (q, refl)
 
   pub no-room : (t : List ℕ) (made : Made) (b : ℕ) → f .count ≤ mostStates → b ≡ events * f .count → length t < b → made ≡ madeWith (refusal SmallOutput 0) 0 → Writes t made t
-  unfolding writtenOf writtenTable foundAnswer
+  unfolding writtenOf writtenTable worklistAnswer
   no-room t made b h e l q = rw (le-leb (f .count) mostStates h, lt-ltb (length t) (events * f .count) (omega arith)) (q, refl)
 
   pub writes : (t t′ : List ℕ) (b : ℕ) → f .count ≤ mostStates → b ≡ events * f .count → b ≤ length t → t′ ≡ take b (f .arrows) ++ drop b t → (a : Answer) → a ≡ answer 0 b → Writes t (madeWith a (f .count)) t′
-  unfolding writtenOf writtenTable foundAnswer
+  unfolding writtenOf writtenTable worklistAnswer
   writes t t′ b h e l q a ea =
       let n : length (take (events * f .count) (f .arrows)) ≡ events * f .count = length-take-le (events * f .count) (f .arrows) (omega (arith, sized .arrows)) in
       rw (le-leb (f .count) mostStates h, le-ltb (length t) (events * f .count) (omega arith), n, ea, e) (refl, q ∙ ap (λ (j : ℕ). take j (f .arrows) ++ drop j t) e)

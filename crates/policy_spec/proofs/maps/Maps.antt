@@ -44,12 +44,12 @@ some-at p (suc n) i h e = go (eqb i n) refl (λ k. some-at p n i k e)
     go true g k = or-right (some p n) (p n) (ap p (sym (eqb-true i n g)) ∙ e)
     go false g k = or-left (some p n) (p n) (k (omega (arith, eqb-false i n g)))
 
-pub record Found (p : ℕ → Bool) (n : ℕ) : Type 0 where
+pub record Witness (p : ℕ → Bool) (n : ℕ) : Type 0 where
   pub at : ℕ
   pub below : at < n
   pub passes : p at ≡ true
 
-pub some-find : (p : ℕ → Bool) (n : ℕ) → some p n ≡ true → Found p n
+pub some-find : (p : ℕ → Bool) (n : ℕ) → some p n ≡ true → Witness p n
 unfolding some
 some-find p zero e = no e
 some-find p (suc n) e =

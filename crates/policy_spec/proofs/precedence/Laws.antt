@@ -17,7 +17,7 @@ use Rattle.types.specs.Names.{events, noArrow, answer, refusal}
 use Rattle.spec.proofs.Bools.{both}
 use Rattle.policy_spec.specs.declared.precedence.Made.{Made}
 use Rattle.policy_spec.specs.maps.Maps.{every, some, mapWhere, bit, build}
-use Rattle.policy_spec.specs.precedence.Precedence.{Fit, namedIn, isNamed, knownIn, known, mostNamed, firstAt, pairsIn, place, firstsIn, statesOf, tableBytes, namedCount, arrowOf, byteOf, stuck, onOf, turnsOf, fullOf, neverOf, pairsRight, makeAnswer, madeWith, makeOf, makeTable}
+use Rattle.policy_spec.specs.precedence.Precedence.{ValidPairs, namedIn, isNamed, knownIn, known, mostNamed, firstAt, pairsIn, bitIndex, firstsIn, statesOf, tableBytes, namedCount, arrowOf, byteOf, blocked, advanceOf, iterate, fixpointOf, unreachableEvents, pairsRight, makeAnswer, madeWith, makeOf, makeTable}
 use Rattle.policy_spec.proofs.maps.Maps.{every-at, map-or, map-one, map-none, map-low, map-ones, bit-map, count-less, map-lt, length-build}
 
 pub known-none : (ps : List ℕ) → knownIn ps 0 ≡ true
@@ -71,9 +71,9 @@ below-is m e h = rw (shifted e h) (refl, few-below m e)
 pub below-fits : (m e : ℕ) → e < events → ones (bitAnd m ((1 * 2 ^ e) % 2 ^ 64 - 1)) < 2 ^ 64
 below-fits m e h = rw (shifted e h) (omega (arith, few-below m e))
 
-module _ (ps : List ℕ) (m : ℕ) (fit : Fit ps m) where
+module _ (ps : List ℕ) (m : ℕ) (fit : ValidPairs ps m) where
   -- the bits of the map of named events below an event's say its place
-  pub place-is : (e k : ℕ) → e < events → k ≡ ones-below m e → k ≡ place ps e
+  pub place-is : (e k : ℕ) → e < events → k ≡ ones-below m e → k ≡ bitIndex ps e
   place-is e k h f =
       let s : e + (events - e) ≡ events = omega arith in
       let l : mapWhere (isNamed ps) events % 2 ^ e ≡ mapWhere (isNamed ps) e = rw s at (map-low (isNamed ps) (events - e) e) in
@@ -87,7 +87,7 @@ module _ (ps : List ℕ) (m : ℕ) (fit : Fit ps m) where
   named-is e h = ap (λ (x : ℕ). bit x e) (fit .map) ∙ bit-map (isNamed ps) events e h
 
   -- a named event's bit is one of four
-  pub place-less : (e : ℕ) → e < events → isNamed ps e ≡ true → place ps e < mostNamed
+  pub place-less : (e : ℕ) → e < events → isNamed ps e ≡ true → bitIndex ps e < mostNamed
   place-less e h t = omega (arith, count-less (isNamed ps) events e h t, fit .few)
 
   pub first-below : (i y : ℕ) → i < length ps / 2 → y ≡ getD ps (2 * i) 0 → y < events
@@ -101,7 +101,7 @@ module _ (ps : List ℕ) (m : ℕ) (fit : Fit ps m) where
   unfolding firstsIn every
   firsts-more s e i x y k ok b h f g₁ g₂ q r =
       let n : i + 1 ≡ suc i = omega arith in
-      let p : k ≡ place ps (firstAt ps i) = place-is y k (first-below i y h g₂) q ∙ ap (place ps) g₂ in
+      let p : k ≡ bitIndex ps (firstAt ps i) = place-is y k (first-below i y h g₂) q ∙ ap (bitIndex ps) g₂ in
       rw (n, f, g₁, r, p)
 
 pub firsts-none : (ps : List ℕ) (s e : ℕ) → firstsIn ps s e 0 ≡ true
@@ -113,7 +113,7 @@ firsts-done ps s e i ok f h k = let q : i ≡ length ps / 2 = omega arith in f �
 
 -- ---- arrows
 
-module _ (ps : List ℕ) (m : ℕ) (fit : Fit ps m) where
+module _ (ps : List ℕ) (m : ℕ) (fit : ValidPairs ps m) where
   pub states-most : statesOf ps ≤ 16
   states-most = pow-mono {i = namedCount ps} {j = mostNamed} (fit .few)
 
@@ -134,11 +134,11 @@ module _ (ps : List ℕ) (m : ℕ) (fit : Fit ps m) where
       pub arrow-goes : r ≡ true → (x : ℕ) → x ≡ ones-below m e → Arrow s e (bitOr s ((1 * 2 ^ x) % 2 ^ 64))
       unfolding arrowOf
       arrow-goes t x y =
-          let z : x ≡ place ps e = place-is ps m fit e x k y in
-          let l : place ps e < mostNamed = place-less ps m fit e k is-named in
+          let z : x ≡ bitIndex ps e = place-is ps m fit e x k y in
+          let l : bitIndex ps e < mostNamed = place-less ps m fit e k is-named in
           let w : firstsIn ps s e (pairsIn ps) ≡ true = sym q ∙ t in
-          rw (z, shifted (place ps e) (omega arith), is-named, w)
-          (refl, omega (arith, or-lt 4 s (2 ^ place ps e) (omega (arith, states-most)) (pow-lt {i = place ps e} {j = 4} l)))
+          rw (z, shifted (bitIndex ps e) (omega arith), is-named, w)
+          (refl, omega (arith, or-lt 4 s (2 ^ bitIndex ps e) (omega (arith, states-most)) (pow-lt {i = bitIndex ps e} {j = 4} l)))
 
       pub arrow-none : r ≡ false → Arrow s e noArrow
       unfolding arrowOf
@@ -147,46 +147,46 @@ module _ (ps : List ℕ) (m : ℕ) (fit : Fit ps m) where
           rw (is-named, w) (refl, omega arith)
 
   -- the state after a named event whose firsts are recorded is a state
-  pub sets-below : (s e : ℕ) → s < statesOf ps → e < events → isNamed ps e ≡ true → bitOr s (2 ^ place ps e) < statesOf ps
-  sets-below s e h k n = or-lt (namedCount ps) s (2 ^ place ps e) h (pow-lt {i = place ps e} {j = namedCount ps} (count-less (isNamed ps) events e k n))
+  pub sets-below : (s e : ℕ) → s < statesOf ps → e < events → isNamed ps e ≡ true → bitOr s (2 ^ bitIndex ps e) < statesOf ps
+  sets-below s e h k n = or-lt (namedCount ps) s (2 ^ bitIndex ps e) h (pow-lt {i = bitIndex ps e} {j = namedCount ps} (count-less (isNamed ps) events e k n))
 
   -- an event goes on exactly if it is named and its firsts are recorded
-  pub on-is : (s e : ℕ) → s < statesOf ps → e < events → onOf ps s e ≡ cond (isNamed ps e && firstsIn ps s e (pairsIn ps)) (bitOr s (2 ^ place ps e)) s
+  pub on-is : (s e : ℕ) → s < statesOf ps → e < events → advanceOf ps s e ≡ cond (isNamed ps e && firstsIn ps s e (pairsIn ps)) (bitOr s (2 ^ bitIndex ps e)) s
   unfolding arrowOf
   on-is s e h k = go (isNamed ps e) (firstsIn ps s e (pairsIn ps)) refl
     where
       pick : ℕ → ℕ
       pick a = cond (eqb a noArrow) s a
 
-      go : (n f : Bool) → isNamed ps e ≡ n → pick (cond n (cond f (bitOr s (2 ^ place ps e)) noArrow) s) ≡ cond (n && f) (bitOr s (2 ^ place ps e)) s
-      go true true t = rw (ne-eqb (bitOr s (2 ^ place ps e)) noArrow (λ z. omega (arith, sets-below s e h k t, states-most)))
+      go : (n f : Bool) → isNamed ps e ≡ n → pick (cond n (cond f (bitOr s (2 ^ bitIndex ps e)) noArrow) s) ≡ cond (n && f) (bitOr s (2 ^ bitIndex ps e)) s
+      go true true t = rw (ne-eqb (bitOr s (2 ^ bitIndex ps e)) noArrow (λ z. omega (arith, sets-below s e h k t, states-most)))
       go true false t = refl
       go false f t = rw (ne-eqb s noArrow (λ z. omega (arith, states-most)))
 
   -- an event has no arrow exactly if it is named and a first is not recorded
-  pub stuck-is : (s e : ℕ) → s < statesOf ps → e < events → stuck ps s e ≡ (isNamed ps e && not (firstsIn ps s e (pairsIn ps)))
+  pub blocked-is : (s e : ℕ) → s < statesOf ps → e < events → blocked ps s e ≡ (isNamed ps e && not (firstsIn ps s e (pairsIn ps)))
   unfolding arrowOf
-  stuck-is s e h k = go (isNamed ps e) (firstsIn ps s e (pairsIn ps)) refl
+  blocked-is s e h k = go (isNamed ps e) (firstsIn ps s e (pairsIn ps)) refl
     where
-      go : (n f : Bool) → isNamed ps e ≡ n → eqb (cond n (cond f (bitOr s (2 ^ place ps e)) noArrow) s) noArrow ≡ (n && not f)
-      go true true t = ne-eqb (bitOr s (2 ^ place ps e)) noArrow (λ z. omega (arith, sets-below s e h k t, states-most))
+      go : (n f : Bool) → isNamed ps e ≡ n → eqb (cond n (cond f (bitOr s (2 ^ bitIndex ps e)) noArrow) s) noArrow ≡ (n && not f)
+      go true true t = ne-eqb (bitOr s (2 ^ bitIndex ps e)) noArrow (λ z. omega (arith, sets-below s e h k t, states-most))
       go true false t = refl
       go false f t = ne-eqb s noArrow (λ z. omega (arith, states-most))
 
-  pub on-below : (s e : ℕ) → s < statesOf ps → e < events → onOf ps s e < statesOf ps
+  pub on-below : (s e : ℕ) → s < statesOf ps → e < events → advanceOf ps s e < statesOf ps
   on-below s e h k = rw (on-is s e h k) (go (isNamed ps e) (firstsIn ps s e (pairsIn ps)) refl)
     where
-      go : (n f : Bool) → isNamed ps e ≡ n → cond (n && f) (bitOr s (2 ^ place ps e)) s < statesOf ps
+      go : (n f : Bool) → isNamed ps e ≡ n → cond (n && f) (bitOr s (2 ^ bitIndex ps e)) s < statesOf ps
       go true true t = sets-below s e h k t
       go true false t = h
       go false f t = h
 
-  pub turns-below : (i : ℕ) → turnsOf ps i < statesOf ps
-  unfolding turnsOf
+  pub turns-below : (i : ℕ) → iterate ps i < statesOf ps
+  unfolding iterate
   turns-below zero = pow-pos (namedCount ps)
-  turns-below (suc i) = on-below (turnsOf ps i) (i % events) (turns-below i) (omega arith)
+  turns-below (suc i) = on-below (iterate ps i) (i % events) (turns-below i) (omega arith)
 
-  pub turned : (s i : ℕ) → s ≡ turnsOf ps i → s < statesOf ps
+  pub turned : (s i : ℕ) → s ≡ iterate ps i → s < statesOf ps
   turned s i e = rw e (turns-below i)
 
 -- ---- the table
@@ -194,31 +194,31 @@ module _ (ps : List ℕ) (m : ℕ) (fit : Fit ps m) where
 pub row-below : (ps : List ℕ) (i n : ℕ) → n ≡ tableBytes ps → i < n → i / events < statesOf ps
 row-below ps i n e h = omega arith
 
--- ---- turns and what is stuck
+-- ---- iteration and blocked events
 
-pub on-stays : (ps : List ℕ) (s e a : ℕ) → a ≡ arrowOf ps s e → a ≡ noArrow → s ≡ onOf ps s e
+pub on-stays : (ps : List ℕ) (s e a : ℕ) → a ≡ arrowOf ps s e → a ≡ noArrow → s ≡ advanceOf ps s e
 on-stays ps s e a g t = rw (eq-eqb (arrowOf ps s e) noArrow (sym g ∙ t))
 
-pub on-goes : (ps : List ℕ) (s e a : ℕ) → a ≡ arrowOf ps s e → (a ≡ noArrow → ⊥) → a ≡ onOf ps s e
+pub on-goes : (ps : List ℕ) (s e a : ℕ) → a ≡ arrowOf ps s e → (a ≡ noArrow → ⊥) → a ≡ advanceOf ps s e
 on-goes ps s e a g t = rw (ne-eqb (arrowOf ps s e) noArrow (λ z. t (g ∙ z))) g
 
-pub turns-none : (ps : List ℕ) → 0 ≡ turnsOf ps 0
-unfolding turnsOf
+pub turns-none : (ps : List ℕ) → 0 ≡ iterate ps 0
+unfolding iterate
 turns-none ps = refl
 
-pub turns-more : (ps : List ℕ) (s i r : ℕ) → s ≡ turnsOf ps i → r ≡ onOf ps s (i % events) → r ≡ turnsOf ps (i + 1)
-unfolding turnsOf
-turns-more ps s i r e g = let n : i + 1 ≡ suc i = omega arith in rw n (g ∙ ap (λ (x : ℕ). onOf ps x (i % events)) e)
+pub turns-more : (ps : List ℕ) (s i r : ℕ) → s ≡ iterate ps i → r ≡ advanceOf ps s (i % events) → r ≡ iterate ps (i + 1)
+unfolding iterate
+turns-more ps s i r e g = let n : i + 1 ≡ suc i = omega arith in rw n (g ∙ ap (λ (x : ℕ). advanceOf ps x (i % events)) e)
 
-pub turns-done : (ps : List ℕ) (m : ℕ) → Fit ps m → (s i : ℕ) → s ≡ turnsOf ps i → mostNamed * events ≤ i → i ≤ mostNamed * events → (s ≡ fullOf ps) × (s < statesOf ps)
-turns-done ps m fit s i e h k = let q : i ≡ mostNamed * events = omega arith in (e ∙ ap (turnsOf ps) q, turned ps m fit s i e)
+pub turns-done : (ps : List ℕ) (m : ℕ) → ValidPairs ps m → (s i : ℕ) → s ≡ iterate ps i → mostNamed * events ≤ i → i ≤ mostNamed * events → (s ≡ fixpointOf ps) × (s < statesOf ps)
+turns-done ps m fit s i e h k = let q : i ≡ mostNamed * events = omega arith in (e ∙ ap (iterate ps) q, turned ps m fit s i e)
 
 module _ (ps : List ℕ) (s e a : ℕ) (g : a ≡ arrowOf ps s e) where
-  pub stuck-yes : e < events → a ≡ noArrow → (1 * 2 ^ e) % 2 ^ 64 ≡ cond (stuck ps s e) (2 ^ e) 0
-  stuck-yes h t = rw (eq-eqb (arrowOf ps s e) noArrow (sym g ∙ t)) (shifted e h)
+  pub blocked-yes : e < events → a ≡ noArrow → (1 * 2 ^ e) % 2 ^ 64 ≡ cond (blocked ps s e) (2 ^ e) 0
+  blocked-yes h t = rw (eq-eqb (arrowOf ps s e) noArrow (sym g ∙ t)) (shifted e h)
 
-  pub stuck-no : (a ≡ noArrow → ⊥) → 0 ≡ cond (stuck ps s e) (2 ^ e) 0
-  stuck-no t = rw (ne-eqb (arrowOf ps s e) noArrow (λ z. t (g ∙ z)))
+  pub blocked-no : (a ≡ noArrow → ⊥) → 0 ≡ cond (blocked ps s e) (2 ^ e) 0
+  blocked-no t = rw (ne-eqb (arrowOf ps s e) noArrow (λ z. t (g ∙ z)))
 
 pub all-none : (p : ℕ → Bool) → 0 ≡ mapWhere p 0
 unfolding mapWhere
@@ -247,7 +247,7 @@ unfolding pairsRight
 right-is ps m r e f = rw (f, e, map-ones (isNamed ps) events)
 
 module _ (ps : List ℕ) (m : ℕ) (e : m ≡ mapWhere (isNamed ps) events) (r : Bool) (g : r ≡ pairsRight ps) where
-  pub fit-of : r ≡ true → Fit ps m
+  pub fit-of : r ≡ true → ValidPairs ps m
   unfolding pairsRight
   fit-of t =
       let f = both (known ps && eqb (length ps % 2) 0) _ (sym g ∙ t) in
@@ -271,23 +271,23 @@ module _ (ps : List ℕ) (m : ℕ) (e : m ≡ mapWhere (isNamed ps) events) (r :
   unfolding makeOf makeTable makeAnswer
   no-room t made b f z h q = let l : ltb (length t) (tableBytes ps) ≡ true = lt-ltb (length t) (tableBytes ps) (rw z at h) in rw (← g, f, l) (q, refl)
 
-  pub makes : (t t′ : List ℕ) (made : Made) (b : ℕ) → r ≡ true → b ≡ tableBytes ps → b ≤ length t → t′ ≡ build (byteOf ps) b ++ drop b t → made ≡ madeWith (answer 0 b) (statesOf ps) (neverOf ps) → Makes t made t′
+  pub makes : (t t′ : List ℕ) (made : Made) (b : ℕ) → r ≡ true → b ≡ tableBytes ps → b ≤ length t → t′ ≡ build (byteOf ps) b ++ drop b t → made ≡ madeWith (answer 0 b) (statesOf ps) (unreachableEvents ps) → Makes t made t′
   unfolding makeOf makeTable makeAnswer
   makes t t′ made b f z h w q =
       let l : ltb (length t) (tableBytes ps) ≡ false = le-ltb (length t) (tableBytes ps) (rw z at h) in
       rw (← g, f, l, length-build (byteOf ps) (tableBytes ps)) (rw z at q, rw z at w)
 
-pub states-fit : (ps : List ℕ) (m s : ℕ) → Fit ps m → s ≡ statesOf ps → s < 2 ^ 32
+pub states-fit : (ps : List ℕ) (m s : ℕ) → ValidPairs ps m → s ≡ statesOf ps → s < 2 ^ 32
 states-fit ps m s fit e = omega (arith, states-most ps m fit)
 
 pub never-fits : (p : ℕ → Bool) (x : ℕ) → x ≡ mapWhere p events → x < 2 ^ 16
 never-fits p x e = rw e (map-lt p events)
 
-pub taken-is : (ps : List ℕ) (b s r x : ℕ) → s ≡ statesOf ps → r ≡ fullOf ps → x ≡ mapWhere (stuck ps r) events → (a : Answer) → a ≡ answer 0 b → madeWith a s x ≡ madeWith (answer 0 b) (statesOf ps) (neverOf ps)
-taken-is ps b s r x e f g a ea = let h : x ≡ neverOf ps = g ∙ ap (λ (y : ℕ). mapWhere (stuck ps y) events) f in rw (ea, e, h)
+pub taken-is : (ps : List ℕ) (b s r x : ℕ) → s ≡ statesOf ps → r ≡ fixpointOf ps → x ≡ mapWhere (blocked ps r) events → (a : Answer) → a ≡ answer 0 b → madeWith a s x ≡ madeWith (answer 0 b) (statesOf ps) (unreachableEvents ps)
+taken-is ps b s r x e f g a ea = let h : x ≡ unreachableEvents ps = g ∙ ap (λ (y : ℕ). mapWhere (blocked ps y) events) f in rw (ea, e, h)
 
 pub bytes-are : (ps : List ℕ) (s : ℕ) → s ≡ statesOf ps → events * s ≡ tableBytes ps
 bytes-are ps s e = rw e
 
-pub bytes-fit : (ps : List ℕ) (m s : ℕ) → Fit ps m → s ≡ statesOf ps → events * s < 2 ^ 64
+pub bytes-fit : (ps : List ℕ) (m s : ℕ) → ValidPairs ps m → s ≡ statesOf ps → events * s < 2 ^ 64
 bytes-fit ps m s fit e = omega (arith, states-most ps m fit)

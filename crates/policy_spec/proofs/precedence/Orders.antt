@@ -15,10 +15,10 @@ use Rattle.types.specs.Names.{events}
 use Rattle.spec.specs.Policies.{allowedFrom, allowed}
 use Rattle.spec.proofs.Bools.{no, cases, both, either, join, or-left, or-right}
 use Rattle.policy_spec.specs.maps.Maps.{mapWhere, bit}
-use Rattle.policy_spec.specs.precedence.Precedence.{Fit, namedIn, isNamed, namedCount, pairsIn, firstAt, secondAt, place, statesOf, firstsIn, arrowOf, stuck, onOf, madePolicy}
+use Rattle.policy_spec.specs.precedence.Precedence.{ValidPairs, namedIn, isNamed, namedCount, pairsIn, firstAt, secondAt, bitIndex, statesOf, firstsIn, arrowOf, blocked, advanceOf, madePolicy}
 use Rattle.policy_spec.specs.precedence.Claims.{Among, AreEvents, OrderLaws, AllowedInOrder}
 use Rattle.policy_spec.proofs.maps.Maps.{every-at, every-all, some-at, count-less, bit-or, bit-same, bit-other, bit-zero}
-use Rattle.policy_spec.proofs.precedence.Laws.{on-is, on-below, stuck-is}
+use Rattle.policy_spec.proofs.precedence.Laws.{on-is, on-below, blocked-is}
 use Rattle.policy_spec.proofs.precedence.Policies.{fit-right, arrow-is}
 
 -- an event of the list is named
@@ -27,7 +27,7 @@ unfolding namedIn
 is-named ps i h = some-at _ (length ps) i h (eq-eqb (getD ps i 0) (getD ps i 0) refl)
 
 -- two named events have two bits
-pub place-apart : (ps : List ℕ) (e f : ℕ) → isNamed ps e ≡ true → isNamed ps f ≡ true → place ps e ≡ place ps f → e ≡ f
+pub place-apart : (ps : List ℕ) (e f : ℕ) → isNamed ps e ≡ true → isNamed ps f ≡ true → bitIndex ps e ≡ bitIndex ps f → e ≡ f
 place-apart ps e f m n q = go (eqb e f) refl (ltb e f) refl
   where
     go : (b : Bool) → eqb e f ≡ b → (c : Bool) → ltb e f ≡ c → e ≡ f
@@ -36,54 +36,54 @@ place-apart ps e f m n q = go (eqb e f) refl (ltb e f) refl
     go false t false u = absurd (omega (arith, count-less (isNamed ps) e f (omega (arith, eqb-false e f t, ltb-false e f u)) n))
 
 -- firsts recorded, taken apart and put together
-pub first-recorded : (ps : List ℕ) (s e j : ℕ) → firstsIn ps s e (pairsIn ps) ≡ true → j < pairsIn ps → secondAt ps j ≡ e → bit s (place ps (firstAt ps j)) ≡ true
+pub first-recorded : (ps : List ℕ) (s e j : ℕ) → firstsIn ps s e (pairsIn ps) ≡ true → j < pairsIn ps → secondAt ps j ≡ e → bit s (bitIndex ps (firstAt ps j)) ≡ true
 unfolding firstsIn
 first-recorded ps s e j t h q =
     ⊎-elim
     (λ f. absurd (eqb-false (secondAt ps j) e (not-true _ f) q))
     (λ g. g)
-    (either (not (eqb (secondAt ps j) e)) (bit s (place ps (firstAt ps j))) (every-at _ (pairsIn ps) j t h))
+    (either (not (eqb (secondAt ps j) e)) (bit s (bitIndex ps (firstAt ps j))) (every-at _ (pairsIn ps) j t h))
 
-pub firsts-recorded : (ps : List ℕ) (s e : ℕ) → ((j : ℕ) → j < pairsIn ps → secondAt ps j ≡ e → bit s (place ps (firstAt ps j)) ≡ true) → firstsIn ps s e (pairsIn ps) ≡ true
+pub firsts-recorded : (ps : List ℕ) (s e : ℕ) → ((j : ℕ) → j < pairsIn ps → secondAt ps j ≡ e → bit s (bitIndex ps (firstAt ps j)) ≡ true) → firstsIn ps s e (pairsIn ps) ≡ true
 unfolding firstsIn
 firsts-recorded ps s e f = every-all _ (pairsIn ps) (λ j h. go j h (eqb (secondAt ps j) e) refl)
   where
-    go : (j : ℕ) → j < pairsIn ps → (b : Bool) → eqb (secondAt ps j) e ≡ b → (not b || bit s (place ps (firstAt ps j))) ≡ true
+    go : (j : ℕ) → j < pairsIn ps → (b : Bool) → eqb (secondAt ps j) e ≡ b → (not b || bit s (bitIndex ps (firstAt ps j))) ≡ true
     go j h true t = f j h (eqb-true (secondAt ps j) e t)
     go j h false t = refl
 
 -- an event that has an arrow sets its bit if it is named
-module _ (ps : List ℕ) (m : ℕ) (fit : Fit ps m) (s e : ℕ) (h : s < statesOf ps) (k : e < events) where
-  pub open-firsts : stuck ps s e ≡ false → isNamed ps e ≡ true → firstsIn ps s e (pairsIn ps) ≡ true
+module _ (ps : List ℕ) (m : ℕ) (fit : ValidPairs ps m) (s e : ℕ) (h : s < statesOf ps) (k : e < events) where
+  pub open-firsts : blocked ps s e ≡ false → isNamed ps e ≡ true → firstsIn ps s e (pairsIn ps) ≡ true
   open-firsts t n =
-      let u : (true && not (firstsIn ps s e (pairsIn ps))) ≡ false = ap (λ (b : Bool). b && not (firstsIn ps s e (pairsIn ps))) (sym n) ∙ sym (stuck-is ps m fit s e h k) ∙ t in
+      let u : (true && not (firstsIn ps s e (pairsIn ps))) ≡ false = ap (λ (b : Bool). b && not (firstsIn ps s e (pairsIn ps))) (sym n) ∙ sym (blocked-is ps m fit s e h k) ∙ t in
       not-false _ u
 
-  pub firsts-open : (isNamed ps e ≡ true → firstsIn ps s e (pairsIn ps) ≡ true) → stuck ps s e ≡ false
-  firsts-open f = stuck-is ps m fit s e h k ∙ go (isNamed ps e) refl
+  pub firsts-open : (isNamed ps e ≡ true → firstsIn ps s e (pairsIn ps) ≡ true) → blocked ps s e ≡ false
+  firsts-open f = blocked-is ps m fit s e h k ∙ go (isNamed ps e) refl
     where
       go : (b : Bool) → isNamed ps e ≡ b → (b && not (firstsIn ps s e (pairsIn ps))) ≡ false
       go true n = ap not (f n)
       go false n = refl
 
-  pub moves : stuck ps s e ≡ false → arrowOf ps s e ≡ onOf ps s e
+  pub moves : blocked ps s e ≡ false → arrowOf ps s e ≡ advanceOf ps s e
   moves t = rw t
 
-  pub moves-named : stuck ps s e ≡ false → isNamed ps e ≡ true → arrowOf ps s e ≡ bitOr s (2 ^ place ps e)
+  pub moves-named : blocked ps s e ≡ false → isNamed ps e ≡ true → arrowOf ps s e ≡ bitOr s (2 ^ bitIndex ps e)
   moves-named t n = moves t ∙ on-is ps m fit s e h k ∙ rw (n, open-firsts t n)
 
-  pub moves-unnamed : stuck ps s e ≡ false → isNamed ps e ≡ false → arrowOf ps s e ≡ s
+  pub moves-unnamed : blocked ps s e ≡ false → isNamed ps e ≡ false → arrowOf ps s e ≡ s
   moves-unnamed t n = moves t ∙ on-is ps m fit s e h k ∙ rw n
 
-  pub moves-below : stuck ps s e ≡ false → arrowOf ps s e < statesOf ps
+  pub moves-below : blocked ps s e ≡ false → arrowOf ps s e < statesOf ps
   moves-below t = rw (moves t) (on-below ps m fit s e h k)
 
-module _ (ps es : List ℕ) (m : ℕ) (fit : Fit ps m) where
+module _ (ps es : List ℕ) (m : ℕ) (fit : ValidPairs ps m) where
   -- a state records the named events among the first i
-  record Tracks (s i : ℕ) : Type 0 where
+  record SimInvariant (s i : ℕ) : Type 0 where
     state : s < statesOf ps
-    heard : (f : ℕ) → isNamed ps f ≡ true → bit s (place ps f) ≡ true → Among es i f
-    kept : (f : ℕ) → isNamed ps f ≡ true → Among es i f → bit s (place ps f) ≡ true
+    heard : (f : ℕ) → isNamed ps f ≡ true → bit s (bitIndex ps f) ≡ true → Among es i f
+    kept : (f : ℕ) → isNamed ps f ≡ true → Among es i f → bit s (bitIndex ps f) ≡ true
 
   later : (i f : ℕ) → Among es i f → Among es (suc i) f
   later i f a = record { at = a .at; below = omega (arith, a .below); is = a .is }
@@ -96,38 +96,38 @@ module _ (ps es : List ℕ) (m : ℕ) (fit : Fit ps m) where
       go true t = inl (ap (λ (x : ℕ). getD es x 0) (sym (eqb-true (a .at) i t)) ∙ a .is)
       go false t = inr (record { at = a .at; below = omega (arith, a .below, eqb-false (a .at) i t); is = a .is })
 
-  tracks-on : (s i : ℕ) → Tracks s i → getD es i 0 < events → stuck ps s (getD es i 0) ≡ false → Tracks (arrowOf ps s (getD es i 0)) (suc i)
-  tracks-on s i r k t = ⊎-elim of-named of-unnamed (cases (isNamed ps x))
+  sim-invariant-on : (s i : ℕ) → SimInvariant s i → getD es i 0 < events → blocked ps s (getD es i 0) ≡ false → SimInvariant (arrowOf ps s (getD es i 0)) (suc i)
+  sim-invariant-on s i r k t = ⊎-elim of-named of-unnamed (cases (isNamed ps x))
     where
       x : ℕ
       x = getD es i 0
 
-      of-named : isNamed ps x ≡ true → Tracks (arrowOf ps s x) (suc i)
+      of-named : isNamed ps x ≡ true → SimInvariant (arrowOf ps s x) (suc i)
       of-named n =
-          let p = place ps x in
-          let e : (f : ℕ) → bit (arrowOf ps s x) (place ps f) ≡ (bit s (place ps f) || bit (2 ^ p) (place ps f)) = λ f. ap (λ (y : ℕ). bit y (place ps f)) (moves-named ps m fit s x (r .state) k t n) ∙ bit-or s (2 ^ p) (place ps f) in
+          let p = bitIndex ps x in
+          let e : (f : ℕ) → bit (arrowOf ps s x) (bitIndex ps f) ≡ (bit s (bitIndex ps f) || bit (2 ^ p) (bitIndex ps f)) = λ f. ap (λ (y : ℕ). bit y (bitIndex ps f)) (moves-named ps m fit s x (r .state) k t n) ∙ bit-or s (2 ^ p) (bitIndex ps f) in
           record {
             state = moves-below ps m fit s x (r .state) k t;
-            heard = λ f nf b. ⊎-elim (λ c. later i f (r .heard f nf c)) (λ c. record { at = i; below = omega arith; is = place-apart ps x f n nf (same p (place ps f) c) }) (either (bit s (place ps f)) (bit (2 ^ p) (place ps f)) (sym (e f) ∙ b));
-            kept = λ f nf a. e f ∙ ⊎-elim (λ c. or-right (bit s (place ps f)) (bit (2 ^ p) (place ps f)) (ap (λ (y : ℕ). bit (2 ^ p) (place ps y)) (sym c) ∙ bit-same p)) (λ c. or-left (bit s (place ps f)) (bit (2 ^ p) (place ps f)) (r .kept f nf c)) (last i f a);
+            heard = λ f nf b. ⊎-elim (λ c. later i f (r .heard f nf c)) (λ c. record { at = i; below = omega arith; is = place-apart ps x f n nf (same p (bitIndex ps f) c) }) (either (bit s (bitIndex ps f)) (bit (2 ^ p) (bitIndex ps f)) (sym (e f) ∙ b));
+            kept = λ f nf a. e f ∙ ⊎-elim (λ c. or-right (bit s (bitIndex ps f)) (bit (2 ^ p) (bitIndex ps f)) (ap (λ (y : ℕ). bit (2 ^ p) (bitIndex ps y)) (sym c) ∙ bit-same p)) (λ c. or-left (bit s (bitIndex ps f)) (bit (2 ^ p) (bitIndex ps f)) (r .kept f nf c)) (last i f a);
           }
         where
           same : (p q : ℕ) → bit (2 ^ p) q ≡ true → p ≡ q
           same p q c = ⊎-elim (λ u. eqb-true p q u) (λ u. no (sym (bit-other p q (eqb-false p q u)) ∙ c)) (cases (eqb p q))
 
-      of-unnamed : isNamed ps x ≡ false → Tracks (arrowOf ps s x) (suc i)
+      of-unnamed : isNamed ps x ≡ false → SimInvariant (arrowOf ps s x) (suc i)
       of-unnamed n =
           let e : arrowOf ps s x ≡ s = moves-unnamed ps m fit s x (r .state) k t n in
           record {
             state = moves-below ps m fit s x (r .state) k t;
-            heard = λ f nf b. later i f (r .heard f nf (ap (λ (y : ℕ). bit y (place ps f)) (sym e) ∙ b));
-            kept = λ f nf a. ap (λ (y : ℕ). bit y (place ps f)) e ∙ ⊎-elim (λ c. no (sym n ∙ ap (isNamed ps) c ∙ nf)) (λ c. r .kept f nf c) (last i f a);
+            heard = λ f nf b. later i f (r .heard f nf (ap (λ (y : ℕ). bit y (bitIndex ps f)) (sym e) ∙ b));
+            kept = λ f nf a. ap (λ (y : ℕ). bit y (bitIndex ps f)) e ∙ ⊎-elim (λ c. no (sym n ∙ ap (isNamed ps) c ∙ nf)) (λ c. r .kept f nf c) (last i f a);
           }
 
-  starts : Tracks 0 0
+  starts : SimInvariant 0 0
   starts = record {
     state = pow-pos (namedCount ps);
-    heard = λ f nf b. no (sym (bit-zero (place ps f)) ∙ b);
+    heard = λ f nf b. no (sym (bit-zero (bitIndex ps f)) ∙ b);
     kept = λ f nf a. absurd (omega (arith, a .below));
   }
 
@@ -140,10 +140,10 @@ module _ (ps es : List ℕ) (m : ℕ) (fit : Fit ps m) where
     abbrev Rest : ℕ → ℕ → Type 0
     Rest s i = allowedFrom (madePolicy ps) s (drop i es) ≡ true
 
-    unfolds : (s i : ℕ) → i < length es → s < statesOf ps → allowedFrom (madePolicy ps) s (drop i es) ≡ (not (stuck ps s (getD es i 0)) && allowedFrom (madePolicy ps) (arrowOf ps s (getD es i 0)) (drop (suc i) es))
+    unfolds : (s i : ℕ) → i < length es → s < statesOf ps → allowedFrom (madePolicy ps) s (drop i es) ≡ (not (blocked ps s (getD es i 0)) && allowedFrom (madePolicy ps) (arrowOf ps s (getD es i 0)) (drop (suc i) es))
     unfolds s i h l = rw (drop-cons es i 0 h, arrow-is ps s (getD es i 0) l (are i h))
 
-    at-place : (s i : ℕ) → i < length es → Tracks s i → stuck ps s (getD es i 0) ≡ false → AtPlace i
+    at-place : (s i : ℕ) → i < length es → SimInvariant s i → blocked ps s (getD es i 0) ≡ false → AtPlace i
     unfolding AtPlace
     at-place s i h r t j l q =
         let x = getD es i 0 in
@@ -151,32 +151,32 @@ module _ (ps es : List ℕ) (m : ℕ) (fit : Fit ps m) where
         let b = first-recorded ps s x j (open-firsts ps m fit s x (r .state) (are i h) t n) l q in
         r .heard (firstAt ps j) (is-named ps (2 * j) (omega arith)) b
 
-    not-stuck : (s i : ℕ) → i < length es → Tracks s i → AtPlace i → stuck ps s (getD es i 0) ≡ false
+    not-blocked : (s i : ℕ) → i < length es → SimInvariant s i → AtPlace i → blocked ps s (getD es i 0) ≡ false
     unfolding AtPlace
-    not-stuck s i h r a =
+    not-blocked s i h r a =
         let x = getD es i 0 in
         firsts-open ps m fit s x (r .state) (are i h)
         (λ n. firsts-recorded ps s x (λ j l q. r .kept (firstAt ps j) (is-named ps (2 * j) (omega arith)) (a j l q)))
 
-    in-order : (d s i : ℕ) → i + d ≡ length es → Tracks s i → Rest s i → (k : ℕ) → i ≤ k → k < length es → AtPlace k
+    in-order : (d s i : ℕ) → i + d ≡ length es → SimInvariant s i → Rest s i → (k : ℕ) → i ≤ k → k < length es → AtPlace k
     in-order zero s i e r t k g h = absurd (omega arith)
     in-order (suc d) s i e r t k g h =
         let l : i < length es = omega arith in
-        let f = both (not (stuck ps s (getD es i 0))) _ (sym (unfolds s i l (r .state)) ∙ t) in
-        let o : stuck ps s (getD es i 0) ≡ false = not-true _ (f .0) in
+        let f = both (not (blocked ps s (getD es i 0))) _ (sym (unfolds s i l (r .state)) ∙ t) in
+        let o : blocked ps s (getD es i 0) ≡ false = not-true _ (f .0) in
         ⊎-elim
         (λ q. rw (eqb-true k i q) (at-place s i l r o))
-        (λ q. in-order d (arrowOf ps s (getD es i 0)) (suc i) (omega arith) (tracks-on s i r (are i l) o) (f .1) k (omega (arith, eqb-false k i q)) h)
+        (λ q. in-order d (arrowOf ps s (getD es i 0)) (suc i) (omega arith) (sim-invariant-on s i r (are i l) o) (f .1) k (omega (arith, eqb-false k i q)) h)
         (cases (eqb k i))
 
-    in-order-allowed : (d s i : ℕ) → i + d ≡ length es → Tracks s i → ((k : ℕ) → k < length es → AtPlace k) → Rest s i
+    in-order-allowed : (d s i : ℕ) → i + d ≡ length es → SimInvariant s i → ((k : ℕ) → k < length es → AtPlace k) → Rest s i
     in-order-allowed zero s i e r a =
         let q : i ≡ length es = omega arith in
         ap (λ (x : List ℕ). allowedFrom (madePolicy ps) s x) (ap (λ (n : ℕ). drop n es) q ∙ drop-length es)
     in-order-allowed (suc d) s i e r a =
         let l : i < length es = omega arith in
-        let o : stuck ps s (getD es i 0) ≡ false = not-stuck s i l r (a i l) in
-        unfolds s i l (r .state) ∙ join (not (stuck ps s (getD es i 0))) _ (ap not o) (in-order-allowed d (arrowOf ps s (getD es i 0)) (suc i) (omega arith) (tracks-on s i r (are i l) o) a)
+        let o : blocked ps s (getD es i 0) ≡ false = not-blocked s i l r (a i l) in
+        unfolds s i l (r .state) ∙ join (not (blocked ps s (getD es i 0))) _ (ap not o) (in-order-allowed d (arrowOf ps s (getD es i 0)) (suc i) (omega arith) (sim-invariant-on s i r (are i l) o) a)
 
     order-laws : OrderLaws ps es
     unfolding allowed AtPlace

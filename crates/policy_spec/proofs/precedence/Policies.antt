@@ -12,14 +12,14 @@ use borrow.Author.Tests.{eq-eqb, lt-ltb, le-ltb}
 use Rattle.types.specs.Names.{events, mostStates, noArrow}
 use Rattle.spec.specs.Policies.{Policy, arrow, entryRight, rightPolicy}
 use Rattle.policy_spec.specs.maps.Maps.{mapWhere}
-use Rattle.policy_spec.specs.precedence.Precedence.{Fit, isNamed, namedCount, statesOf, tableBytes, arrowOf, byteOf, stuck, tableOf, madePolicy, pairsRight, makeAnswer, makeOf, makeTable}
+use Rattle.policy_spec.specs.precedence.Precedence.{ValidPairs, isNamed, namedCount, statesOf, tableBytes, arrowOf, byteOf, blocked, tableOf, madePolicy, pairsRight, makeAnswer, makeOf, makeTable}
 use Rattle.policy_spec.specs.precedence.Claims.{Makes, TakenMakes, MadeRight}
 use Rattle.policy_spec.proofs.maps.Tables.{entries-build}
 use Rattle.policy_spec.proofs.maps.Maps.{length-build, build-at}
 use Rattle.policy_spec.proofs.precedence.Laws.{fit-of, states-most, on-below}
 use Rattle.spec.proofs.Bools.{or-left, or-right}
 
-pub fit-right : (ps : List ℕ) → pairsRight ps ≡ true → Fit ps (mapWhere (isNamed ps) events)
+pub fit-right : (ps : List ℕ) → pairsRight ps ≡ true → ValidPairs ps (mapWhere (isNamed ps) events)
 fit-right ps t = fit-of ps (mapWhere (isNamed ps) events) refl (pairsRight ps) refl t
 
 pub taken-makes : TakenMakes
@@ -35,7 +35,7 @@ taken-makes ps table t = go (pairsRight ps) refl (ltb (length table) (tableBytes
           states = rw (e, f);
           start = rw (e, f);
           leaves = rw (e, f) (take-at (tableOf ps) (drop (length (tableOf ps)) table) (tableBytes ps) (length-build (byteOf ps) (tableBytes ps)));
-          never = rw (e, f);
+          unreachable = rw (e, f);
         }
 
 -- the bytes written are at most those of sixteen states
@@ -61,8 +61,8 @@ pub arrow-above : (pol : Policy) (s e : ℕ) → events ≤ e → arrow pol s e 
 arrow-above pol s e h = rw (le-ltb e events h)
 
 -- an arrow leads to a state
-entry-right : (ps : List ℕ) (m : ℕ) → Fit ps m → (i : ℕ) → i < tableBytes ps → entryRight (statesOf ps) (byteOf ps i) ≡ true
-entry-right ps m fit i h = go (stuck ps s e) refl (on-below ps m fit s e (omega arith) (omega arith))
+entry-right : (ps : List ℕ) (m : ℕ) → ValidPairs ps m → (i : ℕ) → i < tableBytes ps → entryRight (statesOf ps) (byteOf ps i) ≡ true
+entry-right ps m fit i h = go (blocked ps s e) refl (on-below ps m fit s e (omega arith) (omega arith))
   where
     s : ℕ
     s = i / events
@@ -70,9 +70,9 @@ entry-right ps m fit i h = go (stuck ps s e) refl (on-below ps m fit s e (omega 
     e : ℕ
     e = i % events
 
-    go : (b : Bool) → stuck ps s e ≡ b → cond b s (arrowOf ps s e) < statesOf ps → (ltb (arrowOf ps s e) (statesOf ps) || stuck ps s e) ≡ true
-    go true t l = or-right (ltb (arrowOf ps s e) (statesOf ps)) (stuck ps s e) t
-    go false t l = or-left (ltb (arrowOf ps s e) (statesOf ps)) (stuck ps s e) (lt-ltb (arrowOf ps s e) (statesOf ps) l)
+    go : (b : Bool) → blocked ps s e ≡ b → cond b s (arrowOf ps s e) < statesOf ps → (ltb (arrowOf ps s e) (statesOf ps) || blocked ps s e) ≡ true
+    go true t l = or-right (ltb (arrowOf ps s e) (statesOf ps)) (blocked ps s e) t
+    go false t l = or-left (ltb (arrowOf ps s e) (statesOf ps)) (blocked ps s e) (lt-ltb (arrowOf ps s e) (statesOf ps) l)
 
 pub made-right : MadeRight
 unfolding rightPolicy

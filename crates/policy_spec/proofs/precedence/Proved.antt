@@ -2,7 +2,7 @@
 use Rattle.policy_spec.specs.precedence.Proved.{Proved}
 use Rattle.policy_spec.proofs.precedence.Policies.{taken-makes, made-right}
 use Rattle.policy_spec.proofs.precedence.Orders.{allowed-in-order}
-use Rattle.policy_spec.proofs.precedence.Nevers.{never-allowed}
+use Rattle.policy_spec.proofs.precedence.Unreachable.{never-allowed}
 use Rattle.policy_spec.proofs.precedence.Samples.{worked}
 
 pub proved : Proved
@@ -11,6 +11,6 @@ proved =
       takenMakes = taken-makes;
       madeRight = made-right;
       allowedInOrder = allowed-in-order;
-      neverAllowed = never-allowed;
+      unreachableExact = never-allowed;
       worked = worked;
     }

@@ -7,48 +7,48 @@ use native.Mathlib.Omega.{arith}
 use lib.Dec.{eqb}
 use lib.ListN.{length, getD, length-append}
 use borrow.Author.Tests.{ltb-true, ltb-false, eqb-true, eqb-false, eq-eqb}
-use Rattle.policy_spec.specs.reachability.Reach.{place, known, meet}
+use Rattle.policy_spec.specs.reachability.Reach.{indexOf, known, insert}
 
-pub place-le : (ns : List ℕ) (x : ℕ) → place ns x ≤ length ns
+pub place-le : (ns : List ℕ) (x : ℕ) → indexOf ns x ≤ length ns
 place-le [] x = omega arith
 place-le (y ∷ ns) x = go (eqb y x) (place-le ns x)
   where
-    go : (b : Bool) → place ns x ≤ length ns → cond b 0 (suc (place ns x)) ≤ suc (length ns)
+    go : (b : Bool) → indexOf ns x ≤ length ns → cond b 0 (suc (indexOf ns x)) ≤ suc (length ns)
     go true h = omega arith
     go false h = omega arith
 
-pub place-at : (ns : List ℕ) (x : ℕ) → place ns x < length ns → getD ns (place ns x) 0 ≡ x
+pub place-at : (ns : List ℕ) (x : ℕ) → indexOf ns x < length ns → getD ns (indexOf ns x) 0 ≡ x
 place-at [] x h = absurd (omega arith)
 place-at (y ∷ ns) x h = go (eqb y x) refl h (place-at ns x)
   where
-    go : (b : Bool) → eqb y x ≡ b → cond b 0 (suc (place ns x)) < suc (length ns) → (place ns x < length ns → getD ns (place ns x) 0 ≡ x) → getD (y ∷ ns) (cond b 0 (suc (place ns x))) 0 ≡ x
+    go : (b : Bool) → eqb y x ≡ b → cond b 0 (suc (indexOf ns x)) < suc (length ns) → (indexOf ns x < length ns → getD ns (indexOf ns x) 0 ≡ x) → getD (y ∷ ns) (cond b 0 (suc (indexOf ns x))) 0 ≡ x
     go true e l f = eqb-true y x e
     go false e l f = f (omega arith)
 
 -- a number that stands in a list is known
-pub place-of : (ns : List ℕ) (i : ℕ) → i < length ns → place ns (getD ns i 0) ≤ i
+pub place-of : (ns : List ℕ) (i : ℕ) → i < length ns → indexOf ns (getD ns i 0) ≤ i
 place-of [] i h = absurd (omega arith)
 place-of (y ∷ ns) zero h = rw (eq-eqb y y refl) (omega arith)
 place-of (y ∷ ns) (suc i) h = go (eqb y (getD ns i 0)) (place-of ns i (omega arith))
   where
-    go : (b : Bool) → place ns (getD ns i 0) ≤ i → cond b 0 (suc (place ns (getD ns i 0))) ≤ suc i
+    go : (b : Bool) → indexOf ns (getD ns i 0) ≤ i → cond b 0 (suc (indexOf ns (getD ns i 0))) ≤ suc i
     go true l = omega arith
     go false l = omega arith
 
 -- more at the end leaves the places
-pub place-append : (ns ms : List ℕ) (x : ℕ) → place ns x < length ns → place (ns ++ ms) x ≡ place ns x
+pub place-append : (ns ms : List ℕ) (x : ℕ) → indexOf ns x < length ns → indexOf (ns ++ ms) x ≡ indexOf ns x
 place-append [] ms x h = absurd (omega arith)
 place-append (y ∷ ns) ms x h = go (eqb y x) h (place-append ns ms x)
   where
-    go : (b : Bool) → cond b 0 (suc (place ns x)) < suc (length ns) → (place ns x < length ns → place (ns ++ ms) x ≡ place ns x) → cond b 0 (suc (place (ns ++ ms) x)) ≡ cond b 0 (suc (place ns x))
+    go : (b : Bool) → cond b 0 (suc (indexOf ns x)) < suc (length ns) → (indexOf ns x < length ns → indexOf (ns ++ ms) x ≡ indexOf ns x) → cond b 0 (suc (indexOf (ns ++ ms) x)) ≡ cond b 0 (suc (indexOf ns x))
     go true l f = refl
     go false l f = ap suc (f (omega arith))
 
-pub place-new : (ns : List ℕ) (x : ℕ) → length ns ≤ place ns x → place (ns ++ (x ∷ [])) x ≡ length ns
+pub place-new : (ns : List ℕ) (x : ℕ) → length ns ≤ indexOf ns x → indexOf (ns ++ (x ∷ [])) x ≡ length ns
 place-new [] x h = rw (eq-eqb x x refl)
 place-new (y ∷ ns) x h = go (eqb y x) h (place-new ns x)
   where
-    go : (b : Bool) → suc (length ns) ≤ cond b 0 (suc (place ns x)) → (length ns ≤ place ns x → place (ns ++ (x ∷ [])) x ≡ length ns) → cond b 0 (suc (place (ns ++ (x ∷ [])) x)) ≡ suc (length ns)
+    go : (b : Bool) → suc (length ns) ≤ cond b 0 (suc (indexOf ns x)) → (length ns ≤ indexOf ns x → indexOf (ns ++ (x ∷ [])) x ≡ length ns) → cond b 0 (suc (indexOf (ns ++ (x ∷ [])) x)) ≡ suc (length ns)
     go true l f = absurd (omega arith)
     go false l f = ap suc (f (omega arith))
 
@@ -91,29 +91,29 @@ pigeons (suc n) f below apart = pigeons n g g-below g-apart
         go false x false y w = apart i j (omega arith) (omega arith) w
 
 -- what meeting a node does: nothing for 0 and for a known one
-pub data Meets (ns : List ℕ) (x : ℕ) : List ℕ → Type 0 where
-  none : x ≡ 0 → Meets ns x ns
-  again : place ns x < length ns → Meets ns x ns
-  anew : (x ≡ 0 → ⊥) → length ns ≤ place ns x → Meets ns x (ns ++ (x ∷ []))
+pub data Inserts (ns : List ℕ) (x : ℕ) : List ℕ → Type 0 where
+  none : x ≡ 0 → Inserts ns x ns
+  again : indexOf ns x < length ns → Inserts ns x ns
+  anew : (x ≡ 0 → ⊥) → length ns ≤ indexOf ns x → Inserts ns x (ns ++ (x ∷ []))
 
-pub meets : (ns : List ℕ) (x : ℕ) → Meets ns x (meet ns x)
-unfolding meet
-meets ns x = go (eqb x 0) refl (known ns x) refl
+pub inserts : (ns : List ℕ) (x : ℕ) → Inserts ns x (insert ns x)
+unfolding insert
+inserts ns x = go (eqb x 0) refl (known ns x) refl
   where
-    go : (a : Bool) → eqb x 0 ≡ a → (b : Bool) → known ns x ≡ b → Meets ns x (cond (a || b) ns (ns ++ (x ∷ [])))
+    go : (a : Bool) → eqb x 0 ≡ a → (b : Bool) → known ns x ≡ b → Inserts ns x (cond (a || b) ns (ns ++ (x ∷ [])))
     go true e b f = none (eqb-true x 0 e)
     go false e true f = again (ltb-true _ _ f)
     go false e false f = anew (eqb-false x 0 e) (ltb-false _ _ f)
 
-pub meet-none : (ns : List ℕ) → meet ns 0 ≡ ns
-unfolding meet
-meet-none ns = refl
+pub insert-none : (ns : List ℕ) → insert ns 0 ≡ ns
+unfolding insert
+insert-none ns = refl
 
 -- a node met is known, unless it is 0
-pub met-known : (ns : List ℕ) (x : ℕ) → (x ≡ 0 → ⊥) → place (meet ns x) x < length (meet ns x)
-met-known ns x h = go (meet ns x) (meets ns x)
+pub reached-known : (ns : List ℕ) (x : ℕ) → (x ≡ 0 → ⊥) → indexOf (insert ns x) x < length (insert ns x)
+reached-known ns x h = go (insert ns x) (inserts ns x)
   where
-    go : (l : List ℕ) → Meets ns x l → place l x < length l
+    go : (l : List ℕ) → Inserts ns x l → indexOf l x < length l
     go l (none e) = absurd (h e)
     go l (again k) = k
     go l (anew z k) = omega (arith, place-new ns x k, length-append ns (x ∷ []))
@@ -122,14 +122,14 @@ pub record More (ns l : List ℕ) : Type 0 where
   pub rest : List ℕ
   pub is : l ≡ ns ++ rest
 
-pub meet-more : (ns : List ℕ) (x : ℕ) → More ns (meet ns x)
-meet-more ns x = go (meet ns x) (meets ns x)
+pub insert-more : (ns : List ℕ) (x : ℕ) → More ns (insert ns x)
+insert-more ns x = go (insert ns x) (inserts ns x)
   where
     nil : (l : List ℕ) → l ≡ l ++ []
     nil [] = refl
     nil (y ∷ l) = ap (λ (z : List ℕ). y ∷ z) (nil l)
 
-    go : (l : List ℕ) → Meets ns x l → More ns l
+    go : (l : List ℕ) → Inserts ns x l → More ns l
     go l (none e) = record { rest = []; is = nil ns }
     go l (again k) = record { rest = []; is = nil ns }
     go l (anew z k) = record { rest = x ∷ []; is = refl }

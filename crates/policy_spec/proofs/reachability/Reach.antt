@@ -12,9 +12,9 @@ use Rattle.types.specs.Names.{mostStates, events, noArrow}
 use Rattle.spec.specs.Policies.{arrow, allowedFrom, allowed, entryRight, rightPolicy}
 use Rattle.policy_spec.proofs.maps.Maps.{length-build, build-at}
 use Rattle.policy_spec.proofs.maps.Tables.{entries-build}
-use Rattle.policy_spec.specs.reachability.Reach.{place, meet, target, met, nodes, nodeState, byteOf, statesOf, tableOf, policyFrom, few, reachAnswer, reachOf, reachTable, nodeAfter}
+use Rattle.policy_spec.specs.reachability.Reach.{indexOf, insert, target, reachedBy, nodes, nodeState, byteOf, statesOf, tableOf, policyFrom, few, reachAnswer, reachOf, reachTable, nodeAfter}
 use Rattle.policy_spec.specs.reachability.Claims.{Arrows, Reached, Exactly, NodesExact, Makes, TakenReaches, ReachRight, AllowedReaches}
-use Rattle.policy_spec.proofs.reachability.Places.{pigeons, place-at, place-of, place-append, place-new, Meets, none, again, anew, meets, meet-none, met-known, More, meet-more}
+use Rattle.policy_spec.proofs.reachability.Places.{pigeons, place-at, place-of, place-append, place-new, Inserts, none, again, anew, inserts, insert-none, reached-known, More, insert-more}
 use Rattle.spec.proofs.Bools.{or-left, or-right}
 
 -- one event more
@@ -30,15 +30,15 @@ after-none next z (e ∷ es) = ap (λ (x : ℕ). nodeAfter next x es) (z e) ∙ 
 -- each node of a list is reached, and has its place for its number
 pub record Good (next : ℕ → ℕ → ℕ) (q : ℕ) (ns : List ℕ) : Type 0 where
   pub reached : (i : ℕ) → i < length ns → Reached next q (getD ns i 0)
-  pub own : (i : ℕ) → i < length ns → place ns (getD ns i 0) ≡ i
+  pub own : (i : ℕ) → i < length ns → indexOf ns (getD ns i 0) ≡ i
 
-pub met-zero : (next : ℕ → ℕ → ℕ) (q : ℕ) → met next q 0 ≡ q ∷ []
-unfolding met
-met-zero next q = refl
+pub reached-zero : (next : ℕ → ℕ → ℕ) (q : ℕ) → reachedBy next q 0 ≡ q ∷ []
+unfolding reachedBy
+reached-zero next q = refl
 
-pub met-suc : (next : ℕ → ℕ → ℕ) (q k : ℕ) → met next q (suc k) ≡ meet (met next q k) (target next (met next q k) k)
-unfolding met
-met-suc next q k = refl
+pub reached-suc : (next : ℕ → ℕ → ℕ) (q k : ℕ) → reachedBy next q (suc k) ≡ insert (reachedBy next q k) (target next (reachedBy next q k) k)
+unfolding reachedBy
+reached-suc next q k = refl
 
 module _ (next : ℕ → ℕ → ℕ) (q : ℕ) (ok : Arrows next q) where
   good-start : Good next q (q ∷ [])
@@ -48,21 +48,21 @@ module _ (next : ℕ → ℕ → ℕ) (q : ℕ) (ok : Arrows next q) where
       r zero h = record { by = []; leads = refl; node = ok .start }
       r (suc i) h = absurd (omega arith)
 
-      o : (i : ℕ) → i < 1 → place (q ∷ []) (getD (q ∷ []) i 0) ≡ i
+      o : (i : ℕ) → i < 1 → indexOf (q ∷ []) (getD (q ∷ []) i 0) ≡ i
       o zero h = rw (eq-eqb q q refl)
       o (suc i) h = absurd (omega arith)
 
-  good-more : (ns : List ℕ) (x : ℕ) → Good next q ns → ((x ≡ 0 → ⊥) → Reached next q x) → Good next q (meet ns x)
-  good-more ns x g t = go (meet ns x) (meets ns x)
+  good-more : (ns : List ℕ) (x : ℕ) → Good next q ns → ((x ≡ 0 → ⊥) → Reached next q x) → Good next q (insert ns x)
+  good-more ns x g t = go (insert ns x) (inserts ns x)
     where
-      one-more : (i : ℕ) (P : ℕ → ℕ → Type 0) → length ns ≤ place ns x → (i < length ns → P (getD ns i 0) i) → P x (length ns) → i < length (ns ++ (x ∷ [])) → P (getD (ns ++ (x ∷ [])) i 0) i
+      one-more : (i : ℕ) (P : ℕ → ℕ → Type 0) → length ns ≤ indexOf ns x → (i < length ns → P (getD ns i 0) i) → P x (length ns) → i < length (ns ++ (x ∷ [])) → P (getD (ns ++ (x ∷ [])) i 0) i
       one-more i P k f p h = pick (eqb i (length ns)) refl
         where
           pick : (b : Bool) → eqb i (length ns) ≡ b → P (getD (ns ++ (x ∷ [])) i 0) i
           pick true e = rw (eqb-true i (length ns) e, getD-append-seam ns x [] 0) p
           pick false e = let l : i < length ns = omega (arith, eqb-false i (length ns) e, length-append ns (x ∷ [])) in rw (List·getD-append ns (x ∷ []) 0 i l) (f l)
 
-      go : (l : List ℕ) → Meets ns x l → Good next q l
+      go : (l : List ℕ) → Inserts ns x l → Good next q l
       go l (none e) = g
       go l (again k) = g
       go l (anew z k) =
@@ -71,7 +71,7 @@ module _ (next : ℕ → ℕ → ℕ) (q : ℕ) (ok : Arrows next q) where
             own = λ i h.
                 one-more
                 i
-                (λ y j. place (ns ++ (x ∷ [])) y ≡ j)
+                (λ y j. indexOf (ns ++ (x ∷ [])) y ≡ j)
                 k
                 (λ l. place-append ns (x ∷ []) (getD ns i 0) (omega (arith, place-of ns i l)) ∙ g .own i l)
                 (place-new ns x k)
@@ -88,15 +88,15 @@ module _ (next : ℕ → ℕ → ℕ) (q : ℕ) (ok : Arrows next q) where
           record { by = r .by ++ (k % events ∷ []); leads = after-snoc next q (r .by) (k % events) ∙ ap (λ (x : ℕ). next x (k % events)) (r .leads); node = z }
       go false h = absurd (z (ap (λ (x : ℕ). next x (k % events)) (List·getD-eq-default ns 0 (ltb-false (k / events) (length ns) h)) ∙ ok .none (k % events)))
 
-  pub good : (k : ℕ) → Good next q (met next q k)
-  unfolding met
+  pub good : (k : ℕ) → Good next q (reachedBy next q k)
+  unfolding reachedBy
   good zero = good-start
-  good (suc k) = good-more (met next q k) (target next (met next q k) k) (good k) (target-reached (met next q k) k (good k))
+  good (suc k) = good-more (reachedBy next q k) (target next (reachedBy next q k) k) (good k) (target-reached (reachedBy next q k) k (good k))
 
   -- met lists only grow
-  pub grows : (k d : ℕ) → More (met next q k) (met next q (k + d))
-  unfolding met
-  grows k zero = let e : k + 0 ≡ k = omega arith in rw e (record { rest = []; is = sym (nil (met next q k)) })
+  pub grows : (k d : ℕ) → More (reachedBy next q k) (reachedBy next q (k + d))
+  unfolding reachedBy
+  grows k zero = let e : k + 0 ≡ k = omega arith in rw e (record { rest = []; is = sym (nil (reachedBy next q k)) })
     where
       nil : (l : List ℕ) → l ++ [] ≡ l
       nil [] = refl
@@ -104,60 +104,60 @@ module _ (next : ℕ → ℕ → ℕ) (q : ℕ) (ok : Arrows next q) where
   grows k (suc d) =
       let e : k + suc d ≡ suc (k + d) = omega arith in
       let m = grows k d in
-      let n = meet-more (met next q (k + d)) (target next (met next q (k + d)) (k + d)) in
-      rw e (record { rest = m .rest ++ n .rest; is = n .is ∙ ap (λ (l : List ℕ). l ++ n .rest) (m .is) ∙ append-assoc (met next q k) (m .rest) (n .rest) })
+      let n = insert-more (reachedBy next q (k + d)) (target next (reachedBy next q (k + d)) (k + d)) in
+      rw e (record { rest = m .rest ++ n .rest; is = n .is ∙ ap (λ (l : List ℕ). l ++ n .rest) (m .is) ∙ append-assoc (reachedBy next q k) (m .rest) (n .rest) })
 
   -- with no arrow left, none is met any more
-  pub rests : (k d : ℕ) → events * length (met next q k) ≤ k → met next q (k + d) ≡ met next q k
-  unfolding met
+  pub rests : (k d : ℕ) → events * length (reachedBy next q k) ≤ k → reachedBy next q (k + d) ≡ reachedBy next q k
+  unfolding reachedBy
   rests k zero h = let e : k + 0 ≡ k = omega arith in rw e
   rests k (suc d) h =
       let e : k + suc d ≡ suc (k + d) = omega arith in
       let i = (k + d) / events in
-      let r : met next q (k + d) ≡ met next q k = rests k d h in
-      let z : target next (met next q k) (k + d) ≡ 0 = ap (λ (x : ℕ). next x ((k + d) % events)) (List·getD-eq-default (met next q k) 0 {n = i} (omega arith)) ∙ ok .none ((k + d) % events) in
-      rw (e, r, z) (meet-none (met next q k))
+      let r : reachedBy next q (k + d) ≡ reachedBy next q k = rests k d h in
+      let z : target next (reachedBy next q k) (k + d) ≡ 0 = ap (λ (x : ℕ). next x ((k + d) % events)) (List·getD-eq-default (reachedBy next q k) 0 {n = i} (omega arith)) ∙ ok .none ((k + d) % events) in
+      rw (e, r, z) (insert-none (reachedBy next q k))
 
   -- of a node with a number, so has each next one
-  pub closed : statesOf next q ≤ mostStates → (i e : ℕ) → i < statesOf next q → e < events → (next (getD (nodes next q) i 0) e ≡ 0 → ⊥) → place (nodes next q) (next (getD (nodes next q) i 0) e) < statesOf next q
+  pub closed : statesOf next q ≤ mostStates → (i e : ℕ) → i < statesOf next q → e < events → (next (getD (nodes next q) i 0) e ≡ 0 → ⊥) → indexOf (nodes next q) (next (getD (nodes next q) i 0) e) < statesOf next q
   closed s i e h l z = go (ltb i (length now)) refl
     where
       k : ℕ
       k = events * i + e
 
       now : List ℕ
-      now = met next q k
+      now = reachedBy next q k
 
       all : ℕ
       all = events * mostStates
 
-      go : (b : Bool) → ltb i (length now) ≡ b → place (nodes next q) (next (getD (nodes next q) i 0) e) < statesOf next q
+      go : (b : Bool) → ltb i (length now) ≡ b → indexOf (nodes next q) (next (getD (nodes next q) i 0) e) < statesOf next q
       go false f =
           let w : k + (all - k) ≡ all = omega arith in
-          let r : nodes next q ≡ now = ap (met next q) (sym w) ∙ rests k (all - k) (omega (arith, ltb-false i (length now) f)) in
+          let r : nodes next q ≡ now = ap (reachedBy next q) (sym w) ∙ rests k (all - k) (omega (arith, ltb-false i (length now) f)) in
           absurd (omega (arith, ap length r, ltb-false i (length now) f))
       go true f =
           let w : k + (all - k) ≡ all = omega arith in
           let w₁ : suc k + (all - suc k) ≡ all = omega arith in
           let m = grows k (all - k) in
           let m₁ = grows (suc k) (all - suc k) in
-          let a : nodes next q ≡ now ++ m .rest = ap (met next q) (sym w) ∙ m .is in
-          let b : nodes next q ≡ met next q (suc k) ++ m₁ .rest = ap (met next q) (sym w₁) ∙ m₁ .is in
+          let a : nodes next q ≡ now ++ m .rest = ap (reachedBy next q) (sym w) ∙ m .is in
+          let b : nodes next q ≡ reachedBy next q (suc k) ++ m₁ .rest = ap (reachedBy next q) (sym w₁) ∙ m₁ .is in
           let c : getD (nodes next q) i 0 ≡ getD now i 0 = ap (λ (y : List ℕ). getD y i 0) a ∙ List·getD-append now (m .rest) 0 i (ltb-true i (length now) f) in
           let x = next (getD (nodes next q) i 0) e in
           let u : k / events ≡ i = omega arith in
           let v : k % events ≡ e = omega arith in
           let t : target next now k ≡ x = ap₂ (λ (y n : ℕ). next (getD now y 0) n) u v ∙ ap (λ (y : ℕ). next y e) (sym c) in
-          let g : met next q (suc k) ≡ meet now x = met-suc next q k ∙ ap (meet now) t in
-          let p : place (met next q (suc k)) x < length (met next q (suc k)) = rw g (met-known now x z) in
-          let n : place (nodes next q) x ≡ place (met next q (suc k)) x = ap (λ (y : List ℕ). place y x) b ∙ place-append (met next q (suc k)) (m₁ .rest) x p in
-          omega (arith, ap length b, length-append (met next q (suc k)) (m₁ .rest))
+          let g : reachedBy next q (suc k) ≡ insert now x = reached-suc next q k ∙ ap (insert now) t in
+          let p : indexOf (reachedBy next q (suc k)) x < length (reachedBy next q (suc k)) = rw g (reached-known now x z) in
+          let n : indexOf (nodes next q) x ≡ indexOf (reachedBy next q (suc k)) x = ap (λ (y : List ℕ). indexOf y x) b ∙ place-append (reachedBy next q (suc k)) (m₁ .rest) x p in
+          omega (arith, ap length b, length-append (reachedBy next q (suc k)) (m₁ .rest))
 
   module _ (s : statesOf next q ≤ mostStates) where
     -- where an event leads from a node with a number: nowhere, or to a node with a number
     pub data Leads (i e y : ℕ) : Type 0 where
       nowhere : y ≡ 0 → Leads i e y
-      on : (y ≡ 0 → ⊥) → place (nodes next q) y < statesOf next q → getD (nodes next q) (place (nodes next q) y) 0 ≡ y → Leads i e y
+      on : (y ≡ 0 → ⊥) → indexOf (nodes next q) y < statesOf next q → getD (nodes next q) (indexOf (nodes next q) y) 0 ≡ y → Leads i e y
 
     pub leads : (i e : ℕ) → i < statesOf next q → Leads i e (next (getD (nodes next q) i 0) e)
     leads i e h = go (eqb y 0) refl (ltb e events) refl
@@ -174,16 +174,16 @@ module _ (next : ℕ → ℕ → ℕ) (q : ℕ) (ok : Arrows next q) where
             on z p (place-at (nodes next q) y p)
 
     -- what is reached from a node has a number
-    on-from : (es : List ℕ) (i : ℕ) → i < statesOf next q → (nodeAfter next (getD (nodes next q) i 0) es ≡ 0 → ⊥) → place (nodes next q) (nodeAfter next (getD (nodes next q) i 0) es) < statesOf next q
+    on-from : (es : List ℕ) (i : ℕ) → i < statesOf next q → (nodeAfter next (getD (nodes next q) i 0) es ≡ 0 → ⊥) → indexOf (nodes next q) (nodeAfter next (getD (nodes next q) i 0) es) < statesOf next q
     on-from [] i h z = omega (arith, place-of (nodes next q) i h)
     on-from (e ∷ es) i h z = go (next (getD (nodes next q) i 0) e) (leads i e h) (on-from es) z
       where
-        go : (y : ℕ) → Leads i e y → ((j : ℕ) → j < statesOf next q → (nodeAfter next (getD (nodes next q) j 0) es ≡ 0 → ⊥) → place (nodes next q) (nodeAfter next (getD (nodes next q) j 0) es) < statesOf next q) → (nodeAfter next y es ≡ 0 → ⊥) → place (nodes next q) (nodeAfter next y es) < statesOf next q
+        go : (y : ℕ) → Leads i e y → ((j : ℕ) → j < statesOf next q → (nodeAfter next (getD (nodes next q) j 0) es ≡ 0 → ⊥) → indexOf (nodes next q) (nodeAfter next (getD (nodes next q) j 0) es) < statesOf next q) → (nodeAfter next y es ≡ 0 → ⊥) → indexOf (nodes next q) (nodeAfter next y es) < statesOf next q
         go y (nowhere f) r w = absurd (w (ap (λ (x : ℕ). nodeAfter next x es) f ∙ after-none next (ok .none) es))
-        go y (on f p g) r w = rw g at (r (place (nodes next q) y) p (λ v. w (ap (λ (x : ℕ). nodeAfter next x es) (sym g) ∙ v)))
+        go y (on f p g) r w = rw g at (r (indexOf (nodes next q) y) p (λ v. w (ap (λ (x : ℕ). nodeAfter next x es) (sym g) ∙ v)))
 
   from-start : More (q ∷ []) (nodes next q)
-  from-start = rw (met-zero next q) at (grows 0 (events * mostStates))
+  from-start = rw (reached-zero next q) at (grows 0 (events * mostStates))
 
   pub first : getD (nodes next q) 0 0 ≡ q
   first = ap (λ (l : List ℕ). getD l 0 0) (from-start .is)
@@ -192,9 +192,9 @@ module _ (next : ℕ → ℕ → ℕ) (q : ℕ) (ok : Arrows next q) where
   some-state = omega (arith, ap length (from-start .is))
 
   apart : (i j : ℕ) → i < statesOf next q → j < statesOf next q → getD (nodes next q) i 0 ≡ getD (nodes next q) j 0 → i ≡ j
-  apart i j h l e = sym (good (events * mostStates) .own i h) ∙ ap (place (nodes next q)) e ∙ good (events * mostStates) .own j l
+  apart i j h l e = sym (good (events * mostStates) .own i h) ∙ ap (indexOf (nodes next q)) e ∙ good (events * mostStates) .own j l
 
-  numbered : few next q ≡ true → (x : ℕ) → Reached next q x → place (nodes next q) x < statesOf next q
+  numbered : few next q ≡ true → (x : ℕ) → Reached next q x → indexOf (nodes next q) x < statesOf next q
   numbered t x r =
       let z : nodeAfter next (getD (nodes next q) 0 0) (r .by) ≡ x = ap (λ (y : ℕ). nodeAfter next y (r .by)) first ∙ r .leads in
       rw z at (on-from (leb-true (statesOf next q) mostStates t) (r .by) 0 some-state (λ v. r .node (sym z ∙ v)))
@@ -204,16 +204,16 @@ module _ (next : ℕ → ℕ → ℕ) (q : ℕ) (ok : Arrows next q) where
       record {
         reached = good (events * mostStates) .reached;
         once = apart;
-        all = λ t x r. let p = numbered t x r in record { number = place (nodes next q) x; below = p; is = place-at (nodes next q) x p };
+        all = λ t x r. let p = numbered t x r in record { number = indexOf (nodes next q) x; below = p; is = place-at (nodes next q) x p };
         many = λ t.
             let n : mostStates < statesOf next q = leb-false (statesOf next q) mostStates t in
             record { node = λ i. getD (nodes next q) i 0; reached = λ i h. good (events * mostStates) .reached i (omega arith); apart = λ i j h k e. apart i j (omega arith) (omega arith) e };
         not-many = λ t m.
             let s : statesOf next q ≤ mostStates = leb-true (statesOf next q) mostStates t in
-            let below : (i : ℕ) → i ≤ mostStates → place (nodes next q) (m .node i) < statesOf next q = λ i h. numbered t (m .node i) (m .reached i h) in
+            let below : (i : ℕ) → i ≤ mostStates → indexOf (nodes next q) (m .node i) < statesOf next q = λ i h. numbered t (m .node i) (m .reached i h) in
             pigeons
             mostStates
-            (λ i. place (nodes next q) (m .node i))
+            (λ i. indexOf (nodes next q) (m .node i))
             (λ i h. omega (arith, below i h))
             (λ i j h k e. m .apart i j h k (sym (place-at (nodes next q) (m .node i) (below i h)) ∙ ap (λ (x : ℕ). getD (nodes next q) x 0) e ∙ place-at (nodes next q) (m .node j) (below j k)));
         enough = λ t more. rests (events * mostStates) more (omega (arith, leb-true (statesOf next q) mostStates t));
@@ -254,15 +254,15 @@ module _ (next : ℕ → ℕ → ℕ) (q : ℕ) where
           go : (y : ℕ) → Leads next q ok s i e y → ((j : ℕ) → j < statesOf next q → allowedFrom (policyFrom next q) j es ≡ not (eqb (nodeAfter next (getD (nodes next q) j 0) es) 0)) → goes (nodeState (nodes next q) y) ≡ not (eqb (nodeAfter next y es) 0)
           go y (nowhere f) r = rw (f, after-none next (ok .none) es)
           go y (on f p g) r =
-              let n : eqb (place (nodes next q) y) noArrow ≡ false = ne-eqb (place (nodes next q) y) noArrow (λ z. omega arith) in
-              rw (ne-eqb y 0 f, n) (r (place (nodes next q) y) p ∙ ap (λ (x : ℕ). not (eqb (nodeAfter next x es) 0)) g)
+              let n : eqb (indexOf (nodes next q) y) noArrow ≡ false = ne-eqb (indexOf (nodes next q) y) noArrow (λ z. omega arith) in
+              rw (ne-eqb y 0 f, n) (r (indexOf (nodes next q) y) p ∙ ap (λ (x : ℕ). not (eqb (nodeAfter next x es) 0)) g)
 
       entry-right : (k : ℕ) → k < events * statesOf next q → entryRight (statesOf next q) (byteOf next (nodes next q) k) ≡ true
       entry-right k h = go (target next (nodes next q) k) (leads next q ok s (k / events) (k % events) (omega arith))
         where
           go : (y : ℕ) → Leads next q ok s (k / events) (k % events) y → entryRight (statesOf next q) (nodeState (nodes next q) y) ≡ true
           go y (nowhere f) = or-right (ltb (nodeState (nodes next q) y) (statesOf next q)) (eqb (nodeState (nodes next q) y) noArrow) (rw f)
-          go y (on f p g) = rw (ne-eqb y 0 f) (or-left (ltb (place (nodes next q) y) (statesOf next q)) (eqb (place (nodes next q) y) noArrow) (lt-ltb (place (nodes next q) y) (statesOf next q) p))
+          go y (on f p g) = rw (ne-eqb y 0 f) (or-left (ltb (indexOf (nodes next q) y) (statesOf next q)) (eqb (indexOf (nodes next q) y) noArrow) (lt-ltb (indexOf (nodes next q) y) (statesOf next q) p))
 
 length-table : (next : ℕ → ℕ → ℕ) (q : ℕ) → length (tableOf next q) ≡ events * statesOf next q
 unfolding tableOf

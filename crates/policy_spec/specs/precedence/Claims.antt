@@ -8,7 +8,7 @@ use Rattle.types.specs.declared.Layout.{Layout}
 use Rattle.types.specs.Names.{events, answer}
 use Rattle.spec.specs.Policies.{allowed, rightPolicy}
 use Rattle.policy_spec.specs.maps.Maps.{bit}
-use Rattle.policy_spec.specs.precedence.Precedence.{pairsIn, firstAt, secondAt, pairsRight, statesOf, tableOf, madePolicy, neverOf, makeAnswer, madeWith, makeOf, makeTable}
+use Rattle.policy_spec.specs.precedence.Precedence.{pairsIn, firstAt, secondAt, pairsRight, statesOf, tableOf, madePolicy, unreachableEvents, makeAnswer, madeWith, makeOf, makeTable}
 
 -- what is handed back and left with answer 0 is the policy of which the other claims speak
 pub record Makes (ps table : List ℕ) : Type 0 where
@@ -16,7 +16,7 @@ pub record Makes (ps table : List ℕ) : Type 0 where
   pub states : makeOf ps (length table) .policy .states ≡ madePolicy ps .states
   pub start : makeOf ps (length table) .policy .start ≡ madePolicy ps .start
   pub leaves : take (makeOf ps (length table) .answer .place) (makeTable ps table) ≡ madePolicy ps .table
-  pub never : makeOf ps (length table) .never ≡ neverOf ps
+  pub unreachable : makeOf ps (length table) .unreachable ≡ unreachableEvents ps
 
 abbrev pub TakenMakes : Type 0
 TakenMakes = (ps table : List ℕ) → makeAnswer ps (length table) .number ≡ 0 → Makes ps table
@@ -47,17 +47,17 @@ abbrev pub AllowedInOrder : Type 0
 AllowedInOrder = (ps es : List ℕ) → pairsRight ps ≡ true → AreEvents es → OrderLaws ps es
 
 -- no list that the policy allows holds an event
-abbrev pub Unheard : List ℕ → ℕ → Type 0
-Unheard ps e = (es : List ℕ) → allowed (madePolicy ps) es ≡ true → Among es (length es) e → ⊥
+abbrev pub Unreachable : List ℕ → ℕ → Type 0
+Unreachable ps e = (es : List ℕ) → allowed (madePolicy ps) es ≡ true → Among es (length es) e → ⊥
 
 -- 'a 16-bit map of the events that no allowed word holds'
-pub record NeverLaws (ps : List ℕ) (e : ℕ) : Type 0 where
-  pub event : bit (neverOf ps) e ≡ true → e < events
-  pub unheard : bit (neverOf ps) e ≡ true → Unheard ps e
-  pub shown : e < events → Unheard ps e → bit (neverOf ps) e ≡ true
+pub record UnreachableLaws (ps : List ℕ) (e : ℕ) : Type 0 where
+  pub event : bit (unreachableEvents ps) e ≡ true → e < events
+  pub unreachable : bit (unreachableEvents ps) e ≡ true → Unreachable ps e
+  pub complete : e < events → Unreachable ps e → bit (unreachableEvents ps) e ≡ true
 
-abbrev pub NeverAllowed : Type 0
-NeverAllowed = (ps : List ℕ) (e : ℕ) → pairsRight ps ≡ true → NeverLaws ps e
+abbrev pub UnreachableExact : Type 0
+UnreachableExact = (ps : List ℕ) (e : ℕ) → pairsRight ps ≡ true → UnreachableLaws ps e
 
 -- worked samples, with gas 0, door 2 and charge 3
 pub record Worked : Type 0 where

@@ -45,19 +45,19 @@ knownIn ps n = every (λ j. ltb (getD ps j 0) events) n
 abbrev pub known : List ℕ → Bool
 known ps = knownIn ps (length ps)
 
--- what 17 does not refuse: 'an event above 15 or without its partner, or more than four named events'
+-- what is not refused with 17 (bad pair): 'an event above 15 or without its partner, or more than four named events'
 unfoldable pub pairsRight : List ℕ → Bool
 pairsRight ps = known ps && eqb (length ps % 2) 0 && leb (namedCount ps) mostNamed
 
--- what a list that 17 does not refuse has, with the map of the events that it names
-pub record Fit (ps : List ℕ) (m : ℕ) : Type 0 where
+-- what a list has that is not refused with 17 (bad pair), with the map of the events that it names
+pub record ValidPairs (ps : List ℕ) (m : ℕ) : Type 0 where
   pub below : known ps ≡ true
   pub few : namedCount ps ≤ mostNamed
   pub map : m ≡ mapWhere (isNamed ps) events
 
 -- 'bit k stands for the k-th smallest named event, counted from 0': as many named events are smaller
-abbrev pub place : List ℕ → ℕ → ℕ
-place ps e = count (isNamed ps) e
+abbrev pub bitIndex : List ℕ → ℕ → ℕ
+bitIndex ps e = count (isNamed ps) e
 
 -- 'A state is the map of named events already recorded'; 'all such maps are states'
 abbrev pub statesOf : List ℕ → ℕ
@@ -65,11 +65,11 @@ statesOf ps = 2 ^ namedCount ps
 
 -- 'all its firsts are recorded': of the first n pairs, each whose second is e has its first recorded in state s
 unfoldable pub firstsIn : List ℕ → ℕ → ℕ → ℕ → Bool
-firstsIn ps s e n = every (λ i. not (eqb (secondAt ps i) e) || bit s (place ps (firstAt ps i))) n
+firstsIn ps s e n = every (λ i. not (eqb (secondAt ps i) e) || bit s (bitIndex ps (firstAt ps i))) n
 
 -- 'Unnamed events stay in their state'; 'A named event sets its bit, and has an arrow exactly in the states where all its firsts are recorded'
 unfoldable pub arrowOf : List ℕ → ℕ → ℕ → ℕ
-arrowOf ps s e = cond (isNamed ps e) (cond (firstsIn ps s e (pairsIn ps)) (bitOr s (2 ^ place ps e)) noArrow) s
+arrowOf ps s e = cond (isNamed ps e) (cond (firstsIn ps s e (pairsIn ps)) (bitOr s (2 ^ bitIndex ps e)) noArrow) s
 
 -- byte 16 × s + e of the table
 abbrev pub byteOf : List ℕ → ℕ → ℕ
@@ -86,25 +86,25 @@ abbrev pub madePolicy : List ℕ → Policy
 madePolicy ps = policyOf (statesOf ps) 0 (tableOf ps) []
 
 -- an event has no arrow in a state
-abbrev pub stuck : List ℕ → ℕ → ℕ → Bool
-stuck ps s e = eqb (arrowOf ps s e) noArrow
+abbrev pub blocked : List ℕ → ℕ → ℕ → Bool
+blocked ps s e = eqb (arrowOf ps s e) noArrow
 
--- on to the state after an event, if it has an arrow
-abbrev pub onOf : List ℕ → ℕ → ℕ → ℕ
-onOf ps s e = cond (stuck ps s e) s (arrowOf ps s e)
+-- one step towards the fixpoint: the state after an event, if it has an arrow
+abbrev pub advanceOf : List ℕ → ℕ → ℕ → ℕ
+advanceOf ps s e = cond (blocked ps s e) s (arrowOf ps s e)
 
--- the state after n events, taken in turn from 0 to 15 and again, where they have an arrow
-unfoldable pub turnsOf : List ℕ → ℕ → ℕ
-turnsOf ps zero = 0
-turnsOf ps (suc n) = onOf ps (turnsOf ps n) (n % events)
+-- n steps towards the fixpoint: the state after n events, taken in turn from 0 to 15 and again, where they have an arrow
+unfoldable pub iterate : List ℕ → ℕ → ℕ
+iterate ps zero = 0
+iterate ps (suc n) = advanceOf ps (iterate ps n) (n % events)
 
--- a turn of all events for each that can be named leaves none that could still be recorded
-abbrev pub fullOf : List ℕ → ℕ
-fullOf ps = turnsOf ps (mostNamed * events)
+-- the fixpoint: a pass over all events for each that can be named leaves none that could still be recorded
+abbrev pub fixpointOf : List ℕ → ℕ
+fixpointOf ps = iterate ps (mostNamed * events)
 
 -- 'a 16-bit map of the events that no allowed word holds': those without an arrow even then
-abbrev pub neverOf : List ℕ → ℕ
-neverOf ps = mapWhere (stuck ps (fullOf ps)) events
+abbrev pub unreachableEvents : List ℕ → ℕ
+unreachableEvents ps = mapWhere (blocked ps (fixpointOf ps)) events
 
 -- '17 .. comes first. 9 follows it'
 unfoldable pub makeAnswer : List ℕ → ℕ → Answer
@@ -112,11 +112,11 @@ makeAnswer ps room = first ((not (pairsRight ps), refusal BadPair 0) ∷ []) (ro
 
 -- 'After a reject all else handed back is 0'
 abbrev pub madeWith : Answer → ℕ → ℕ → Made
-madeWith a s m = record { answer = a; policy = record { states = s; start = 0 }; never = m }
+madeWith a s m = record { answer = a; policy = record { states = s; start = 0 }; unreachable = m }
 
 -- what making answers: with its answer, the policy's numbers and the map
 unfoldable pub makeOf : List ℕ → ℕ → Made
-makeOf ps room = let a = makeAnswer ps room in ifTaken a (madeWith a (statesOf ps) (neverOf ps)) (madeWith a 0 0)
+makeOf ps room = let a = makeAnswer ps room in ifTaken a (madeWith a (statesOf ps) (unreachableEvents ps)) (madeWith a 0 0)
 
 -- the table is written from its start
 unfoldable pub makeTable : List ℕ → List ℕ → List ℕ

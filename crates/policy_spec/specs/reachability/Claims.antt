@@ -8,7 +8,7 @@ use lib.Dec.{eqb}
 use Rattle.types.specs.declared.Layout.{Layout}
 use Rattle.types.specs.Names.{mostStates, events}
 use Rattle.spec.specs.Policies.{allowed, rightPolicy}
-use Rattle.policy_spec.specs.reachability.Reach.{met, nodes, statesOf, policyFrom, few, reachOf, reachTable, nodeAfter}
+use Rattle.policy_spec.specs.reachability.Reach.{reachedBy, nodes, statesOf, policyFrom, few, reachOf, reachTable, nodeAfter}
 
 pub record Arrows (next : ℕ → ℕ → ℕ) (q : ℕ) : Type 0 where
   pub none : (e : ℕ) → next 0 e ≡ 0
@@ -32,7 +32,7 @@ pub record MoreThan (n : ℕ) (next : ℕ → ℕ → ℕ) (q : ℕ) : Type 0 wh
   pub reached : (i : ℕ) → i ≤ n → Reached next q (node i)
   pub apart : (i j : ℕ) → i ≤ n → j ≤ n → node i ≡ node j → i ≡ j
 
--- the nodes are reached, none has two numbers, and all that are reached have one unless 15 is given
+-- the nodes are reached, none has two numbers, and all that are reached have one unless refused with 15 (too many states)
 pub record Exactly (next : ℕ → ℕ → ℕ) (q : ℕ) : Type 0 where
   pub reached : (i : ℕ) → i < statesOf next q → Reached next q (getD (nodes next q) i 0)
   pub once : (i j : ℕ) → i < statesOf next q → j < statesOf next q → getD (nodes next q) i 0 ≡ getD (nodes next q) j 0 → i ≡ j
@@ -41,7 +41,7 @@ pub record Exactly (next : ℕ → ℕ → ℕ) (q : ℕ) : Type 0 where
   pub many : few next q ≡ false → MoreThan mostStates next q
   pub not-many : few next q ≡ true → MoreThan mostStates next q → ⊥
   -- further arrows would meet no other
-  pub enough : few next q ≡ true → (more : ℕ) → met next q (events * mostStates + more) ≡ nodes next q
+  pub enough : few next q ≡ true → (more : ℕ) → reachedBy next q (events * mostStates + more) ≡ nodes next q
 
 abbrev pub NodesExact : Type 0
 NodesExact = (next : ℕ → ℕ → ℕ) (q : ℕ) → Arrows next q → Exactly next q

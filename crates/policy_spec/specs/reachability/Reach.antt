@@ -13,33 +13,33 @@ use Rattle.policy_spec.specs.maps.Maps.{build}
 use Rattle.policy_spec.specs.declared.reachability.Made.{Made}
 
 -- the place at which a number first stands in a list; the list's length if it does not
-abbrev pub place : List ℕ → ℕ → ℕ
-place [] x = 0
-place (y ∷ ys) x = cond (eqb y x) 0 (suc (place ys x))
+abbrev pub indexOf : List ℕ → ℕ → ℕ
+indexOf [] x = 0
+indexOf (y ∷ ys) x = cond (eqb y x) 0 (suc (indexOf ys x))
 
 abbrev pub known : List ℕ → ℕ → Bool
-known ns x = ltb (place ns x) (length ns)
+known ns x = ltb (indexOf ns x) (length ns)
 
 -- 'numbered as first met': a node that is not yet known comes behind the others
-unfoldable pub meet : List ℕ → ℕ → List ℕ
-meet ns x = cond (eqb x 0 || known ns x) ns (ns ++ (x ∷ []))
+unfoldable pub insert : List ℕ → ℕ → List ℕ
+insert ns x = cond (eqb x 0 || known ns x) ns (ns ++ (x ∷ []))
 
 -- where arrow k leads, of the nodes ns: it is that of event k % 16 in node k / 16
 abbrev pub target : (ℕ → ℕ → ℕ) → List ℕ → ℕ → ℕ
 target next ns k = next (getD ns (k / events) 0) (k % events)
 
--- the nodes met by the first k arrows from node q, 'events taken in rising order from the lowest numbered'
-unfoldable pub met : (ℕ → ℕ → ℕ) → ℕ → ℕ → List ℕ
-met next q zero = q ∷ []
-met next q (suc k) = meet (met next q k) (target next (met next q k) k)
+-- the nodes reached by the first k arrows from node q, 'events taken in rising order from the lowest numbered'
+unfoldable pub reachedBy : (ℕ → ℕ → ℕ) → ℕ → ℕ → List ℕ
+reachedBy next q zero = q ∷ []
+reachedBy next q (suc k) = insert (reachedBy next q k) (target next (reachedBy next q k) k)
 
 -- all nodes, if they are not more than 16: then the arrows of 16 nodes are all arrows
 abbrev pub nodes : (ℕ → ℕ → ℕ) → ℕ → List ℕ
-nodes next q = met next q (events * mostStates)
+nodes next q = reachedBy next q (events * mostStates)
 
 -- the state of a node in the policy, its number; no node is no arrow
 abbrev pub nodeState : List ℕ → ℕ → ℕ
-nodeState ns x = cond (eqb x 0) noArrow (place ns x)
+nodeState ns x = cond (eqb x 0) noArrow (indexOf ns x)
 
 -- byte k of the table
 abbrev pub byteOf : (ℕ → ℕ → ℕ) → List ℕ → ℕ → ℕ

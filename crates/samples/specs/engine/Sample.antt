@@ -9,56 +9,56 @@ use Rattle.types.specs.Names.{answer}
 use Rattle.spec.specs.Words.{packOf}
 use Rattle.spec.specs.Machines.{installMemory}
 use Rattle.spec.specs.Guests.{pairOf}
-use Rattle.spec.specs.Runs.{Given, Run, recordedIn, after as machineAfter}
-use Rattle.spec.specs.Claims.{Stands, Waiting, givenFor}
-use Rattle.samples.specs.Sample.{layout, policy, code, commands, memory, given, runs as machineRuns, pausedRun}
+use Rattle.spec.specs.Runs.{RunInput, Run, recordedIn, after as machineAfter}
+use Rattle.spec.specs.Claims.{AtBoundary, Waiting, withBudget}
+use Rattle.samples.specs.Sample.{layout, policy, code, commands, memory, runInput, runs as machineRuns, pausedRun}
 use Rattle.engine_spec.specs.declared.EngineOutcome.{EngineOutcome}
 use Rattle.engine_spec.specs.Engines.{refusalOf}
-use Rattle.engine_spec.specs.Claims.{atFirst, runOn, afterRun, after, Served, Beside, PausedBy, allRuns}
+use Rattle.engine_spec.specs.Claims.{initialSession, runOn, afterRun, after, HostPremise, PairedRuns, PausedBy, allRuns}
 
 -- two instructions; a memory too short; a thousand, before which the host wrote x to the free cell 600
-abbrev pub firstRun : ℕ → Given
-firstRun x = given (installMemory layout policy (memory x)) 2 x
+abbrev pub firstRun : ℕ → RunInput
+firstRun x = runInput (installMemory layout policy (memory x)) 2 x
 
 abbrev pub left : ℕ → List ℕ
-left x = afterRun layout code (atFirst layout policy (memory x)) (firstRun x) .memory
+left x = afterRun layout code (initialSession layout policy (memory x)) (firstRun x) .memory
 
-abbrev pub runs : ℕ → List Given
-runs x = firstRun x ∷ given [] 2 x ∷ given (set (left x) 600 x) 1000 x ∷ []
+abbrev pub runs : ℕ → List RunInput
+runs x = firstRun x ∷ runInput [] 2 x ∷ runInput (set (left x) 600 x) 1000 x ∷ []
 
 -- SET alone: four steps of the machine, one instruction of the engine
-abbrev pub machineOne : ℕ → Given
-machineOne x = given (installMemory layout policy (memory x)) 4 x
+abbrev pub machineOne : ℕ → RunInput
+machineOne x = runInput (installMemory layout policy (memory x)) 4 x
 
-abbrev pub engineOne : ℕ → Given
-engineOne x = given (installMemory layout policy (memory x)) 1 x
+abbrev pub engineOne : ℕ → RunInput
+engineOne x = runInput (installMemory layout policy (memory x)) 1 x
 
 abbrev pub answersIn : List (Run EngineOutcome) → List Answer
-answersIn rs = map (λ r. r .ran .outcome .answer) rs
+answersIn rs = map (λ r. r .result .outcome .answer) rs
 
 abbrev pub countsIn : List (Run EngineOutcome) → List ℕ
-countsIn rs = map (λ r. r .ran .outcome .steps) rs
+countsIn rs = map (λ r. r .result .outcome .steps) rs
 
 -- whatever x free cells and logs held, the runs are on the premise, and whatever y, beside the machine's runs of the same routine;
 -- four instructions in all, and the last run stops where gas has no arrow
 pub record SampleHolds : Type 0 where
-  pub served : (x : ℕ) → Served layout policy code (memory x) (runs x)
-  pub beside : (x y : ℕ) → Beside layout policy code (memory x) 32 (machineRuns x) (runs y)
+  pub premise : (x : ℕ) → HostPremise layout policy code (memory x) (runs x)
+  pub paired : (x y : ℕ) → PairedRuns layout policy code (memory x) 32 (machineRuns x) (runs y)
   pub answers : (x : ℕ) → answersIn (allRuns layout policy code (memory x) (runs x)) ≡ answer 25 0 ∷ answer 7 0 ∷ answer 21 0 ∷ []
   pub counted : (x : ℕ) → countsIn (allRuns layout policy code (memory x) (runs x)) ≡ 2 ∷ 0 ∷ 2 ∷ []
   pub recorded : (x : ℕ) → recordedIn (allRuns layout policy code (memory x) (runs x)) ≡ pairOf 0 70 ∷ pairOf 2 70 ∷ []
   pub state : (x : ℕ) → getD (after layout policy code (memory x) (runs x) .memory) (layout .cell) 0 ≡ 1
   -- given no log both wait for the first event: the machine on the third command of its bundle, the engine before it, which is behind by that bundle
-  pub waits : (x : ℕ) → Beside layout policy code (memory x) 32 (pausedRun x ∷ []) (pausedRun x ∷ [])
+  pub waits : (x : ℕ) → PairedRuns layout policy code (memory x) 32 (pausedRun x ∷ []) (pausedRun x ∷ [])
   pub third : (x : ℕ) → Waiting layout commands (machineAfter layout policy commands (memory x) (pausedRun x ∷ []) .machine)
   pub behind : (x : ℕ) → machineAfter layout policy commands (memory x) (pausedRun x ∷ []) .begun ≡ after layout policy code (memory x) (pausedRun x ∷ []) .counted + 1
   pub paused : (x : ℕ) → answersIn (allRuns layout policy code (memory x) (pausedRun x ∷ [])) ≡ answer 23 0 ∷ []
   -- after SET both are before the first event; given no log the engine pauses there
-  pub level : (x : ℕ) → Beside layout policy code (memory x) 32 (machineOne x ∷ []) (engineOne x ∷ [])
-  pub stands : (x : ℕ) → Stands layout (machineAfter layout policy commands (memory x) (machineOne x ∷ []) .machine)
+  pub level : (x : ℕ) → PairedRuns layout policy code (memory x) 32 (machineOne x ∷ []) (engineOne x ∷ [])
+  pub boundary : (x : ℕ) → AtBoundary layout (machineAfter layout policy commands (memory x) (machineOne x ∷ []) .machine)
   pub running : (x : ℕ) → machineAfter layout policy commands (memory x) (machineOne x ∷ []) .machine .status ≡ Running
   pub even : (x : ℕ) → machineAfter layout policy commands (memory x) (machineOne x ∷ []) .begun ≡ after layout policy code (memory x) (engineOne x ∷ []) .counted
-  pub pauses : (x : ℕ) → PausedBy (runOn layout code (after layout policy code (memory x) (engineOne x ∷ [])) (givenFor (pausedRun x) 1) .outcome .answer .number)
+  pub pauses : (x : ℕ) → PausedBy (runOn layout code (after layout policy code (memory x) (engineOne x ∷ [])) (withBudget (pausedRun x) 1) .outcome .answer .number)
   -- a kind above 12 in the second word, and a landing beyond
   pub unknown : refusalOf layout (packOf 1 0 0 0 0 70 ∷ packOf 13 0 0 0 0 0 ∷ []) (memory 0) ≡ answer 3 1
   pub landing : refusalOf layout (packOf 10 0 0 0 0 2 ∷ []) (memory 0) ≡ answer 8 0

@@ -14,9 +14,9 @@ use Rattle.types.specs.declared.Answer.{Answer}
 use Rattle.types.specs.declared.Refusal.the-variants.{SmallOutput}
 use Rattle.types.specs.Names.{mostInstructions, mostCommands, answer, refusal, orElse}
 use Rattle.spec.specs.Layouts.{rightLayout}
-use Rattle.spec.specs.Words.{judgeAt, firstRefused, bundlesFor}
+use Rattle.spec.specs.Words.{refusalAt, firstRefused, bundlesFor}
 use Rattle.spec.specs.Bytes.{wordsIn, readAnswer, readOutput}
-use Rattle.spec.specs.Bundles.{baseRight, commandsOf, commandCount, placeAnswer, rewriteAnswer, rewriteOutput, checkAnswer}
+use Rattle.spec.specs.Bundles.{baseRight, commandsOf, commandCount, baseRoomAnswer, rewriteAnswer, rewriteOutput, checkAnswer}
 use Rattle.spec.proofs.Bools.{cond-ind, cond-map, cases}
 use Rattle.spec.proofs.Refusals.{refused-map, else-next, else-kept, else-none}
 use Rattle.spec.proofs.Bytes.{read-ok}
@@ -69,13 +69,13 @@ room-none room a =
     cond-ind (λ (x : Answer). x .number ≡ 0 → a .number ≡ 0) (eqb (a .number) 0) (λ t _. eqb-true _ _ t) (λ _ e. e)
 
 pub rewrite-room : (lay : Layout) (ws : List ℕ) (room most : ℕ) → mostCommands ≤ most → inRoom room (rewriteAnswer lay ws most) ≡ rewriteAnswer lay ws room
-unfolding rewriteAnswer placeAnswer inRoom
+unfolding rewriteAnswer baseRoomAnswer inRoom
 rewrite-room lay ws room most h =
     cond-map (inRoom room) (not (rightLayout lay)) (λ _. refl)
     (λ _. cond-map (inRoom room) (ltb mostInstructions (length ws)) (λ _. refl)
     (λ t. let n : commandCount (length ws) ≤ most = omega (arith, count-bound (length ws) (ltb-false _ _ t)) in
-    refused-map (judgeAt (length ws)) (inRoom room) (λ x p h. sym (roomed room (answer x p) h)) ws 0 _
-    ∙ ap (firstRefused (judgeAt (length ws)) ws 0) (cond-map (inRoom room) (not (baseRight lay (bundlesFor (length ws)))) (λ _. refl) (λ _. rw (le-ltb _ _ n)))))
+    refused-map (refusalAt (length ws)) (inRoom room) (λ x p h. sym (roomed room (answer x p) h)) ws 0 _
+    ∙ ap (firstRefused (refusalAt (length ws)) ws 0) (cond-map (inRoom room) (not (baseRight lay (bundlesFor (length ws)))) (λ _. refl) (λ _. rw (le-ltb _ _ n)))))
 
 -- ---- checking
 module _ (lay : Layout) (list : List ℕ) (a : Answer) where

@@ -5,7 +5,7 @@ use mathlib.Core.List.{List}
 use native.Mathlib.Omega.{arith}
 use lib.ListN.{length}
 use Rattle.types.specs.declared.Outcome.{Outcome}
-use Rattle.spec.specs.Machines.{Ran, ranOf}
+use Rattle.spec.specs.Machines.{RunResult, runResultOf}
 use Rattle.spec.proofs.Counts.{RunCounts, run-counts}
 use borrow.Author.Needs.{needs}
 use Rattle.trial.proofs.run.Statement.{statement}
@@ -29,16 +29,16 @@ slice-aggregate-print-events : tie.Need-slice-aggregate-print-events
 slice-aggregate-print-events c = search needs
 
 -- a run's pairs lie within its log
-within : (o : Outcome) (mem log : List ℕ) (r : Ran) (g rd : List ℕ) (n : ℕ) → ranOf o mem log ≡ r → RunCounts g rd n r → 2 * o .answer .pairs ≤ length log
+within : (o : Outcome) (mem log : List ℕ) (r : RunResult) (g rd : List ℕ) (n : ℕ) → runResultOf o mem log ≡ r → RunCounts g rd n r → 2 * o .answer .pairs ≤ length log
 within o mem log r g rd n e k =
-    let c : RunCounts g rd n (ranOf o mem log) = subst (λ (x : Ran). RunCounts g rd n x) (sym e) k in
+    let c : RunCounts g rd n (runResultOf o mem log) = subst (λ (x : RunResult). RunCounts g rd n x) (sym e) k in
     omega (arith, c .room, c .log)
 
 print-events-requires : tie.Need-print-events-requires
 print-events-requires c κs = within _ _ _ _ _ _ _ (c .before .before .before .run .ensures) (run-counts _ _ _ _ _ _ _)
 
-number-requires : tie.Need-number-requires
-number-requires c κs = search needs
+ending-number-requires : tie.Need-ending-number-requires
+ending-number-requires c κs = search needs
 
 element-copy-out-print-end : tie.Need-element-copy-out-print-end
 element-copy-out-print-end c = search needs
@@ -58,7 +58,7 @@ run-spec =
     run-requires
     slice-aggregate-print-events
     print-events-requires
-    number-requires
+    ending-number-requires
     element-copy-out-print-end
     print-end-requires
     returns)

@@ -10,7 +10,7 @@ use lib.Pow.{shr-shr}
 use lib.Bits.{bitAnd, and-mask, and-mod, and-shr, and-zero-r}
 use Rattle.types.specs.Names.{guestRegisters}
 use Rattle.spec.specs.Words.{kindOf, dOf, aOf, bOf, cOf, zeroOf, vOf}
-use Rattle.words.specs.fields.Guests.{guestsOf}
+use Rattle.words.specs.fields.Guests.{onlyGuestRegisters}
 use Rattle.spec.proofs.Tables.{all, each}
 use Rattle.words.proofs.fields.Masks.{field, all-zero}
 
@@ -82,7 +82,7 @@ module _ (w : ℕ) where
       all-zero masked (and-mod fours lowest 8 ∙ and-zero-r (kindOf fours)) (at-four 8 refl ∙ hd) (at-four 12 refl ∙ ha) (at-four 16 refl ∙ hb)
       (field 4 20 fours lowest ∙ and-zero-r (cOf fours)) (field 8 24 fours lowest ∙ and-zero-r (zeroOf fours)) (and-shr fours lowest 32 ∙ and-zero-r (vOf fours))
 
-  pub guests-are : eqb masked 0 ≡ guestsOf w
+  pub guests-are : eqb masked 0 ≡ onlyGuestRegisters w
   guests-are =
       go (eqb (four (dOf w)) 0) (eqb (four (aOf w)) 0) (eqb (four (bOf w)) 0) refl refl refl
       ∙ rw (four-is (dOf w) (omega arith), four-is (aOf w) (omega arith), four-is (bOf w) (omega arith))

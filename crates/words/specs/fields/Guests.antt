@@ -6,5 +6,5 @@ use Rattle.types.specs.Names.{guestRegisters}
 use Rattle.spec.specs.Words.{dOf, aOf, bOf}
 
 -- no register field of a word names the hidden register
-abbrev pub guestsOf : ℕ → Bool
-guestsOf w = ltb (dOf w) guestRegisters && ltb (aOf w) guestRegisters && ltb (bOf w) guestRegisters
+abbrev pub onlyGuestRegisters : ℕ → Bool
+onlyGuestRegisters w = ltb (dOf w) guestRegisters && ltb (aOf w) guestRegisters && ltb (bOf w) guestRegisters

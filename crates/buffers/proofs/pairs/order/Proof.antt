@@ -9,4 +9,4 @@ order-spec =
     (λ c κs. search needs)
     (λ c κs. search needs)
     (λ c. search needs)
-    (λ c. simp (c .before .before .put .ensures, c .before .before .before .before .limited .ensures)))
+    (λ c. simp (c .before .before .write-pair .ensures, c .before .before .before .before .limited .ensures)))

@@ -1,5 +1,5 @@
 use borrow.Author.Needs.{needs}
-use Rattle.checker.proofs.word.Laws.{uncut}
+use Rattle.checker.proofs.word.Laws.{untruncated}
 use Rattle.checker.proofs.word.is_word.Statement.{statement}
 use Rattle.checker.proofs.word.is_word.Tie as tie
 
@@ -8,4 +8,4 @@ is-word-spec =
     tie.close
     (tie.spec
     (λ c κs. search needs)
-    (λ c. search (uncut, needs)))
+    (λ c. search (untruncated, needs)))

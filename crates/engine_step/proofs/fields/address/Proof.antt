@@ -9,4 +9,4 @@ address-spec =
     (λ c κs. search needs)
     (λ c κs. search needs)
     (λ c. search needs)
-    (λ c. rw (c .mask .ensures, c .before .left-of .ensures)))
+    (λ c. rw (c .mask .ensures, c .before .a-value .ensures)))

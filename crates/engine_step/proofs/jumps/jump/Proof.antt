@@ -9,6 +9,6 @@ jump-spec =
     (tie.spec
     (λ c κs. search needs)
     (λ c κs. search needs)
-    (λ c. c .land .ensures ∙ simp (← c .before .before .holds .ensures, c .before .if1 .taken))
+    (λ c. c .jump-to-landing .ensures ∙ simp (← c .before .before .holds .ensures, c .before .if1 .taken))
     (λ c κs. search needs)
     (λ c. simp (← c .before .before .holds .ensures, c .before .if1 .left, c .add .ensures)))

@@ -11,7 +11,7 @@ jump-spec =
     (tie.spec
     (λ c κs. search needs)
     (λ c κs. search needs)
-    (λ c. jump-lands _ _ _ _ _ _ _ (c .before .before .before .holds .ensures) (c .before .lands .ensures) (c .before .before .if1 .taken) (c .if2 .taken))
-    (λ c. jump-strays _ _ _ _ _ _ _ (c .before .before .before .holds .ensures) (c .before .lands .ensures) (c .before .before .if1 .taken) (c .if2 .left))
+    (λ c. jump-lands _ _ _ _ _ _ _ (c .before .before .before .holds .ensures) (c .before .is-landing .ensures) (c .before .before .if1 .taken) (c .if2 .taken))
+    (λ c. jump-strays _ _ _ _ _ _ _ (c .before .before .before .holds .ensures) (c .before .is-landing .ensures) (c .before .before .if1 .taken) (c .if2 .left))
     (λ c κs. search needs)
     (λ c. jump-stays _ _ _ _ _ (c .before .before .holds .ensures) (c .before .if1 .left) (ap Go (c .add .ensures))))

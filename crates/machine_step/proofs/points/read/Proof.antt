@@ -9,4 +9,4 @@ read-spec =
     (λ c κs. search needs)
     (λ c κs. search needs)
     (λ c. search needs)
-    (λ c. let x = c .before .before .before .before .peek .ensures in (x, simp (c .before .before .put .ensures, x))))
+    (λ c. let x = c .before .before .before .before .peek .ensures in (x, simp (c .before .before .write-pair .ensures, x))))

@@ -15,18 +15,18 @@ Inv-loop names pairs s e ok₀ i₀ ok i = (ok ≡ firstsIn pairs s e i) × (i �
 abbrev μ-loop : tie.MeasureT-loop
 μ-loop names pairs s e ok₀ i₀ ok i = length pairs / 2 - i
 
-place-requires : tie.Need-place-requires Inv-loop μ-loop
-place-requires c κs = search (first-below, needs)
+bit-index-requires : tie.Need-bit-index-requires Inv-loop μ-loop
+bit-index-requires c κs = search (first-below, needs)
 
-bit-set-requires : tie.Need-bit-set-requires Inv-loop μ-loop
-bit-set-requires c κs = search (bit-below, needs)
+has-bit-requires : tie.Need-has-bit-requires Inv-loop μ-loop
+has-bit-requires c κs = search (bit-below, needs)
 
 loop-again : tie.Need-loop-again Inv-loop μ-loop
 loop-again c =
     let at = c .before .before .before .before .before .before in
     let r = c .before .before .before .before in
     let first = at .before .before .before in
-    (firsts-more (now (first .args .pairs)) (first .args .names) (first .pre) (first .args .s) (first .args .e) (at .before .loop .i) _ _ _ _ _ (at .loop-test .taken) (at .before .loop .inv .0) (r .index-of .ensures .0) (c .before .before .index-of2 .ensures .0) (c .before .place .ensures .0) (c .bit-set .ensures), search needs)
+    (firsts-more (now (first .args .pairs)) (first .args .names) (first .pre) (first .args .s) (first .args .e) (at .before .loop .i) _ _ _ _ _ (at .loop-test .taken) (at .before .loop .inv .0) (r .index-of .ensures .0) (c .before .before .index-of2 .ensures .0) (c .before .bit-index .ensures .0) (c .has-bit .ensures), search needs)
 
 pub firsts-recorded-spec : {M : Type 1} → statement M
 firsts-recorded-spec =
@@ -42,8 +42,8 @@ firsts-recorded-spec =
     (λ c. search needs)
     (λ c. search needs)
     (λ c κs. search needs)
-    place-requires
-    bit-set-requires
+    bit-index-requires
+    has-bit-requires
     (λ c. search needs)
     (λ c. search needs)
     loop-again

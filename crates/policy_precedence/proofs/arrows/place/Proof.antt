@@ -1,9 +1,0 @@
-use borrow.Author.Needs.{needs}
-use Rattle.policy_spec.proofs.precedence.Laws.{shifted-some, below-is, below-fits}
-use Rattle.policy_precedence.proofs.arrows.place.Statement.{statement}
-use Rattle.policy_precedence.proofs.arrows.place.Tie as tie
-
-pub place-spec : {M : Type 1} → statement M
-place-spec =
-    tie.close
-    (tie.spec (λ c. search needs) (λ c. search (shifted-some, needs)) (λ c. record { fits = search (below-fits, needs) }) (λ c. below-is (c .args .names) (c .args .e) (c .pre)))
