@@ -1,3 +1,3 @@
 pub mod bytes
-pub mod careful
-pub mod sure
+pub mod full_path
+pub mod fast_path

@@ -1,7 +1,7 @@
 // One instruction read from its bytes: by the fast path, or by the full one with every refusal.
-use crate::careful::read_full;
-use crate::sure::LONGEST;
-use crate::sure::read_fast;
+use crate::fast_path::LONGEST;
+use crate::fast_path::read_fast;
+use crate::full_path::read_full;
 use types::Decoded;
 ghost use mathlib.Core.Path.{_≡_};
 ghost use Rattle.spec.specs.Bytes.{decodeOne};

@@ -1,9 +1,9 @@
 // A routine's bytes read into words.
 pub mod bytes;
-pub mod careful;
 pub mod decode;
+pub mod fast_path;
+pub mod full_path;
 pub mod map;
-pub mod sure;
 
 use crate::decode::read_one;
 use buffers::cells::index_of;

@@ -1,11 +1,11 @@
 // The engine of request 5: it runs guest words directly under the guest rule.
-pub mod judge;
+pub mod refusal;
 pub mod run_loop;
 
 use crate::run_loop::run_loop;
 use engine_spec::Engine;
 use engine_spec::EngineOutcome;
-use machine_step::points::Point;
+use machine_step::program_point::Point;
 use types::Answer;
 use types::Ending;
 use types::Layout;
@@ -128,7 +128,7 @@ pub fn run(
 ) -> EngineOutcome
     ensures { λ r. ⌜ runResultOf r (now (memory .exit)) (now (log .exit)) ≡ runOf layout (now (words .entry)) engine (now (memory .entry)) budget (now (readings .entry)) (now (log .entry)) ⌝ }
 {
-    let answer = crate::judge::run_refusal(layout, words, memory.len());
+    let answer = crate::refusal::run_refusal(layout, words, memory.len());
     let refused = answer.number;
     if refused == Refusal::TAKEN {
         return run_on(layout, words, engine, memory, budget, readings, log);

@@ -1,12 +1,12 @@
 // An effect applied: the state that it leaves.
 use engine_spec::Engine;
-use machine_step::points::Point;
-use machine_step::points::ended;
-use machine_step::points::jumped;
-use machine_step::points::next_pc;
-use machine_step::points::ordered;
-use machine_step::points::probed;
-use machine_step::points::read;
+use machine_step::program_point::Point;
+use machine_step::program_point::ended;
+use machine_step::program_point::jumped;
+use machine_step::program_point::next_pc;
+use machine_step::program_point::ordered;
+use machine_step::program_point::probed;
+use machine_step::program_point::read;
 use types::Effect;
 use types::Layout;
 ghost use mathlib.Core.Path.{_≡_};
@@ -15,7 +15,7 @@ ghost use lib.ListN.{length, getD, set};
 ghost use Rattle.types.specs.Names.{guestRegisters};
 ghost use Rattle.spec.specs.Machines.{withPair};
 ghost use Rattle.engine_spec.specs.Engines.{RegInRange, entryAt, applyEffect};
-ghost use Rattle.machine_step.specs.points.Points.{stateAt};
+ghost use Rattle.machine_step.specs.program_point.Points.{stateAt};
 
 // A register set.
 fn set_register(regs: &mut [u32; Engine::REGISTERS], i: usize, x: u32)

@@ -1,5 +1,5 @@
 // What a run answers: the record that it leaves, its ending, its steps and counts.
-use machine_step::points::Point;
+use machine_step::program_point::Point;
 use types::Ending;
 use types::Machine;
 use types::Outcome;

@@ -1,2 +1,2 @@
 pub mod effects
-pub mod points
+pub mod program_point

@@ -1,11 +1,11 @@
 // An effect applied: the state that it leaves.
-use crate::points::Point;
-use crate::points::ended;
-use crate::points::jumped;
-use crate::points::next_pc;
-use crate::points::ordered;
-use crate::points::probed;
-use crate::points::read;
+use crate::program_point::Point;
+use crate::program_point::ended;
+use crate::program_point::jumped;
+use crate::program_point::next_pc;
+use crate::program_point::ordered;
+use crate::program_point::probed;
+use crate::program_point::read;
 use types::Effect;
 use types::Machine;
 ghost use mathlib.Core.Path.{_≡_};
@@ -13,7 +13,7 @@ ghost use Prim.Native.Nat.{_<_, _^_};
 ghost use lib.ListN.{length, getD, set};
 ghost use Rattle.types.specs.Names.{registers};
 ghost use Rattle.spec.specs.Machines.{applyOf, withPair};
-ghost use Rattle.machine_step.specs.points.Points.{stateAt};
+ghost use Rattle.machine_step.specs.program_point.Points.{stateAt};
 
 // ---- what an effect writes
 

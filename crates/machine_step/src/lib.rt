@@ -4,4 +4,4 @@ pub mod effects;
 pub mod endings;
 pub mod events;
 pub mod landings;
-pub mod points;
+pub mod program_point;

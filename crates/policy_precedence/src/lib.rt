@@ -1,10 +1,10 @@
 // This before that: the policy of pairs of events made, or refused.
 pub mod arrows;
-pub mod nevers;
+pub mod unreachable;
 
 use crate::arrows::arrow;
-use crate::nevers::blocked_events;
-use crate::nevers::fixpoint;
+use crate::unreachable::blocked_events;
+use crate::unreachable::fixpoint;
 use buffers::cells::index_of;
 use policy_spec::precedence::EVENTS;
 use policy_spec::precedence::MOST_NAMED;

@@ -1,5 +1,5 @@
 use borrow.Author.Needs.{needs}
-use Rattle.codec_read.proofs.sure.Reading.{sure-is}
+use Rattle.codec_read.proofs.fast_path.Reading.{sure-is}
 use Rattle.codec_read.proofs.decode.read_one.Statement.{statement}
 use Rattle.codec_read.proofs.decode.read_one.Tie as tie
 

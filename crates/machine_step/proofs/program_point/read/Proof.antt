@@ -1,0 +1,12 @@
+use borrow.Author.Needs.{needs}
+use Rattle.machine_step.proofs.program_point.read.Statement.{statement}
+use Rattle.machine_step.proofs.program_point.read.Tie as tie
+
+pub read-spec : {M : Type 1} → statement M
+read-spec =
+    tie.close
+    (tie.spec
+    (λ c κs. search needs)
+    (λ c κs. search needs)
+    (λ c. search needs)
+    (λ c. let x = c .before .before .before .before .peek .ensures in (x, simp (c .before .before .write-pair .ensures, x))))
