@@ -6,7 +6,7 @@ use native.Mathlib.Omega.{arith}
 use native.Mathlib.Nat.{le-of-eq}
 use native.Mathlib.Numerals.{add-one}
 use lib.ListN.{length, take, drop, set, length-drop}
-use lib.Seq.{sets as stores, sets-eq, length-sets, take-all, take-at, length-take-le}
+use lib.Seq.{sets as stores, take-all}
 use borrow.Author.Tests.{eq-eqb, ne-eqb}
 use Rattle.types.specs.declared.Answer.{Answer}
 use Rattle.types.specs.declared.Decoded.{Decoded}
@@ -72,34 +72,24 @@ pub read-rest : (s : List ℕ) (room : ℕ) → 2 ≤ length s → (n : ℕ) →
     → (a : Answer) → a ≡ scanOf n 0 (take (length s - 2) (drop 2 s)) → a ≡ readAnswer s room
 read-rest s room h n e g l a ea = read-scan s room h n e g l a (ea ∙ rw (rest 2 s h))
 
-pub aside-rest : (s : List ℕ) → 2 ≤ length s → (n : ℕ) → n ≡ countOf s → (out out′ : List ℕ) → out′ ≡ stores out 0 (wordsOf n (take (length s - 2) (drop 2 s)))
-    → out′ ≡ stores out 0 (wordsIn s)
-aside-rest s h n e out out′ eo = eo ∙ rw (rest 2 s h, e)
-
 module _ (s : List ℕ) (room : ℕ) (a : Answer) (e : a ≡ readAnswer s room) (z : a .number ≡ 0) where
   ok : ReadOk s room (a .place)
   ok = rw e (read-ok s room (rw e at z))
 
-  pub ok-few : (y : List ℕ) → length y ≡ mostInstructions → a .place ≤ length y
-  ok-few y h = omega (arith, ok .count, ok .few)
+  pub ok-two : 2 ≤ length s
+  ok-two = ok .two
 
-  pub ok-fits : (y : List ℕ) → length y ≡ mostInstructions → 0 + length (take (a .place) y) ≤ room
-  ok-fits y h = omega (arith, ok .fits, length-take-le (a .place) y (ok-few y h))
+  pub ok-fits : a .place ≤ room
+  ok-fits = ok .fits
 
 module _ (s out : List ℕ) (a : Answer) (e : a ≡ readAnswer s (length out)) where
   pub refused : (a .number ≡ 0 → ⊥) → out ≡ readOutput s out
   unfolding readOutput
   refused z = rw (← e) (output-kept a (wordsIn s) out z)
 
-  pub filled : a .number ≡ 0 → (x y : List ℕ) → length y ≡ mostInstructions → (a .number ≡ 0 → y ≡ stores x 0 (wordsIn s))
-      → (o : List ℕ) → o ≡ stores out 0 (take (a .place) y) → o ≡ readOutput s out
+  pub filled : a .number ≡ 0 → (o : List ℕ) → o ≡ stores out 0 (wordsOf (a .place) (take (length s - 2) (drop 2 s))) → o ≡ readOutput s out
   unfolding readOutput
-  filled z x y l f o eo =
+  filled z o eo =
       let k : ReadOk s (length out) (a .place) = ok s (length out) a e z in
-      let n : ℕ = a .place in
-      let ws : List ℕ = wordsIn s in
-      let lx : length y ≡ length x = ap length (f z) ∙ length-sets x 0 ws in
-      let g : 0 + length ws ≤ length x = omega (arith, k .words, k .count, k .few) in
-      let h : length ws ≤ length out = omega (arith, k .words, k .fits) in
-      let et : take n y ≡ ws = rw (f z, sets-eq ws x 0 g) (take-at ws (drop (0 + length ws) x) n (k .words)) in
-      eo ∙ rw (et, ← e) (output-written a ws out z h)
+      let h : length (wordsIn s) ≤ length out = omega (arith, k .words, k .fits) in
+      eo ∙ rw (rest 2 s (k .two), k .count, ← e) (output-written a (wordsIn s) out z h)

@@ -7,7 +7,6 @@ pub mod map;
 
 use crate::decode::read_one;
 use buffers::cells::index_of;
-use buffers::stores::store_words;
 use types::Answer;
 use types::Decoded;
 use types::Instr;
@@ -16,22 +15,18 @@ ghost use mathlib.Core.Path.{_≡_};
 ghost use Prim.Native.Nat.{_≤_};
 ghost use lib.ListN.{length};
 ghost use lib.Seq.{sets as stores};
-ghost use Rattle.types.specs.Names.{mostInstructions};
-ghost use Rattle.spec.specs.Bytes.{scanOf, wordsOf, countOf, wordsIn, readAnswer, readOutput};
+ghost use Rattle.spec.specs.Bytes.{scanOf, wordsOf, countOf, readAnswer, readOutput};
 
-// What n instructions from s on answer; their words are stored, up to the first that is refused.
-fn scan(s: &[u8], n: usize, words: &mut [u64]) -> Answer
-    requires { ⌜ n ≤ length (now words) ⌝ }
-    ensures answer { λ r. ⌜ r ≡ scanOf n 0 (now (s .entry)) ⌝ }
-    ensures content { λ _. ⌜ now (words .exit) ≡ stores (now (words .entry)) 0 (wordsOf n (now (s .entry))) ⌝ }
+// What n instructions from s on answer. Nothing is stored.
+fn scan(s: &[u8], n: usize) -> Answer
+    ensures { λ r. ⌜ r ≡ scanOf n 0 (now (s .entry)) ⌝ }
 {
     let mut t = s;
     let mut i: usize = 0;
     while i < n {
         let o = read_one(t);
         match o {
-            Decoded::Word(w, used) => {
-                words[i] = w;
+            Decoded::Word(_w, used) => {
                 t = &t[used..];
                 i += 1;
             }
@@ -47,19 +42,39 @@ fn scan(s: &[u8], n: usize, words: &mut [u64]) -> Answer
     }
 }
 
+// The words of n instructions from s on, up to the first that is refused.
+fn fill(s: &[u8], n: usize, words: &mut [u64])
+    requires { ⌜ n ≤ length (now words) ⌝ }
+    ensures { λ _. ⌜ now (words .exit) ≡ stores (now (words .entry)) 0 (wordsOf n (now (s .entry))) ⌝ }
+{
+    let mut t = s;
+    let mut i: usize = 0;
+    while i < n {
+        let o = read_one(t);
+        match o {
+            Decoded::Word(w, used) => {
+                words[i] = w;
+                t = &t[used..];
+                i += 1;
+            }
+            Decoded::RefusedWith(_refused) => {
+                return;
+            }
+        }
+    }
+}
+
 // n in two bytes, low first.
-fn count(s: &[u8]) -> usize
+pub fn count(s: &[u8]) -> usize
     requires { ⌜ 2 ≤ length (now s) ⌝ }
     ensures { λ r. ⌜ r ≡ countOf (now (s .entry)) ⌝ }
 {
     index_of(s[0]) + 256 * index_of(s[1])
 }
 
-// What reading answers; the words are stored aside.
-fn read_check(bytes: &[u8], room: usize, aside: &mut [u64]) -> Answer
-    requires { ⌜ mostInstructions ≤ length (now aside) ⌝ }
-    ensures answer { λ r. ⌜ r ≡ readAnswer (now (bytes .entry)) room ⌝ }
-    ensures content { λ r. ⌜ (r .number ≡ 0 → now (aside .exit) ≡ stores (now (aside .entry)) 0 (wordsIn (now (bytes .entry)))) ⌝ }
+// What reading answers. Nothing is stored.
+fn read_answer(bytes: &[u8], room: usize) -> Answer
+    ensures { λ r. ⌜ r ≡ readAnswer (now (bytes .entry)) room ⌝ }
 {
     if bytes.len() < 2 {
         return Answer::refused(Refusal::SHORT);
@@ -71,21 +86,20 @@ fn read_check(bytes: &[u8], room: usize, aside: &mut [u64]) -> Answer
     if room < n {
         return Answer::refused(Refusal::SMALL_OUTPUT);
     }
-    scan(&bytes[2..], n, aside)
+    scan(&bytes[2..], n)
 }
 
-// Reads a routine: the words from the start of the output, which a refusal leaves as it was; hence they are read aside,
-// so that one pass does.
+// Reads a routine: the words go to the start of the output. One pass decides, one writes, so that a refusal leaves the
+// output as it was.
 pub fn read(bytes: &[u8], words: &mut [u64]) -> Answer
     ensures answer { λ r. ⌜ r ≡ readAnswer (now (bytes .entry)) (length (now (words .entry))) ⌝ }
     ensures content { λ _. ⌜ now (words .exit) ≡ readOutput (now (bytes .entry)) (now (words .entry)) ⌝ }
 {
-    let mut aside = [0u64; Instr::MOST];
-    let a = read_check(bytes, words.len(), &mut aside);
+    let a = read_answer(bytes, words.len());
     let refused = a.number;
     if refused == Refusal::TAKEN {
         let n = a.place;
-        store_words(words, 0, &aside[..n]);
+        fill(&bytes[2..], n, words);
     }
     a
 }
