@@ -17,7 +17,7 @@ static ucontext_t here, there;
 static const struct hemdroas_layout layout = {U, 2048, 4095, 0, 16, 16, 0, 512, {9, 9, 9, 9, 9, 9, 9, 9}};
 static uint8_t bytes[16 * ROUTINE], table[HEMDROAS_MOST_TABLE], made_table[HEMDROAS_MOST_TABLE], pairs[4] = {1, 2, 2, 3};
 static uint64_t words[ROUTINE], commands[HEMDROAS_MOST_COMMANDS];
-static uint32_t memory[U], record[64], readings[32], landings[2] = {0, 1};
+static uint32_t memory[U], work[U], record[64], readings[32], landings[2] = {0, 1};
 static uint16_t arrows[16];
 static struct hemdroas_answer answer;
 static struct hemdroas_machine machine, after;
@@ -43,7 +43,8 @@ static void load(void) {
                   &machine, &answer);
 }
 static void preview(void) {
-    hemdroas_preview(&layout, commands, HEMDROAS_MOST_COMMANDS, &machine, memory, U, 100000, readings, 32, record, 64, &after, &ran);
+    hemdroas_preview(&layout, commands, HEMDROAS_MOST_COMMANDS, &machine, memory, U, work, U, 100000, readings, 32, record, 64,
+                     &after, &ran);
 }
 static void run(void) {
     hemdroas_run(&layout, commands, HEMDROAS_MOST_COMMANDS, &machine, memory, U, 100000, readings, 32, record, 64, &ran);

@@ -179,11 +179,12 @@ static void print_answer(const char *what, const struct hemdroas_run_answer *ans
  * cell outside the sandbox but the state cell. */
 static struct hemdroas_run_answer stretch(const uint32_t *readings, size_t count)
 {
-    uint32_t before[CELLS], foreseen[LOG] = {0}, log[LOG] = {0};
+    uint32_t before[CELLS], work[CELLS], foreseen[LOG] = {0}, log[LOG] = {0};
     struct hemdroas_machine after;
     struct hemdroas_run_answer preview, ran;
 
-    hemdroas_preview(&layout, commands, length, &machine, memory, CELLS, BUDGET, readings, count, foreseen, LOG, &after, &preview);
+    hemdroas_preview(&layout, commands, length, &machine, memory, CELLS, work, CELLS, BUDGET, readings, count, foreseen, LOG,
+                     &after, &preview);
     print_answer("preview", &preview);
 
     memcpy(before, memory, sizeof memory);
@@ -194,7 +195,8 @@ static struct hemdroas_run_answer stretch(const uint32_t *readings, size_t count
     for (uint32_t pair = 0; pair < ran.pairs; pair++)
         printf("    %s %" PRIu32 "\n", event_name(log[2 * pair]), log[2 * pair + 1]);
 
-    if (memcmp(&preview, &ran, sizeof ran) != 0 || memcmp(&after, &machine, sizeof machine) != 0 || memcmp(foreseen, log, sizeof log) != 0)
+    if (memcmp(&preview, &ran, sizeof ran) != 0 || memcmp(&after, &machine, sizeof machine) != 0 || memcmp(foreseen, log, sizeof log) != 0
+        || memcmp(work, memory, sizeof work) != 0)
         fail("running", "not as previewed", machine.pc);
     for (uint32_t cell = 0; cell < CELLS; cell++)
         if ((cell < LOW || HIGH < cell) && cell != STATE_CELL && memory[cell] != before[cell])

@@ -293,10 +293,13 @@ void hemdroas_run(const struct hemdroas_layout *layout, const uint64_t *commands
 /* Looks ahead: answers as hemdroas_run would, with these readings, writes the
  * log as that would, and yields in after the machine record that it would
  * leave, which is machine's own numbers if it is refused. Neither machine nor
- * memory changes. The run is done on a copy of the memory, which takes about
- * 17 KB of stack. */
+ * memory changes. The run is done on a copy of the memory in work, which then
+ * holds what the run would leave of the memory. spare must be the layout's
+ * size, as cells must; else the preview is refused as bad layout (7), and work
+ * stays as it was. */
 void hemdroas_preview(const struct hemdroas_layout *layout, const uint64_t *commands, size_t n,
-                      const struct hemdroas_machine *machine, const uint32_t *memory, size_t cells, uint32_t budget,
+                      const struct hemdroas_machine *machine, const uint32_t *memory, size_t cells,
+                      uint32_t *work, size_t spare, uint32_t budget,
                       const uint32_t *readings, size_t r, uint32_t *log, size_t g,
                       struct hemdroas_machine *after, struct hemdroas_run_answer *answer);
 

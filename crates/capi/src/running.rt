@@ -31,25 +31,26 @@ pub extern "C" fn hemdroas_run(
     *answer = run_answer_of(out.answer);
 }
 
-// Previews a run: the answer, the log and, in `after`, the record that `hemdroas_run` would leave.
+// Previews a run: the answer, the log, in `after` the record and in `work` the memory that `hemdroas_run` would leave.
 #[no_mangle]
 pub extern "C" fn hemdroas_preview(
     layout: &[u32; LAYOUT],
     commands: &[u64],
     machine: &[u32; RECORD],
     memory: &[u32],
+    work: &mut [u32],
     budget: u32,
     readings: &[u32],
     log: &mut [u32],
     after: &mut [u32; RECORD],
     answer: &mut [u32; RUN_ANSWER],
 )
-    ensures { λ _. ⌜ hostPreviewed (now (answer .exit)) (now (after .exit)) (now (log .exit)) (now (machine .exit)) (now (memory .exit)) ≡ previewFor (now (layout .entry)) (now (commands .entry)) (now (machine .entry)) (now (memory .entry)) budget (now (readings .entry)) (now (log .entry)) ⌝ }
+    ensures { λ _. ⌜ hostPreviewed (hostResult (now (answer .exit)) (now (after .exit)) (now (work .exit)) (now (log .exit))) (now (machine .exit)) (now (memory .exit)) ≡ previewFor (now (layout .entry)) (now (commands .entry)) (now (machine .entry)) (now (memory .entry)) (now (work .entry)) budget (now (readings .entry)) (now (log .entry)) ⌝ }
 {
     let lay = layout_of(layout);
     let given = *machine;
     let m = machine_of(given);
-    let out = machine_preview::preview(lay, commands, m, memory, budget, readings, log);
+    let out = machine_preview::preview(lay, commands, m, memory, work, budget, readings, log);
     *after = record_after(out.machine, given);
     *answer = run_answer_of(out.answer);
 }

@@ -5,7 +5,7 @@ use lib.ListN.{length}
 use Rattle.types.specs.Names.{registers}
 use Rattle.spec.specs.Policies.{Policy}
 use Rattle.spec.specs.Bundles.{checkAnswer}
-use Rattle.spec.specs.Machines.{installAnswer, installMachine, installMemory, RunResult, runOf}
+use Rattle.spec.specs.Machines.{installAnswer, installMachine, installMemory, RunResult, runOf, previewOf}
 use Rattle.sandbox_spec.specs.Loading.{loadAnswer, loadMachine, loadCommands, loadMemory}
 use Rattle.capi_spec.specs.Numbers.{layoutFrom, numbersAfter, machineFrom, machineTo, answerTo, runAnswerTo}
 
@@ -65,18 +65,18 @@ resultTo r = hostResult (runAnswerTo (r .outcome .answer)) (machineTo (r .outcom
 unfoldable pub runFor : List ℕ → List ℕ → List ℕ → List ℕ → ℕ → List ℕ → List ℕ → HostResult
 runFor lay ws xs mem budget rd log = hostAfter registers xs (resultTo (runOf (layoutFrom lay) ws (machineFrom xs) mem budget rd log))
 
--- hemdroas_preview: the answer, the record and the log that hemdroas_run would leave; record and memory, as they were
+-- hemdroas_preview: the answer, the record, the memory (in `work`) and the log that hemdroas_run would leave; record and memory, as they were
 pub record HostPreviewed : Type 0 where
   pub answer : List ℕ
   pub after : List ℕ
+  pub work : List ℕ
   pub log : List ℕ
   pub machine : List ℕ
   pub memory : List ℕ
 
-abbrev pub hostPreviewed : List ℕ → List ℕ → List ℕ → List ℕ → List ℕ → HostPreviewed
-hostPreviewed a x log m mem = record { answer = a; after = x; log = log; machine = m; memory = mem }
+abbrev pub hostPreviewed : HostResult → List ℕ → List ℕ → HostPreviewed
+hostPreviewed r m mem = record { answer = r .answer; after = r .after; work = r .memory; log = r .log; machine = m; memory = mem }
 
-unfoldable pub previewFor : List ℕ → List ℕ → List ℕ → List ℕ → ℕ → List ℕ → List ℕ → HostPreviewed
-previewFor lay ws xs mem budget rd log =
-    let r = runFor lay ws xs mem budget rd log in
-    hostPreviewed (r .answer) (r .after) (r .log) xs mem
+unfoldable pub previewFor : List ℕ → List ℕ → List ℕ → List ℕ → List ℕ → ℕ → List ℕ → List ℕ → HostPreviewed
+previewFor lay ws xs mem work budget rd log =
+    hostPreviewed (hostAfter registers xs (resultTo (previewOf (layoutFrom lay) ws (machineFrom xs) mem work budget rd log))) xs mem

@@ -1,42 +1,40 @@
 -- Laws of a preview, one for each way out of the code.
-use Prim.Native.Nat.{ℕ, _≤_, _<_}
-use mathlib.Core.Path.{_≡_, refl, ap, _∙_}
-use mathlib.Core.Bool.{true, false}
+use Prim.Native.Nat.{ℕ, _+_, _≤_}
+use mathlib.Core.Path.{_≡_, sym, _∙_}
+use mathlib.Core.Bool.{Bool, true, false, _&&_}
 use mathlib.Core.List.{List}
-use mathlib.Core.Logic.{⊎-elim}
 use native.Mathlib.Omega.{arith}
+use lib.Dec.{eqb}
 use lib.ListN.{length}
+use lib.Seq.{sets}
 use borrow.Author.Tests.{eqb-true}
 use Rattle.types.specs.declared.Layout.{Layout}
 use Rattle.types.specs.declared.Machine.{Machine}
 use Rattle.types.specs.declared.Outcome.{Outcome}
 use Rattle.types.specs.declared.Ending.the-variants.{Refused}
-use Rattle.types.specs.Names.{mostCells}
-use Rattle.spec.specs.Layouts.{rightLayout}
-use Rattle.spec.specs.Machines.{fits, RunResult, runResultOf, runOf}
 use Rattle.types.specs.Records.{outcomeOf}
-use Rattle.spec.proofs.Bools.{both, cases}
-use Rattle.spec.proofs.Layouts.{layout-facts}
+use Rattle.spec.specs.Layouts.{rightLayout}
+use Rattle.spec.specs.Machines.{fits, runResultOf, runOf, previewOf}
+use Rattle.spec.proofs.Bools.{both}
+use Rattle.buffers.proofs.stores.Storing.{store-all}
 
--- a memory that fits a layout has no more cells than a layout may
-within : (lay : Layout) (mem : List ℕ) → fits lay mem ≡ true → length mem ≤ mostCells
-within lay mem t =
-    let f = both (rightLayout lay) _ t in
-    omega (arith, layout-facts lay (f .0) .size, eqb-true (length mem) (lay .size) (f .1))
+module _ (lay : Layout) (mem work : List ℕ) (f : Bool) (e : f ≡ fits lay mem) where
+  -- a work of U cells is as long as a memory that fits
+  same-size : (f && eqb (length work) (lay .size)) ≡ true → length work ≡ length mem
+  same-size t =
+      let p = both f _ t in
+      eqb-true _ _ (p .1) ∙ sym (eqb-true _ _ (both (rightLayout lay) _ (sym e ∙ p .0) .1))
 
-too-long : (lay : Layout) (mem : List ℕ) → mostCells < length mem → fits lay mem ≡ false
-too-long lay mem h = ⊎-elim (λ t. absurd (omega (arith, within lay mem t))) (λ e. e) (cases (fits lay mem))
+  pub fits-copy : (f && eqb (length work) (lay .size)) ≡ true → 0 + length mem ≤ length work
+  fits-copy t = omega (arith, same-size t)
 
-module _ (lay : Layout) (ws : List ℕ) (m : Machine) (mem : List ℕ) (budget : ℕ) (rd log : List ℕ) where
-  -- what a caller learns of outcome, memory and log
-  abbrev pub Previewed : Outcome → List ℕ → Type 0
-  Previewed o log′ = (o ≡ runOf lay ws m mem budget rd log .outcome) × ((mem ≡ mem) × (log′ ≡ runOf lay ws m mem budget rd log .log))
+  module _ (ws : List ℕ) (m : Machine) (budget : ℕ) (rd log : List ℕ) where
+    pub not-fitting : (f && eqb (length work) (lay .size)) ≡ false → (o : Outcome) → o ≡ outcomeOf m Refused 0 0 0
+        → runResultOf o work log ≡ previewOf lay ws m mem work budget rd log
+    unfolding previewOf
+    not-fitting t o eo = rw (eo, ← e, t)
 
-  pub refused-long : mostCells < length mem → (o : Outcome) → o ≡ outcomeOf m Refused 0 0 0 → Previewed o log
-  unfolding runOf
-  refused-long h o e = rw (too-long lay mem h) (e, (refl, refl))
-
-  pub ran-copy : (copied : List ℕ) → copied ≡ mem → (o : Outcome) (mem′ log′ : List ℕ) → runResultOf o mem′ log′ ≡ runOf lay ws m copied budget rd log → Previewed o log′
-  ran-copy copied c o mem′ log′ e =
-      let r : runResultOf o mem′ log′ ≡ runOf lay ws m mem budget rd log = e ∙ ap (λ (x : List ℕ). runOf lay ws m x budget rd log) c in
-      (ap (λ (x : RunResult). x .outcome) r, (refl, ap (λ (x : RunResult). x .log) r))
+    pub ran-copy : (f && eqb (length work) (lay .size)) ≡ true → (copied : List ℕ) → copied ≡ sets work 0 mem → (o : Outcome) (work′ log′ : List ℕ) → runResultOf o work′ log′ ≡ runOf lay ws m copied budget rd log
+        → runResultOf o work′ log′ ≡ previewOf lay ws m mem work budget rd log
+    unfolding previewOf
+    ran-copy t copied c o work′ log′ er = er ∙ rw (c ∙ store-all work mem (same-size t), ← e, t)

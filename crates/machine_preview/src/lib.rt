@@ -1,31 +1,31 @@
-// A look ahead: what a run would answer and log, before it touches memory and record.
+// A look ahead: what a run would answer and leave, before it touches memory and record.
 use buffers::stores::store_cells;
 use types::Layout;
 use types::Machine;
 use types::Outcome;
+use words::memory::fits;
 ghost use mathlib.Core.Path.{_≡_};
-ghost use Rattle.spec.specs.Machines.{runOf};
+ghost use Rattle.spec.specs.Machines.{runResultOf, previewOf};
 
-// A preview: outcome and log of a run on a copy of memory and record. A memory with more cells than any layout's has no room in the copy, and is refused as that run would be.
+// A preview: outcome, memory and log of a run on a copy of memory and record. The caller lends `work` for the memory's
+// copy, as long as the memory; a refusal leaves it as it was.
 pub fn preview(
     layout: Layout,
     commands: &[u64],
     machine: Machine,
     memory: &[u32],
+    work: &mut [u32],
     budget: u32,
     readings: &[u32],
     log: &mut [u32],
 ) -> Outcome
-    ensures outcome { λ r. ⌜ r ≡ runOf layout (now (commands .entry)) machine (now (memory .entry)) budget (now (readings .entry)) (now (log .entry)) .outcome ⌝ }
+    ensures outcome { λ r. ⌜ runResultOf r (now (work .exit)) (now (log .exit)) ≡ previewOf layout (now (commands .entry)) machine (now (memory .entry)) (now (work .entry)) budget (now (readings .entry)) (now (log .entry)) ⌝ }
     ensures memory { λ _. ⌜ now (memory .exit) ≡ now (memory .entry) ⌝ }
-    ensures log { λ _. ⌜ now (log .exit) ≡ runOf layout (now (commands .entry)) machine (now (memory .entry)) budget (now (readings .entry)) (now (log .entry)) .log ⌝ }
 {
-    let n = memory.len();
-    if n > Layout::MOST_CELLS as usize {
+    let fitting = fits(layout, memory.len());
+    if !(fitting & (work.len() == layout.size as usize)) {
         return Outcome::refused(machine);
     }
-    let mut copied = [0u32; Layout::MOST_CELLS as usize];
-    let cells = &mut copied[..n];
-    store_cells(cells, 0, memory);
-    machine::run_value(layout, commands, machine, cells, budget, readings, log)
+    store_cells(work, 0, memory);
+    machine::run_value(layout, commands, machine, work, budget, readings, log)
 }

@@ -9,7 +9,8 @@ extern "C" {
                     memory: *mut u32, cells: usize, budget: u32, readings: *const u32, r: usize,
                     log: *mut u32, g: usize, answer: *mut [u32; 4]);
     fn hemdroas_preview(layout: *const LayoutArray, commands: *const u64, n: usize, machine: *const [u32; Record::LENGTH],
-                        memory: *const u32, cells: usize, budget: u32, readings: *const u32, r: usize,
+                        memory: *const u32, cells: usize, work: *mut u32, spare: usize,
+                        budget: u32, readings: *const u32, r: usize,
                         log: *mut u32, g: usize, after: *mut [u32; Record::LENGTH], answer: *mut [u32; 4]);
 }
 
@@ -73,20 +74,23 @@ pub fn preview(
 ) -> (RunAnswer, Machine) {
     let record = machine.to_record();
     let mut after = record;
+    let mut work = vec![0; memory.len()];
     let answer = preview_record(
-        layout, commands, &record, memory, budget, readings, log, &mut after,
+        layout, commands, &record, memory, &mut work, budget, readings, log, &mut after,
     );
     (answer, after.to_machine())
 }
 
 /// [`preview`] with records of the C interface: `after` becomes what
-/// [`run_record`] would make of `record`.
+/// [`run_record`] would make of `record`, `work` what it would make of
+/// `memory`. A `work` of another length than the layout's size is refused.
 #[allow(clippy::too_many_arguments)]
 pub fn preview_record(
     layout: &Layout,
     commands: &[u64],
     record: &Record,
     memory: &[u32],
+    work: &mut [u32],
     budget: u32,
     readings: &[u32],
     log: &mut [u32],
@@ -101,6 +105,8 @@ pub fn preview_record(
             &record.0,
             memory.as_ptr(),
             memory.len(),
+            work.as_mut_ptr(),
+            work.len(),
             budget,
             readings.as_ptr(),
             readings.len(),

@@ -65,11 +65,14 @@ pub fn run(
 
     let mut seen = lent.clone();
     let mut after = Record([0xc0ff_ee00; Record::LENGTH]);
+    let lent_work = vec![0xc0ff_ee00; lent.memory.len()];
+    let mut work = lent_work.clone();
     let given = native::preview_record(
         layout,
         commands,
         &seen.record,
         &seen.memory,
+        &mut work,
         budget,
         readings,
         &mut seen.log,
@@ -79,6 +82,11 @@ pub fn run(
     assert_eq!((after, &seen.log), (left.record, &left.log), "previewed");
     assert_eq!(seen.record, lent.record, "a preview keeps the record");
     assert_eq!(seen.memory, lent.memory, "a preview keeps the memory");
+    let foreseen = match answer.ending {
+        Ending::Refused => &lent_work,
+        _ => &left.memory,
+    };
+    assert_eq!(&work, foreseen, "what a preview leaves in its work");
 
     let number = answer.ending.number();
     if lent.record.0[Record::STATUS] > Status::Strayed.number() {

@@ -1,4 +1,4 @@
-use Rattle.capi.proofs.running.Hosting.{counts, ran-as, looked}
+use Rattle.capi.proofs.running.Hosting.{preview-counts, looked}
 use borrow.Author.Needs.{needs}
 use Rattle.capi.proofs.running.hemdroas_preview.Statement.{statement}
 use Rattle.capi.proofs.running.hemdroas_preview.Tie as tie
@@ -12,8 +12,9 @@ hemdroas-preview-spec =
     (λ c κs. search needs)
     (λ c κs. search needs)
     (λ c κs.
-    let v = c .before .before .before in
-    let s = v .before .before .before .before .before .before .before .before .before in
-    counts _ _ _ _ _ _ _ _ _ _ (ran-as _ _ _ _ _ _ _ _ _ (v .preview .ensures)) (s .fits .budget .fits))
+    let v = c .before .before .before .before .before in
+    let s = v .before .before .before .before .before .before .before .before .before .before .before in
+    preview-counts _ _ _ _ _ _ _ _ _ _ _ (v .preview .ensures .0) (s .fits .budget .fits))
+    (λ c. search needs)
     (λ c. search needs)
     (λ c. search (looked, needs)))
