@@ -15,7 +15,7 @@ for o in O2 O3; do gcc -$o -DRUN=engine_$o -c bench/engine.c -o target/bench/eng
 rustc -O -C panic=abort bench/engine.rs -o target/bench/libengine_rust.a
 gcc -O2 -Wall -Wextra -Iinclude bench/engines.c target/bench/engine_O2.o target/bench/engine_O3.o target/bench/libengine_rust.a \
     target/staticlib/libcapi.a -lpthread -ldl -lm -o target/bench/engines
-for m in stack growth; do gcc -O2 -Wall -Wextra -Iinclude bench/$m.c target/staticlib/libcapi.a -o target/bench/$m; done
+for m in stack growth; do gcc -O2 -Wall -Wextra -Wl,-z,now -Iinclude bench/$m.c target/staticlib/libcapi.a -o target/bench/$m; done
 target/bench/bench "$@"
 target/bench/engines "$@"
 if command -v lua5.4 > /dev/null; then lua5.4 bench/turn.lua target/bench/bench

@@ -270,8 +270,7 @@ void hemdroas_install(const struct hemdroas_layout *layout, uint32_t states, uin
 /* Loads a routine of n bytes: reads, rewrites and checks it, then installs the
  * policy. The answer is the first refusal of the four, with its place, so that
  * damaged bytes are refused before a layout that is not right; or 0 and the
- * count of commands, which then stand at the start of commands. It takes about
- * 50 KB of stack, the four calls by themselves 12 KB at most. */
+ * count of commands, which then stand at the start of commands. */
 void hemdroas_load(const struct hemdroas_layout *layout, uint32_t states, uint32_t start, const uint8_t *table, size_t len,
                    const uint32_t *landings, size_t count, const uint8_t *bytes, size_t n,
                    uint64_t *commands, size_t room, uint32_t *memory, size_t cells,

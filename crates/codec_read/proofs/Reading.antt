@@ -1,26 +1,32 @@
 -- Laws of the loops that read, in the form in which the proofs of the functions cite them.
-use mathlib.Core.Path.{_≡_, sym, ap, _∙_}
+use mathlib.Core.Path.{_≡_, refl, sym, _∙_}
+use mathlib.Core.Bool.{Bool, true, false, _&&_, cond}
+use mathlib.Core.Logic.{⊎-elim}
 use mathlib.Core.List.{List}
 use Prim.Native.Nat.{ℕ, suc, _+_, _-_, _≤_, _<_}
 use native.Mathlib.Omega.{arith}
-use native.Mathlib.Nat.{le-of-eq}
+use native.Mathlib.Nat.{le-of-eq, sub-zero}
 use native.Mathlib.Numerals.{add-one}
 use lib.ListN.{length, take, drop, set, length-drop}
 use lib.Seq.{sets as stores, take-all}
-use borrow.Author.Tests.{eq-eqb, ne-eqb}
+use lib.Dec.{eqb}
+use borrow.Author.Tests.{eq-eqb, ne-eqb, eqb-true, eqb-false}
 use Rattle.types.specs.declared.Answer.{Answer}
 use Rattle.types.specs.declared.Decoded.{Decoded}
 use Rattle.types.specs.declared.Decoded.the-variants.{Word, RefusedWith}
 use Rattle.types.specs.declared.Refusal.the-variants.{Taken, Trailing}
 use Rattle.types.specs.Names.{mostInstructions, numberOf, answer, refusal}
 use Rattle.spec.specs.Bytes.{decodeOne, scanOf, wordsOf, countOf, wordsIn, readAnswer, readOutput}
+use Rattle.spec.specs.Words.{badLanding}
+use Rattle.spec.proofs.Bools.{cases}
 use Rattle.spec.proofs.Refusals.{output-kept, output-written}
 use Rattle.spec.proofs.Bytes.{one-read, read-scan, ReadOk, read-ok}
+use Rattle.codec_read.specs.Scans.{firstPast}
 
 -- ---- the loops
 
 -- the rest of a slice
-rest : (u : ℕ) (t : List ℕ) → u ≤ length t → take (length t - u) (drop u t) ≡ drop u t
+pub rest : (u : ℕ) (t : List ℕ) → u ≤ length t → take (length t - u) (drop u t) ≡ drop u t
 rest u t h = take-all (length t - u) (drop u t) (le-of-eq (length-drop u t))
 
 pub used : (t : List ℕ) (o : Decoded) (w u : ℕ) → o ≡ Word w u → o ≡ decodeOne t → u ≤ length t
@@ -39,10 +45,10 @@ module _ (n i : ℕ) (t : List ℕ) (o : Decoded) (e : o ≡ decodeOne t) (h : i
   unfolding scanOf
   scan-stop x eo z ez r er = er ∙ sym (ez ∙ rw (left, ← e, eo))
 
-  pub fill-more : (w u : ℕ) → o ≡ Word w u → (out z : List ℕ) → z ≡ stores out i (wordsOf (n - i) t)
-      → z ≡ stores (set out i w) (i + 1) (wordsOf (n - (i + 1)) (take (length t - u) (drop u t)))
+  pub fill-more : (w u : ℕ) → o ≡ Word w u → (out z : List ℕ) → z ≡ stores out i (wordsOf (n - i) t) → (out′ : List ℕ) → out′ ≡ set out i w
+      → z ≡ stores out′ (i + 1) (wordsOf (n - (i + 1)) (take (length t - u) (drop u t)))
   unfolding wordsOf
-  fill-more w u eo out z ez = ez ∙ rw (rest u t (used t o w u eo e), left, ← e, eo, add-one)
+  fill-more w u eo out z ez out′ eo′ = ez ∙ rw (rest u t (used t o w u eo e), left, ← e, eo, eo′, add-one)
 
   pub fill-stop : (x : ℕ) → o ≡ RefusedWith x → (out z : List ℕ) → z ≡ stores out i (wordsOf (n - i) t) → out ≡ z
   unfolding wordsOf
@@ -66,6 +72,51 @@ module _ (n i : ℕ) (t : List ℕ) (h : n ≤ i) where
   unfolding wordsOf
   fill-done out z ez = sym (ez ∙ rw none-left)
 
+-- ---- the first GOIF that leads past the instructions
+
+module _ (n past i w : ℕ) (b : Bool) (e : b ≡ badLanding n w) where
+  pub this-one : (eqb past n && b) ≡ true → i ≡ cond (eqb past n && badLanding n w) i past
+  this-one t = rw (← e, t)
+
+  pub not-this : (eqb past n && b) ≡ false → past ≡ cond (eqb past n && badLanding n w) i past
+  not-this t = rw (← e, t)
+
+pub past-start : (n : ℕ) (s : List ℕ) → firstPast n (wordsOf n s) 0 ≡ cond (eqb n n) (firstPast n (wordsOf (n - 0) s) 0) n
+past-start n s = rw (eq-eqb n n refl, sub-zero)
+
+-- one word more
+past-step : (n past i y : ℕ) → i < n → (b : Bool) (past′ : ℕ) → past′ ≡ cond (eqb past n && b) i past → cond (eqb past n) (cond b i y) past ≡ cond (eqb past′ n) y past′
+past-step n past i y h b past′ e = go (eqb past n) b refl e
+  where
+    go : (q b : Bool) → q ≡ eqb past n → past′ ≡ cond (q && b) i past → cond q (cond b i y) past ≡ cond (eqb past′ n) y past′
+    go true true eq e = let f : eqb past′ n ≡ false = ne-eqb past′ n (λ (z : past′ ≡ n). omega arith) in rw f (sym e)
+    go true false eq e = let f : eqb past′ n ≡ true = eq-eqb past′ n (e ∙ eqb-true past n (sym eq)) in rw f
+    go false b eq e = let f : eqb past′ n ≡ false = ne-eqb past′ n (λ (z : past′ ≡ n). eqb-false past n (sym eq) (sym e ∙ z)) in rw f (sym e)
+
+no-more : (n past : ℕ) → past ≡ cond (eqb past n) n past
+no-more n past = ⊎-elim (λ t. rw t (eqb-true past n t)) (λ t. rw t) (cases (eqb past n))
+
+module _ (n i : ℕ) (t : List ℕ) (past z : ℕ) (ez : z ≡ cond (eqb past n) (firstPast n (wordsOf (n - i) t) i) past) where
+  module _ (o : Decoded) (e : o ≡ decodeOne t) (h : i < n) where
+    more-left : n - i ≡ suc (n - (i + 1))
+    more-left = omega arith
+
+    pub past-more : (w u : ℕ) → o ≡ Word w u → (past′ : ℕ) → past′ ≡ cond (eqb past n && badLanding n w) i past
+        → z ≡ cond (eqb past′ n) (firstPast n (wordsOf (n - (i + 1)) (take (length t - u) (drop u t))) (i + 1)) past′
+    unfolding wordsOf firstPast
+    past-more w u eo past′ ep =
+        let y : ℕ = firstPast n (wordsOf (n - (i + 1)) (drop u t)) (i + 1) in
+        let now : z ≡ cond (eqb past n) (cond (badLanding n w) i y) past = ez ∙ rw (more-left, ← e, eo) in
+        rw (rest u t (used t o w u eo e)) (now ∙ past-step n past i y h (badLanding n w) past′ ep)
+
+    pub past-stop : (x : ℕ) → o ≡ RefusedWith x → past ≡ z
+    unfolding wordsOf firstPast
+    past-stop x eo = no-more n past ∙ sym (ez ∙ rw (more-left, ← e, eo))
+
+  pub past-done : n ≤ i → past ≡ z
+  unfolding wordsOf firstPast
+  past-done h = let none : n - i ≡ 0 = omega arith in no-more n past ∙ sym (ez ∙ rw none)
+
 -- ---- the whole
 
 pub read-rest : (s : List ℕ) (room : ℕ) → 2 ≤ length s → (n : ℕ) → n ≡ countOf s → n ≤ mostInstructions → n ≤ room
@@ -78,9 +129,6 @@ module _ (s : List ℕ) (room : ℕ) (a : Answer) (e : a ≡ readAnswer s room) 
 
   pub ok-two : 2 ≤ length s
   ok-two = ok .two
-
-  pub ok-fits : a .place ≤ room
-  ok-fits = ok .fits
 
 module _ (s out : List ℕ) (a : Answer) (e : a ≡ readAnswer s (length out)) where
   pub refused : (a .number ≡ 0 → ⊥) → out ≡ readOutput s out

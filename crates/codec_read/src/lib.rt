@@ -11,56 +11,78 @@ use types::Answer;
 use types::Decoded;
 use types::Instr;
 use types::Refusal;
+use words::routine::bad_landing;
 ghost use mathlib.Core.Path.{_≡_};
+ghost use mathlib.Core.Bool.{cond, _&&_};
 ghost use Prim.Native.Nat.{_≤_};
-ghost use lib.ListN.{length};
+ghost use lib.Dec.{eqb};
+ghost use lib.ListN.{length, set};
 ghost use lib.Seq.{sets as stores};
+ghost use Rattle.spec.specs.Words.{badLanding};
 ghost use Rattle.spec.specs.Bytes.{scanOf, wordsOf, countOf, readAnswer, readOutput};
+ghost use Rattle.codec_read.specs.Scans.{firstPast};
 
-// What n instructions from s on answer. Nothing is stored.
-fn scan(s: &[u8], n: usize) -> Answer
-    ensures { λ r. ⌜ r ≡ scanOf n 0 (now (s .entry)) ⌝ }
+// What reading n instructions answers, and the place of the first GOIF that leads past them; n where none does.
+pub struct Scanned {
+    pub answer: Answer,
+    pub past: usize,
+}
+
+// That place, once word i is looked at.
+fn earliest(n: usize, past: usize, i: usize, w: u64) -> usize
+    ensures { λ r. ⌜ r ≡ cond (eqb past n && badLanding n w) i past ⌝ }
 {
-    let mut t = s;
-    let mut i: usize = 0;
-    while i < n {
-        let o = read_one(t);
-        match o {
-            Decoded::Word(_w, used) => {
-                t = &t[used..];
-                i += 1;
-            }
-            Decoded::RefusedWith(refused) => {
-                return Answer::refused_at(refused, i);
-            }
-        }
+    if (past == n) & bad_landing(n, w) {
+        return i;
     }
-    if t.len() == 0 {
-        Answer::taken(n)
-    } else {
-        Answer::refused(Refusal::TRAILING)
+    past
+}
+
+// A word stored; nothing where there is no room.
+fn put(words: &mut [u64], at: usize, w: u64)
+    ensures { λ _. ⌜ now (words .exit) ≡ set (now (words .entry)) at w ⌝ }
+{
+    if at < words.len() {
+        words[at] = w;
     }
 }
 
-// The words of n instructions from s on, up to the first that is refused.
-fn fill(s: &[u8], n: usize, words: &mut [u64])
-    requires { ⌜ n ≤ length (now words) ⌝ }
-    ensures { λ _. ⌜ now (words .exit) ≡ stores (now (words .entry)) 0 (wordsOf n (now (s .entry))) ⌝ }
+// n instructions from s on; their words are stored as far as there is room, up to the first that is refused. The one loop
+// that reads: with no room it only decides.
+pub fn scan(s: &[u8], n: usize, words: &mut [u64]) -> Scanned
+    ensures answer { λ r. ⌜ r .answer ≡ scanOf n 0 (now (s .entry)) ⌝ }
+    ensures past { λ r. ⌜ r .past ≡ firstPast n (wordsOf n (now (s .entry))) 0 ⌝ }
+    ensures content { λ _. ⌜ now (words .exit) ≡ stores (now (words .entry)) 0 (wordsOf n (now (s .entry))) ⌝ }
 {
     let mut t = s;
     let mut i: usize = 0;
+    let mut past = n;
     while i < n {
         let o = read_one(t);
         match o {
             Decoded::Word(w, used) => {
-                words[i] = w;
+                past = earliest(n, past, i, w);
+                put(words, i, w);
                 t = &t[used..];
                 i += 1;
             }
-            Decoded::RefusedWith(_refused) => {
-                return;
+            Decoded::RefusedWith(refused) => {
+                return Scanned {
+                    answer: Answer::refused_at(refused, i),
+                    past,
+                };
             }
         }
+    }
+    if t.len() == 0 {
+        return Scanned {
+            answer: Answer::taken(n),
+            past,
+        };
+    }
+    Scanned {
+        answer: Answer::refused(Refusal::TRAILING),
+        past,
     }
 }
 
@@ -86,7 +108,9 @@ fn read_answer(bytes: &[u8], room: usize) -> Answer
     if room < n {
         return Answer::refused(Refusal::SMALL_OUTPUT);
     }
-    scan(&bytes[2..], n)
+    let mut none = [0u64; 0];
+    let read = scan(&bytes[2..], n, &mut none);
+    read.answer
 }
 
 // Reads a routine: the words go to the start of the output. One pass decides, one writes, so that a refusal leaves the
@@ -99,7 +123,7 @@ pub fn read(bytes: &[u8], words: &mut [u64]) -> Answer
     let refused = a.number;
     if refused == Refusal::TAKEN {
         let n = a.place;
-        fill(&bytes[2..], n, words);
+        scan(&bytes[2..], n, words);
     }
     a
 }

@@ -19,10 +19,8 @@ use types::Refusal;
 use words::memory::fits;
 ghost use mathlib.Core.Path.{_≡_};
 ghost use mathlib.Core.List.{[]};
-ghost use Rattle.types.specs.Names.{answer};
 ghost use Rattle.spec.specs.Policies.{lentPolicy, rightPolicy};
-ghost use Rattle.spec.specs.Machines.{installOf, installMemory};
-ghost use Rattle.types.specs.Records.{machineRefused};
+ghost use Rattle.spec.specs.Machines.{installAnswer, installOf, installMemory};
 
 // Whether a policy can be installed under a layout: the four conditions of refusal 10 (bad policy).
 fn policy_right(layout: Layout, policy: PolicyNumbers, table: &[u8]) -> bool
@@ -36,13 +34,26 @@ fn policy_right(layout: Layout, policy: PolicyNumbers, table: &[u8]) -> bool
         & entries
 }
 
-fn refused(number: u8) -> Installed
-    ensures { λ r. ⌜ r ≡ record { machine = machineRefused; answer = answer number 0 } ⌝ }
+// What installing answers. Nothing is written.
+pub fn install_answer(
+    layout: Layout,
+    policy: PolicyNumbers,
+    table: &[u8],
+    landings: &[u32],
+    memory: &[u32],
+) -> Answer
+    ensures { λ r. ⌜ r ≡ installAnswer layout (lentPolicy policy (now (table .entry)) (now (landings .entry))) (now (memory .entry)) ⌝ }
 {
-    Installed {
-        machine: Machine::refused(),
-        answer: Answer::refused(number),
+    if !fits(layout, memory.len()) {
+        return Answer::refused(Refusal::BAD_LAYOUT);
     }
+    if !policy_right(layout, policy, table) {
+        return Answer::refused(Refusal::BAD_POLICY);
+    }
+    if !landings_right(landings) {
+        return Answer::refused(Refusal::BAD_LANDINGS);
+    }
+    Answer::taken(0)
 }
 
 // Installing: the start state to the state cell, the table to its cells and the landings' bits to theirs, nothing else.
@@ -56,14 +67,13 @@ pub fn install(
     ensures { λ r. ⌜ r ≡ installOf layout (lentPolicy policy (now (table .entry)) (now (landings .entry))) (now (memory .entry)) ⌝ }
     ensures leaves { λ _. ⌜ now (memory .exit) ≡ installMemory layout (lentPolicy policy (now (table .entry)) (now (landings .entry))) (now (memory .entry)) ⌝ }
 {
-    if !fits(layout, memory.len()) {
-        return refused(Refusal::BAD_LAYOUT);
-    }
-    if !policy_right(layout, policy, table) {
-        return refused(Refusal::BAD_POLICY);
-    }
-    if !landings_right(landings) {
-        return refused(Refusal::BAD_LANDINGS);
+    let answer = install_answer(layout, policy, table, landings, memory);
+    let refused = answer.number;
+    if refused != Refusal::TAKEN {
+        return Installed {
+            machine: Machine::refused(),
+            answer,
+        };
     }
     let marks = landing_cells(landings);
     poke(memory, layout.cell as usize, policy.start);
@@ -71,6 +81,6 @@ pub fn install(
     store_cells(memory, layout.landings as usize, &marks);
     Installed {
         machine: Machine::new(layout.base),
-        answer: Answer::taken(0),
+        answer,
     }
 }

@@ -1,12 +1,12 @@
 -- Laws of a whole rewriting: what a taken routine is ready for, and what its output holds.
-use mathlib.Core.Path.{_≡_, refl, _∙_, subst}
+use mathlib.Core.Path.{_≡_, refl, sym, ap, _∙_, subst}
 use mathlib.Core.Bool.{true}
-use mathlib.Core.List.{List}
-use Prim.Native.Nat.{ℕ, _^_, _≤_, _<_}
+use mathlib.Core.List.{List, _++_}
+use Prim.Native.Nat.{ℕ, _+_, _-_, _^_, _≤_, _<_}
 use native.Mathlib.Omega.{arith}
 use lib.Dec.{ltb}
-use lib.ListN.{length}
-use lib.Seq.{sets}
+use lib.ListN.{length, take, drop}
+use lib.Seq.{sets, length-sets, take-at, drop-drop, drop-append-add}
 use borrow.Author.Tests.{lt-ltb, le-leb, ltb-false, eqb-true}
 use Rattle.types.specs.declared.Layout.{Layout}
 use Rattle.types.specs.declared.Instr.{Instr}
@@ -22,6 +22,7 @@ use Rattle.spec.proofs.Refusals.{taken-then, output-kept, output-written}
 use Rattle.spec.proofs.Layouts.{layout-facts}
 use Rattle.spec.proofs.Masks.{base-room}
 use Rattle.spec.proofs.Conditions.{Taken, taken-of, size-laws, count-most, routine-valid, routine-length}
+use Rattle.buffers.proofs.stores.Storing.{store-front}
 use Rattle.rewriter.specs.Rewriting.{Ready}
 
 -- facts of an instruction as the test of it
@@ -69,15 +70,52 @@ module _ (l : Layout) (ws : List ℕ) (room : ℕ) where
           each = λ h. rw ek (valid-of (bundlesFor (length ws)) (routine ws h) (routine-valid l ws taken h));
         }
 
+-- ---- a list stored over a shorter one
+
+over : (out xs ys : List ℕ) → length xs ≤ length ys → length ys ≤ length out → sets (sets out 0 xs) 0 ys ≡ sets out 0 ys
+over out xs ys h g =
+    let m : ℕ = length ys - length xs in
+    let n : length ys ≡ length xs + m = omega arith in
+    let one : sets out 0 xs ≡ xs ++ drop (length xs) out = store-front out xs (omega arith) in
+    let less : drop (length ys) (sets out 0 xs) ≡ drop (length ys) out = rw (one, n, drop-append-add, drop-drop) in
+    store-front (sets out 0 xs) ys (omega (arith, length-sets out 0 xs)) ∙ ap (λ (l : List ℕ). ys ++ l) less ∙ sym (store-front out ys g)
+
+-- ---- a routine that is taken
+
 module _ (l : Layout) (ws out : List ℕ) (a : Answer) (ea : a ≡ rewriteAnswer l ws (length out)) where
-  pub written : a .number ≡ 0 → (k : ℕ) → k ≡ bundlesFor (length ws) → (out′ : List ℕ) → out′ ≡ sets out 0 (bundlesFrom l k (routine ws) 0 k)
-      → out′ ≡ rewriteOutput l ws out
-  unfolding rewriteOutput
-  written z k ek out′ eo =
-      let n : rewriteAnswer l ws (length out) .number ≡ 0 = zero-is l ws (length out) a ea z in
-      let t = taken l ws (length out) a ea z in
-      let s = routine-length l ws t in
-      eo ∙ rw ek (output-written (rewriteAnswer l ws (length out)) (commandsOf l ws) out n (omega (arith, s, roomy l ws (length out) n)))
+  module _ (z : a .number ≡ 0) where
+    size : length (commandsOf l ws) ≤ length out
+    size = omega (arith, routine-length l ws (taken l ws (length out) a ea z), roomy l ws (length out) (zero-is l ws (length out) a ea z))
+
+    fewer : length ws ≤ length (commandsOf l ws)
+    fewer = let t = taken l ws (length out) a ea z in omega (arith, routine-length l ws t, size-laws l ws t .above)
+
+    pub words-fit : 0 + length ws ≤ length out
+    words-fit = omega (arith, size, fewer)
+
+    -- its words are at the start of the list
+    module _ (k : ℕ) (ek : k ≡ length ws) (out₁ : List ℕ) (e₁ : out₁ ≡ sets out 0 ws) where
+      same-length : length out₁ ≡ length out
+      same-length = ap length e₁ ∙ length-sets out 0 ws
+
+      words-at : take k out₁ ≡ ws
+      words-at = rw (e₁, store-front out ws (omega (arith, words-fit))) (take-at ws _ k (sym ek))
+
+      pub list-long : k ≤ length out₁
+      list-long = omega (arith, same-length, words-fit)
+
+      module _ (n : ℕ) (en : n ≡ bundlesFor k) where
+        pub list-ready : Ready l n (take k out₁) (length out₁)
+        list-ready = rw (words-at, same-length) (ready l ws (length out) a ea z n (en ∙ rw ek))
+
+        pub list-written : (out′ : List ℕ) → out′ ≡ sets out₁ 0 (bundlesFrom l n (routine (take k out₁)) 0 n) → out′ ≡ sets out 0 (commandsOf l ws)
+        list-written out′ e =
+            let here : out′ ≡ sets (sets out 0 ws) 0 (commandsOf l ws) = e ∙ rw (words-at, e₁, en, ek) in
+            here ∙ over out ws (commandsOf l ws) fewer size
+
+        pub written : (out′ : List ℕ) → out′ ≡ sets out₁ 0 (bundlesFrom l n (routine (take k out₁)) 0 n) → out′ ≡ rewriteOutput l ws out
+        unfolding rewriteOutput
+        written out′ e = list-written out′ e ∙ output-written (rewriteAnswer l ws (length out)) (commandsOf l ws) out (zero-is l ws (length out) a ea z) size
 
   pub refused : (a .number ≡ 0 → ⊥) → out ≡ rewriteOutput l ws out
   unfolding rewriteOutput

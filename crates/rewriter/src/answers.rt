@@ -14,7 +14,7 @@ ghost use Rattle.types.specs.Names.{mostInstructions};
 ghost use Rattle.spec.specs.Bundles.{baseRoomAnswer, rewriteAnswer};
 
 // The answer for n words that are right: the base, then the room for their commands.
-fn base_room_answer(layout: Layout, n: usize, room: usize) -> Answer
+pub fn base_room_answer(layout: Layout, n: usize, room: usize) -> Answer
     requires { ⌜ n ≤ mostInstructions ⌝ }
     ensures { λ r. ⌜ r ≡ baseRoomAnswer layout n room ⌝ }
 {

@@ -1,9 +1,10 @@
-// Rewriting a routine's words into bundles of commands: one pass validates, one writes.
+// Rewriting a routine's words into bundles of commands: one pass validates, one writes the bundles in place of the words.
 pub mod answers;
 pub mod bundles;
 
 use crate::answers::rewrite_answer;
 use crate::bundles::bundle;
+use buffers::stores::store_words;
 use types::Answer;
 use types::Bundle;
 use types::Instr;
@@ -14,11 +15,12 @@ use words::fields::instruction;
 ghost use mathlib.Core.Path.{_≡_};
 ghost use mathlib.Core.List.{[], _∷_};
 ghost use Prim.Native.Nat.{_+_, _*_, _≤_, _<_};
-ghost use lib.ListN.{length};
+ghost use lib.ListN.{length, take};
 ghost use lib.Seq.{sets};
 ghost use Rattle.types.specs.Names.{bundleLength};
 ghost use Rattle.spec.specs.Words.{routine};
 ghost use Rattle.spec.specs.Bundles.{bundleOf, bundlesFrom, rewriteAnswer, rewriteOutput};
+ghost use Rattle.words.specs.Packing.{Packable};
 ghost use Rattle.rewriter.specs.Rewriting.{Ready};
 
 // Instruction h of a routine; those past its words are HALT.
@@ -41,12 +43,12 @@ fn write_words(commands: &mut [u64], at: usize, w: u64, x: u64, y: u64, z: u64)
     commands[at + 3] = z;
 }
 
-// Bundle h of n.
-fn write_bundle(layout: Layout, n: usize, words: &[u64], h: usize, commands: &mut [u64])
-    requires { ⌜ Ready layout n (now words) (length (now commands)) × (h < n) ⌝ }
-    ensures { λ _. ⌜ now (commands .exit) ≡ sets (now (commands .entry)) (bundleLength * h) (bundleOf layout n (routine (now (words .entry)) h) .words) ⌝ }
+// Bundle h of n, of an instruction.
+fn write_bundle(layout: Layout, n: usize, i: Instr, h: usize, commands: &mut [u64])
+    requires { ⌜ Packable layout n i × (h < n) × (bundleLength * n ≤ length (now commands)) ⌝ }
+    ensures { λ _. ⌜ now (commands .exit) ≡ sets (now (commands .entry)) (bundleLength * h) (bundleOf layout n i .words) ⌝ }
 {
-    let made = bundle(layout, n, instruction_at(words, h));
+    let made = bundle(layout, n, i);
     let four = made.words;
     write_words(
         commands,
@@ -58,15 +60,18 @@ fn write_bundle(layout: Layout, n: usize, words: &[u64], h: usize, commands: &mu
     );
 }
 
-// The bundles of a routine that was validated.
-fn fill(layout: Layout, n: usize, words: &[u64], commands: &mut [u64])
-    requires { ⌜ Ready layout n (now words) (length (now commands)) ⌝ }
-    ensures { λ _. ⌜ now (commands .exit) ≡ sets (now (commands .entry)) 0 (bundlesFrom layout n (routine (now (words .entry))) 0 n) ⌝ }
+// The bundles of the k words at the start of a list, in place of them. The last goes first: bundle h lies from 4h on, so
+// that it covers no word before word h.
+pub fn expand(layout: Layout, n: usize, k: usize, commands: &mut [u64])
+    requires { ⌜ Ready layout n (take k (now commands)) (length (now commands)) × (k ≤ length (now commands)) ⌝ }
+    ensures { λ _. ⌜ now (commands .exit) ≡ sets (now (commands .entry)) 0 (bundlesFrom layout n (routine (take k (now (commands .entry)))) 0 n) ⌝ }
 {
-    let mut h: usize = 0;
-    while h < n {
-        write_bundle(layout, n, words, h, commands);
-        h += 1;
+    let mut h = n;
+    while h > 0 {
+        let last = h - 1;
+        let i = instruction_at(&commands[..k], last);
+        write_bundle(layout, n, i, last, commands);
+        h = last;
     }
 }
 
@@ -77,7 +82,9 @@ pub fn rewrite(layout: Layout, words: &[u64], commands: &mut [u64]) -> Answer
     let answer = rewrite_answer(layout, words, commands.len());
     let refused = answer.number;
     if refused == Refusal::TAKEN {
-        fill(layout, bundles(words.len() as u32), words, commands);
+        let n = words.len();
+        store_words(commands, 0, words);
+        expand(layout, bundles(n as u32), n, commands);
     }
     answer
 }

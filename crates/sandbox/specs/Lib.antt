@@ -1,1 +1,1 @@
-pub mod translating
+pub mod judging

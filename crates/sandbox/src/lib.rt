@@ -1,6 +1,7 @@
 // What programs, the C interface and hosts share: loading, running and stepping.
+pub mod judging;
 pub mod loading;
-pub mod translating;
+pub mod writing;
 
 pub use crate::loading::load;
 pub use machine_lent::run;

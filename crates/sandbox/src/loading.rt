@@ -1,9 +1,10 @@
 // Loading: from a routine's bytes to an installed machine and its commands: reading, rewriting,
-// checking and installing in one call. Whatever refuses, lent memory stays as it was, so the parts
-// work on a list of this module's own and only a loaded routine's commands are copied out.
-use crate::translating::translate;
-use buffers::stores::store_words;
-use types::Bundle;
+// checking and installing in one call. All that can refuse is decided first, so that a refusal leaves
+// what is lent as it was; then the commands are written, checked and installed.
+use crate::judging::judge;
+use crate::writing::write_routine;
+use installer::install;
+use installer::install_answer;
 use types::Installed;
 use types::Layout;
 use types::Machine;
@@ -16,7 +17,8 @@ ghost use Rattle.spec.specs.Policies.{lentPolicy};
 ghost use Rattle.sandbox_spec.specs.Loading.{loadOf, loadCommands, loadMemory};
 
 // Loads a routine: its first refusal by reading, rewriting, checking or installing; or 0 and the
-// count of its commands, which then stand at the start of `commands`, and the machine's record.
+// count of its commands, which then stand at the start of `commands`, and the machine's record. The
+// checker sees what was written before anything is installed; it is proved that it refuses none of it.
 pub fn load(
     layout: Layout,
     policy: PolicyNumbers,
@@ -31,8 +33,7 @@ pub fn load(
     ensures memory { λ _. ⌜ now (memory .exit) ≡ loadMemory layout (lentPolicy policy (now (table .entry)) (now (landings .entry))) (now (bytes .entry)) (length (now (commands .entry))) (now (memory .entry)) ⌝ }
     ensures within { λ r. ⌜ (r .answer .number ≡ 0 → r .answer .place ≤ length (now (commands .exit))) ⌝ }
 {
-    let mut list = [0u64; Bundle::MOST_COMMANDS];
-    let a = translate(layout, bytes, commands.len(), &mut list);
+    let a = judge(layout, bytes, commands.len());
     let refused = a.number;
     if refused != Refusal::TAKEN {
         return Installed {
@@ -40,14 +41,25 @@ pub fn load(
             answer: a,
         };
     }
-    let i = installer::install(layout, policy, table, landings, memory);
-    let b = i.answer;
+    let b = install_answer(layout, policy, table, landings, memory);
     let refused = b.number;
     if refused != Refusal::TAKEN {
-        return i;
+        return Installed {
+            machine: Machine::refused(),
+            answer: b,
+        };
     }
+    write_routine(layout, bytes, commands);
     let n = a.place;
-    store_words(commands, 0, &list[..n]);
+    let c = checker::check(layout, &commands[..n]);
+    let refused = c.number;
+    if refused != Refusal::TAKEN {
+        return Installed {
+            machine: Machine::refused(),
+            answer: c,
+        };
+    }
+    let i = install(layout, policy, table, landings, memory);
     let m = i.machine;
     Installed {
         machine: m,

@@ -266,6 +266,15 @@ row-front s B f ef em full fits =
     (b ∙ ap (λ (l : List ℕ). byteOut (f .b) ++ l)
     (c ∙ ap (λ (l : List ℕ). byteOut (f .c) ++ l) v))))))
 
+-- a word that is read is an instruction
+pub one-clean : (s : List ℕ) (w u : ℕ) → Word w u ≡ decodeOne s → wordRefusal w ≡ 0
+one-clean s w u e =
+    let f : Fields = fieldsAt (getD s 0 0) s in
+    let t = one-read s w u e in
+    let j : fieldsRefusal false f ≡ 0 = rw (clean _ f (t .clean)) at (t .clean) in
+    let un = fields-pack f (bounds false f j) in
+    rw (t .word, un .0, un .1) j
+
 one-front : (s : List ℕ) (w u : ℕ) → Bytes s → Word w u ≡ decodeOne s → (s ≡ encodeOne w ++ drop u s) × (wordRefusal w ≡ 0)
 one-front s w u B e =
     let m : ℕ = getD s 0 0 in
@@ -277,7 +286,7 @@ one-front s w u B e =
     let un = fields-pack f (bounds false f j) in
     let size = t .size in
     let r = row-front s B f refl em (t .full) (rw size at (t .fits)) in
-    (rw (t .word, un .0, in-row, size) r, rw (t .word, un .0, un .1) j)
+    (rw (t .word, un .0, in-row, size) r, one-clean s w u e)
 
 write-back : (n i : ℕ) (s : List ℕ) → Bytes s → scanOf n i s .number ≡ 0 → (bytesOf (wordsOf n s) ≡ s) × TakesEach wordRefusal (wordsOf n s)
 unfolding Bytes scanOf wordsOf bytesOf Named

@@ -7,13 +7,20 @@ use types::Instr;
 use types::Refusal;
 ghost use mathlib.Core.Path.{_≡_};
 ghost use lib.ListN.{length};
-ghost use Rattle.spec.specs.Words.{refusalAt, firstRefused};
+ghost use Rattle.spec.specs.Words.{badLanding, refusalAt, firstRefused};
+
+// Whether a word is a GOIF that leads past n instructions.
+pub fn bad_landing(n: usize, w: u64) -> bool
+    ensures { λ r. ⌜ r ≡ badLanding n w ⌝ }
+{
+    (field::kind(w) == Instr::KIND_GOIF) & ((n as u64) < field::v(w))
+}
 
 // The first refusal of a word among n instructions, 3, 2, 4 or 8, or 0.
 pub fn refusal_at(n: usize, w: u64) -> u8
     ensures { λ r. ⌜ r ≡ refusalAt n w ⌝ }
 {
-    let landing_bad = (field::kind(w) == Instr::KIND_GOIF) & ((n as u64) < field::v(w));
+    let landing_bad = bad_landing(n, w);
     if is_instruction(w) & !landing_bad {
         return Refusal::TAKEN;
     }

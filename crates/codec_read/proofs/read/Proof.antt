@@ -1,5 +1,5 @@
 use borrow.Author.Needs.{needs}
-use Rattle.codec_read.proofs.Reading.{ok-two, ok-fits, filled, refused}
+use Rattle.codec_read.proofs.Reading.{ok-two, filled, refused}
 use Rattle.codec_read.proofs.read.Statement.{statement}
 use Rattle.codec_read.proofs.read.Tie as tie
 
@@ -11,7 +11,7 @@ read-spec =
     (λ c. search (ok-two, needs))
     (λ c. search (ok-two, needs))
     (λ c. search needs)
-    (λ c κs. search (ok-fits, needs))
+    (λ c κs. search needs)
     (λ c. search needs)
     (λ c. search (filled, needs))
     (λ c. search (refused, needs)))

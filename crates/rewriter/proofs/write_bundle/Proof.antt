@@ -1,5 +1,5 @@
 use borrow.Author.Needs.{needs}
-use Rattle.rewriter.proofs.Filling.{fits, put-bundle}
+use Rattle.rewriter.proofs.Filling.{put-bundle}
 use Rattle.rewriter.proofs.write_bundle.Statement.{statement}
 use Rattle.rewriter.proofs.write_bundle.Tie as tie
 
@@ -8,7 +8,6 @@ write-bundle-spec =
     tie.close
     (tie.spec
     (λ c κs. search needs)
-    (λ c κs. search (fits, needs))
     (λ c. search needs)
     (λ c. search needs)
     (λ c. search needs)

@@ -6,7 +6,7 @@ use lib.Dec.{ltb, eqb}
 use borrow.Author.Tests.{eq-eqb, ne-eqb, not-true}
 use Rattle.types.specs.declared.Refusal.the-variants.{Taken, BadLanding}
 use Rattle.types.specs.Names.{guest, numberOf}
-use Rattle.spec.specs.Words.{kindOf, vOf, wordRefusal, refusalAt}
+use Rattle.spec.specs.Words.{kindOf, vOf, badLanding, wordRefusal, refusalAt}
 use Rattle.spec.proofs.Bools.{both}
 use Rattle.words.proofs.guest.RefusalLaws.{clean-judged}
 
@@ -14,19 +14,19 @@ pub at-refused : (n w x : ℕ) → x ≡ wordRefusal w → (x ≡ 0 → ⊥) →
 unfolding refusalAt
 at-refused n w x e h = rw (← e, ne-eqb x 0 h)
 
--- its kind, and where it leads if it is a GOIF
-module _ (n w k v : ℕ) (ek : k ≡ kindOf w) (ev : v ≡ vOf w) where
-  abbrev beyond : Bool
-  beyond = eqb k (guest .goif) && ltb n v
+pub lands : (n w k v : ℕ) → k ≡ kindOf w → v ≡ vOf w → (eqb k (guest .goif) && ltb n v) ≡ badLanding n w
+lands n w k v ek ev = rw (ek, ev)
 
+-- whether it is a GOIF that leads past the words
+module _ (n w : ℕ) (beyond : Bool) (eb : beyond ≡ badLanding n w) where
   module _ (x : ℕ) (e : x ≡ wordRefusal w) (z : x ≡ 0) where
     pub at-landing : beyond ≡ true → numberOf BadLanding ≡ refusalAt n w
     unfolding refusalAt
-    at-landing h = rw (← e, ← ek, ← ev, eq-eqb x 0 z, h)
+    at-landing h = rw (← e, ← eb, eq-eqb x 0 z, h)
 
     pub at-taken : beyond ≡ false → numberOf Taken ≡ refusalAt n w
     unfolding refusalAt
-    at-taken h = rw (← e, ← ek, ← ev, eq-eqb x 0 z, h)
+    at-taken h = rw (← e, ← eb, eq-eqb x 0 z, h)
 
   -- a clean word, and no landing past the words
   pub clean-at : (r : Bool) → r ≡ eqb (wordRefusal w) 0 → (r && not beyond) ≡ true → numberOf Taken ≡ refusalAt n w

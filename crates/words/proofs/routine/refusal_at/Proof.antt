@@ -9,7 +9,6 @@ refusal-at-spec =
     (tie.spec
     (λ c κs. search needs)
     (λ c κs. search needs)
-    (λ c κs. search needs)
     (λ c. search (clean-at, needs))
     (λ c κs. search needs)
     (λ c. search (at-refused, needs))

@@ -1,2 +1,0 @@
-pub mod Elses
-pub mod Laws

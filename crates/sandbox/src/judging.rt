@@ -1,0 +1,50 @@
+// What reading and rewriting a routine's bytes answer, before anything is written: one pass over the bytes, no word is kept.
+use codec_read::count;
+use codec_read::scan;
+use rewriter::answers::base_room_answer;
+use types::Answer;
+use types::Instr;
+use types::Layout;
+use types::Refusal;
+use words::memory::layout_right;
+ghost use mathlib.Core.Path.{_≡_};
+ghost use Prim.Native.Nat.{_≤_};
+ghost use Rattle.types.specs.Names.{mostInstructions};
+ghost use Rattle.sandbox_spec.specs.Loading.{translateAnswer};
+ghost use Rattle.sandbox.specs.judging.Judging.{landingsAnswer};
+
+// What rewriting answers for n instructions that were read: layout, landings, base, room.
+fn landings_answer(layout: Layout, n: usize, past: usize, room: usize) -> Answer
+    requires { ⌜ n ≤ mostInstructions ⌝ }
+    ensures { λ r. ⌜ r ≡ landingsAnswer layout n past room ⌝ }
+{
+    if !layout_right(layout) {
+        return Answer::refused(Refusal::BAD_LAYOUT);
+    }
+    if past < n {
+        return Answer::refused_at(Refusal::BAD_LANDING, past);
+    }
+    base_room_answer(layout, n, room)
+}
+
+// What reading, rewriting and checking answer for a list of `room` commands. The checker refuses nothing that the rewriter
+// writes, so its answer needs no list.
+pub fn judge(layout: Layout, bytes: &[u8], room: usize) -> Answer
+    ensures { λ r. ⌜ r ≡ translateAnswer layout (now (bytes .entry)) room ⌝ }
+{
+    if bytes.len() < 2 {
+        return Answer::refused(Refusal::SHORT);
+    }
+    let n = count(bytes);
+    if n > Instr::MOST {
+        return Answer::refused(Refusal::OVERSIZE);
+    }
+    let mut none = [0u64; 0];
+    let read = scan(&bytes[2..], n, &mut none);
+    let answer = read.answer;
+    let refused = answer.number;
+    if refused != Refusal::TAKEN {
+        return answer;
+    }
+    landings_answer(layout, n, read.past, room)
+}

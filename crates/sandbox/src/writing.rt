@@ -1,0 +1,22 @@
+// The commands of a routine that was judged, written straight from its bytes.
+use codec_read::count;
+use codec_read::scan;
+use rewriter::expand;
+use types::Layout;
+use words::count::bundles;
+ghost use mathlib.Core.Path.{_≡_};
+ghost use lib.ListN.{length};
+ghost use lib.Seq.{sets};
+ghost use Rattle.spec.specs.Bytes.{wordsIn};
+ghost use Rattle.spec.specs.Bundles.{commandsOf};
+ghost use Rattle.sandbox_spec.specs.Loading.{translateAnswer};
+
+// The commands of a routine that is taken: its words at the start of the list, then their bundles in place of them.
+pub fn write_routine(layout: Layout, bytes: &[u8], commands: &mut [u64])
+    requires { ⌜ translateAnswer layout (now bytes) (length (now commands)) .number ≡ 0 ⌝ }
+    ensures { λ _. ⌜ now (commands .exit) ≡ sets (now (commands .entry)) 0 (commandsOf layout (wordsIn (now (bytes .entry)))) ⌝ }
+{
+    let k = count(bytes);
+    scan(&bytes[2..], k, commands);
+    expand(layout, bundles(k as u32), k, commands);
+}
