@@ -1,6 +1,7 @@
 // The stepping machine: a run, the record by value.
 pub mod answers;
 pub mod run_loop;
+pub mod tiers;
 
 use types::Layout;
 use types::Machine;
