@@ -9,7 +9,7 @@ typedef void Run(const struct hemdroas_layout *, const uint64_t *, size_t, struc
                  const uint32_t *, size_t, uint32_t *, size_t, struct hemdroas_engine_answer *);
 Run engine_O2, engine_O3, engine_rust;
 enum { KINDS = 4 };
-static Run *const RUNS[KINDS] = {hemdroas_engine, engine_O2, engine_O3, engine_rust};
+static Run *const RUNS[KINDS] = {hemdroas_engine_run, engine_O2, engine_O3, engine_rust};
 
 enum { WORDS = 16, COMMANDS = 128 };
 

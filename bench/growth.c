@@ -35,7 +35,7 @@ static void run(void) {
 }
 static void run_engine(void) {
     engine = (struct hemdroas_engine){{0}, 0, 0};
-    hemdroas_engine(&layout, words, size, &engine, memory, U, budget, 0, 0, 0, 0, &stepped), counted = stepped.instructions;
+    hemdroas_engine_run(&layout, words, size, &engine, memory, U, budget, 0, 0, 0, 0, &stepped), counted = stepped.instructions;
 }
 static void install(void) {
     layout.states = size;

@@ -50,7 +50,7 @@ static void run(void) {
     hemdroas_run(&layout, commands, HEMDROAS_MOST_COMMANDS, &machine, memory, U, 100000, readings, 32, record, 64, &ran);
 }
 static void run_engine(void) {
-    hemdroas_engine(&layout, words, ROUTINE, &engine, memory, U, 100000, readings, 32, record, 64, &stepped);
+    hemdroas_engine_run(&layout, words, ROUTINE, &engine, memory, U, 100000, readings, 32, record, 64, &stepped);
 }
 static void precedence(void) { hemdroas_precedence(pairs, sizeof pairs, made_table, sizeof made_table, &ordered); }
 static void determinise(void) { hemdroas_determinise(1, 1, arrows, 16, made_table, sizeof made_table, &drawn); }
@@ -77,7 +77,7 @@ int main(void) {
     measure("hemdroas_check", check), measure("hemdroas_forward", forward), measure("hemdroas_check_forward", check_forward);
     measure("hemdroas_install", install), measure("hemdroas_load", load);
     if (answer.number) return printf("not loaded: %s\n", hemdroas_refusal_text(answer.number)), 1;
-    measure("hemdroas_preview", preview), measure("hemdroas_run", run), measure("hemdroas_engine", run_engine);
+    measure("hemdroas_preview", preview), measure("hemdroas_run", run), measure("hemdroas_engine_run", run_engine);
     measure("hemdroas_precedence", precedence), measure("hemdroas_determinise", determinise), measure("hemdroas_merge", merge);
     return 0;
 }

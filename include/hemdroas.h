@@ -309,16 +309,9 @@ void hemdroas_preview(const struct hemdroas_layout *layout, const uint64_t *comm
  * rewriting has it: 7, 5, then for the first word at fault 3, 2, 4 or 8. A record
  * that is not running comes back as it was, with any number above 4 too. A run
  * of budget 1 shows one instruction. */
-#if defined(__cplusplus) && defined(__GNUC__)
-#pragma GCC diagnostic push
-#pragma GCC diagnostic ignored "-Wshadow" /* struct and function have one name, as in C */
-#endif
-void hemdroas_engine(const struct hemdroas_layout *layout, const uint64_t *words, size_t n,
-                     struct hemdroas_engine *engine, uint32_t *memory, size_t cells, uint32_t budget,
-                     const uint32_t *readings, size_t r, uint32_t *log, size_t g, struct hemdroas_engine_answer *answer);
-#if defined(__cplusplus) && defined(__GNUC__)
-#pragma GCC diagnostic pop
-#endif
+void hemdroas_engine_run(const struct hemdroas_layout *layout, const uint64_t *words, size_t n,
+                         struct hemdroas_engine *engine, uint32_t *memory, size_t cells, uint32_t budget,
+                         const uint32_t *readings, size_t r, uint32_t *log, size_t g, struct hemdroas_engine_answer *answer);
 
 /* ---- making policies */
 

@@ -56,7 +56,7 @@ fn answer_of(a: Answer, steps: u32, pairs: usize, used: usize) -> [u32; ANSWER]
 
 // Runs guest words as they are written.
 #[no_mangle]
-pub extern "C" fn hemdroas_engine(
+pub extern "C" fn hemdroas_engine_run(
     layout: &[u32; LAYOUT],
     words: &[u64],
     engine: &mut [u32; RECORD],

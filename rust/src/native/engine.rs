@@ -4,9 +4,9 @@ use crate::{Ending, Engine, EngineAnswer, EngineRecord, Layout, LayoutArray, Ref
 
 #[rustfmt::skip]
 extern "C" {
-    fn hemdroas_engine(layout: *const LayoutArray, words: *const u64, n: usize, engine: *mut [u32; EngineRecord::LENGTH],
-                       memory: *mut u32, cells: usize, budget: u32, readings: *const u32, r: usize,
-                       log: *mut u32, g: usize, answer: *mut [u32; 5]);
+    fn hemdroas_engine_run(layout: *const LayoutArray, words: *const u64, n: usize, engine: *mut [u32; EngineRecord::LENGTH],
+                           memory: *mut u32, cells: usize, budget: u32, readings: *const u32, r: usize,
+                           log: *mut u32, g: usize, answer: *mut [u32; 5]);
 }
 
 fn engine_answer([number, place, instructions, pairs, readings]: [u32; 5]) -> EngineAnswer {
@@ -55,7 +55,7 @@ pub fn engine_record(
 ) -> EngineAnswer {
     let mut five = [0; 5];
     unsafe {
-        hemdroas_engine(
+        hemdroas_engine_run(
             &layout.to_array(),
             words.as_ptr(),
             words.len(),

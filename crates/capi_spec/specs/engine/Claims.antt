@@ -1,4 +1,4 @@
--- What is claimed of the engine's record in a C host's numbers, as `capi_spec` claims it of the machine's, and of calls of hemdroas_engine.
+-- What is claimed of the engine's record in a C host's numbers, as `capi_spec` claims it of the machine's, and of calls of hemdroas_engine_run.
 use Prim.Native.Nat.{ℕ, _+_}
 use mathlib.Core.Path.{_≡_}
 use mathlib.Core.List.{List, [], map}
@@ -23,7 +23,7 @@ EngineRoundTrips = RoundTrips guestRegisters (λ m. m .regs) engineFrom engineTo
 abbrev pub zeros : List ℕ
 zeros = replicate (guestRegisters + trailer) 0
 
--- a call of hemdroas_engine
+-- a call of hemdroas_engine_run
 abbrev pub engineCall : List ℕ → List ℕ → List ℕ → RunInput → HostResult
 engineCall lay ws xs g = engineFor lay ws xs (g .memory) (g .budget) (g .readings) (g .log)
 
@@ -32,7 +32,7 @@ pub data InstalledMemory (lay : List ℕ) (pol : Policy) (mem : List ℕ) : List
   installed : number (installFor lay pol mem .answer) ≡ 0 → InstalledMemory lay pol mem (installFor lay pol mem .memory)
   loaded : (bytes out : List ℕ) → number (loadFor lay pol bytes out mem .answer) ≡ 0 → InstalledMemory lay pol mem (loadFor lay pol bytes out mem .memory)
 
--- words that the engine takes, as all that hemdroas_rewrite takes (`EngineTakes`), and calls of hemdroas_engine from a record of zeros, each with the
+-- words that the engine takes, as all that hemdroas_rewrite takes (`EngineTakes`), and calls of hemdroas_engine_run from a record of zeros, each with the
 -- record's numbers as the last call left them and a memory that is, but for free cells, what the last call left: the calls are the runs of which
 -- `EngineIsolation` speaks, and it holds of them
 pub record CallsIsolated (lay : List ℕ) (pol : Policy) (ws mem : List ℕ) (gs : List RunInput) : Type 0 where

@@ -23,6 +23,6 @@ answerTo o = o .answer .number ∷ o .answer .place ∷ o .steps ∷ o .pairs �
 abbrev pub resultTo : RunResult → HostResult
 resultTo r = hostResult (answerTo (r .outcome)) (engineTo (r .outcome .engine)) (r .mem) (r .log)
 
--- hemdroas_engine: the answer, the record after it, memory, the log
+-- hemdroas_engine_run: the answer, the record after it, memory, the log
 unfoldable pub engineFor : List ℕ → List ℕ → List ℕ → List ℕ → ℕ → List ℕ → List ℕ → HostResult
 engineFor lay ws xs mem budget rd log = hostAfter guestRegisters xs (resultTo (runOf (layoutFrom lay) ws (engineFrom xs) mem budget rd log))

@@ -1,10 +1,10 @@
 use Rattle.capi.proofs.engine_run.Hosting.{narrow, left}
 use borrow.Author.Needs.{needs}
-use Rattle.capi.proofs.engine_run.hemdroas_engine.Statement.{statement}
-use Rattle.capi.proofs.engine_run.hemdroas_engine.Tie as tie
+use Rattle.capi.proofs.engine_run.hemdroas_engine_run.Statement.{statement}
+use Rattle.capi.proofs.engine_run.hemdroas_engine_run.Tie as tie
 
-pub hemdroas-engine-spec : {M : Type 1} → statement M
-hemdroas-engine-spec =
+pub hemdroas-engine-run-spec : {M : Type 1} → statement M
+hemdroas-engine-run-spec =
     tie.close
     (tie.spec
     (λ c κs. search needs)
