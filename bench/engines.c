@@ -5,8 +5,8 @@
  */
 #include "bench.h"
 
-typedef void Run(const struct hemdroas_layout *, const uint64_t *, size_t, struct hemdroas_engine *, uint32_t *, size_t, uint32_t,
-                 const uint32_t *, size_t, uint32_t *, size_t, struct hemdroas_engine_answer *);
+typedef void Run(const struct hemdroas_layout *, const uint64_t *, uint64_t, struct hemdroas_engine *, uint32_t *, uint64_t, uint32_t,
+                 const uint32_t *, uint64_t, uint32_t *, uint64_t, struct hemdroas_engine_answer *);
 Run engine_O2, engine_O3, engine_rust;
 enum { KINDS = 4 };
 static Run *const RUNS[KINDS] = {hemdroas_engine_run, engine_O2, engine_O3, engine_rust};

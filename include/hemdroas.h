@@ -9,7 +9,7 @@
  * unchanged from then on.
  *
  * Buffers. Each pointer to a buffer comes with the number of its elements, and
- * no call reaches past it. The buffers and structs of one call must not overlap
+ * no call reaches past it. Lengths are 64-bit numbers on every machine. The buffers and structs of one call must not overlap
  * each other. No call keeps a pointer. A pointer to an empty buffer is not
  * followed, but must not be null.
  *
@@ -20,7 +20,6 @@
 #ifndef HEMDROAS_H
 #define HEMDROAS_H
 
-#include <stddef.h>
 #include <stdint.h>
 
 #ifdef __cplusplus
@@ -227,19 +226,19 @@ HEMDROAS_NUMBERS(struct hemdroas_determinise_answer, 4);
 /* ---- from bytes to an installed machine */
 
 /* Reads a routine of n bytes into words. */
-void hemdroas_read(const uint8_t *bytes, size_t n, uint64_t *words, size_t room, struct hemdroas_answer *answer);
+void hemdroas_read(const uint8_t *bytes, uint64_t n, uint64_t *words, uint64_t room, struct hemdroas_answer *answer);
 
 /* Writes n words as a routine's bytes, the inverse of reading. */
-void hemdroas_write(const uint64_t *words, size_t n, uint8_t *bytes, size_t room, struct hemdroas_answer *answer);
+void hemdroas_write(const uint64_t *words, uint64_t n, uint8_t *bytes, uint64_t room, struct hemdroas_answer *answer);
 
 /* Rewrites n words into commands, 4 for each of 1, 2, 4, ... 1024 bundles: the
  * smallest such count above n. The base must be a multiple of the commands'
  * number. */
-void hemdroas_rewrite(const struct hemdroas_layout *layout, const uint64_t *words, size_t n,
-                      uint64_t *commands, size_t room, struct hemdroas_answer *answer);
+void hemdroas_rewrite(const struct hemdroas_layout *layout, const uint64_t *words, uint64_t n,
+                      uint64_t *commands, uint64_t room, struct hemdroas_answer *answer);
 
 /* Checks that n commands, run under this layout, keep to sandbox and policy. */
-void hemdroas_check(const struct hemdroas_layout *layout, const uint64_t *commands, size_t n, struct hemdroas_answer *answer);
+void hemdroas_check(const struct hemdroas_layout *layout, const uint64_t *commands, uint64_t n, struct hemdroas_answer *answer);
 
 /* Checks that n words are a routine that always finishes: it has no GOX, and
  * every GOIF goes to a higher instruction than its own. 18, at the lowest
@@ -247,11 +246,11 @@ void hemdroas_check(const struct hemdroas_layout *layout, const uint64_t *comman
  * into N bundles and run as installed, such a routine ends or stops within
  * 4 * (N - 1) + 1 steps over all its runs, if each pause is resumed with two
  * log cells and a reading and the budgets suffice. */
-void hemdroas_forward(const uint64_t *words, size_t n, struct hemdroas_answer *answer);
+void hemdroas_forward(const uint64_t *words, uint64_t n, struct hemdroas_answer *answer);
 
 /* Checks n commands as hemdroas_check does, then that they are those of such a
  * routine: 18, at the lowest bundle that breaks this, comes last. */
-void hemdroas_check_forward(const struct hemdroas_layout *layout, const uint64_t *commands, size_t n,
+void hemdroas_check_forward(const struct hemdroas_layout *layout, const uint64_t *commands, uint64_t n,
                             struct hemdroas_answer *answer);
 
 /* 1 if states is 1 to 16 and each of the word's four bytes is below states or
@@ -263,17 +262,17 @@ uint32_t hemdroas_word_right(uint32_t states, uint32_t word);
  * the landings to theirs, and yields a machine at the first command. states must
  * be the layout's, len 16 times that. landings are the instructions that a GOX
  * may go to, strictly rising; count may be 0. */
-void hemdroas_install(const struct hemdroas_layout *layout, uint32_t states, uint32_t start, const uint8_t *table, size_t len,
-                      const uint32_t *landings, size_t count, uint32_t *memory, size_t cells,
+void hemdroas_install(const struct hemdroas_layout *layout, uint32_t states, uint32_t start, const uint8_t *table, uint64_t len,
+                      const uint32_t *landings, uint64_t count, uint32_t *memory, uint64_t cells,
                       struct hemdroas_machine *machine, struct hemdroas_answer *answer);
 
 /* Loads a routine of n bytes: reads, rewrites and checks it, then installs the
  * policy. The answer is the first refusal of the four, with its place, so that
  * damaged bytes are refused before a layout that is not right; or 0 and the
  * count of commands, which then stand at the start of commands. */
-void hemdroas_load(const struct hemdroas_layout *layout, uint32_t states, uint32_t start, const uint8_t *table, size_t len,
-                   const uint32_t *landings, size_t count, const uint8_t *bytes, size_t n,
-                   uint64_t *commands, size_t room, uint32_t *memory, size_t cells,
+void hemdroas_load(const struct hemdroas_layout *layout, uint32_t states, uint32_t start, const uint8_t *table, uint64_t len,
+                   const uint32_t *landings, uint64_t count, const uint8_t *bytes, uint64_t n,
+                   uint64_t *commands, uint64_t room, uint32_t *memory, uint64_t cells,
                    struct hemdroas_machine *machine, struct hemdroas_answer *answer);
 
 /* ---- running */
@@ -285,9 +284,9 @@ void hemdroas_load(const struct hemdroas_layout *layout, uint32_t states, uint32
  * At 23 and 24 the state cell is the policy's state over the recorded events;
  * at 25 it may still be that before the last of them. After a pause, lend the
  * same machine and memory again. */
-void hemdroas_run(const struct hemdroas_layout *layout, const uint64_t *commands, size_t n,
-                  struct hemdroas_machine *machine, uint32_t *memory, size_t cells, uint32_t budget,
-                  const uint32_t *readings, size_t r, uint32_t *log, size_t g, struct hemdroas_run_answer *answer);
+void hemdroas_run(const struct hemdroas_layout *layout, const uint64_t *commands, uint64_t n,
+                  struct hemdroas_machine *machine, uint32_t *memory, uint64_t cells, uint32_t budget,
+                  const uint32_t *readings, uint64_t r, uint32_t *log, uint64_t g, struct hemdroas_run_answer *answer);
 
 /* Looks ahead: answers as hemdroas_run would, with these readings, writes the
  * log as that would, and yields in after the machine record that it would
@@ -296,10 +295,10 @@ void hemdroas_run(const struct hemdroas_layout *layout, const uint64_t *commands
  * holds what the run would leave of the memory. spare must be the layout's
  * size, as cells must; else the preview is refused as bad layout (7), and work
  * stays as it was. */
-void hemdroas_preview(const struct hemdroas_layout *layout, const uint64_t *commands, size_t n,
-                      const struct hemdroas_machine *machine, const uint32_t *memory, size_t cells,
-                      uint32_t *work, size_t spare, uint32_t budget,
-                      const uint32_t *readings, size_t r, uint32_t *log, size_t g,
+void hemdroas_preview(const struct hemdroas_layout *layout, const uint64_t *commands, uint64_t n,
+                      const struct hemdroas_machine *machine, const uint32_t *memory, uint64_t cells,
+                      uint32_t *work, uint64_t spare, uint32_t budget,
+                      const uint32_t *readings, uint64_t r, uint32_t *log, uint64_t g,
                       struct hemdroas_machine *after, struct hemdroas_run_answer *answer);
 
 /* Runs a routine's n words as they are written, without commands: the guest
@@ -309,9 +308,9 @@ void hemdroas_preview(const struct hemdroas_layout *layout, const uint64_t *comm
  * rewriting has it: 7, 5, then for the first word at fault 3, 2, 4 or 8. A record
  * that is not running comes back as it was, with any number above 4 too. A run
  * of budget 1 shows one instruction. */
-void hemdroas_engine_run(const struct hemdroas_layout *layout, const uint64_t *words, size_t n,
-                         struct hemdroas_engine *engine, uint32_t *memory, size_t cells, uint32_t budget,
-                         const uint32_t *readings, size_t r, uint32_t *log, size_t g, struct hemdroas_engine_answer *answer);
+void hemdroas_engine_run(const struct hemdroas_layout *layout, const uint64_t *words, uint64_t n,
+                         struct hemdroas_engine *engine, uint32_t *memory, uint64_t cells, uint32_t budget,
+                         const uint32_t *readings, uint64_t r, uint32_t *log, uint64_t g, struct hemdroas_engine_answer *answer);
 
 /* ---- making policies */
 
@@ -320,7 +319,7 @@ void hemdroas_engine_run(const struct hemdroas_layout *layout, const uint64_t *w
  * recorded. A state is the map of the named events recorded so far, bit k for
  * the k-th smallest of them from 0. Other events are allowed in every state, and
  * stay in it. A refusal is 17 or, after it, 9. */
-void hemdroas_precedence(const uint8_t *pairs, size_t n, uint8_t *table, size_t room, struct hemdroas_precedence_answer *made);
+void hemdroas_precedence(const uint8_t *pairs, uint64_t n, uint8_t *table, uint64_t room, struct hemdroas_precedence_answer *made);
 
 /* Makes the policy of a drawing in which a state may have several arrows for
  * one event, and of which several states may be starts. Bit s of starts is set
@@ -330,7 +329,7 @@ void hemdroas_precedence(const uint8_t *pairs, size_t n, uint8_t *table, size_t 
  * taken in rising order from the lowest numbered set; the empty set is none.
  * So a list of events is allowed exactly if some run through the drawing
  * follows it. A refusal is 16 or, after it, 15, then 9. */
-void hemdroas_determinise(uint32_t states, uint32_t starts, const uint16_t *arrows, size_t n, uint8_t *table, size_t room,
+void hemdroas_determinise(uint32_t states, uint32_t starts, const uint16_t *arrows, uint64_t n, uint8_t *table, uint64_t room,
                           struct hemdroas_determinise_answer *made);
 
 /* Merges two policies into one that allows a list of events exactly if both do.
@@ -341,9 +340,9 @@ void hemdroas_determinise(uint32_t states, uint32_t starts, const uint16_t *arro
  * each two. Swapping the two changes nothing. The answer's place is the bytes of
  * the table written. A refusal, 10 or after it 15, then 9, leaves zeros in
  * merged. */
-void hemdroas_merge(const struct hemdroas_policy *one, const uint8_t *table1, size_t len1,
-                    const struct hemdroas_policy *other, const uint8_t *table2, size_t len2,
-                    uint8_t *table, size_t room, struct hemdroas_policy *merged, struct hemdroas_answer *answer);
+void hemdroas_merge(const struct hemdroas_policy *one, const uint8_t *table1, uint64_t len1,
+                    const struct hemdroas_policy *other, const uint8_t *table2, uint64_t len2,
+                    uint8_t *table, uint64_t room, struct hemdroas_policy *merged, struct hemdroas_answer *answer);
 
 #ifdef __cplusplus
 }

@@ -3,9 +3,10 @@
 //! A number that the header does not define makes a wrapper panic: a library
 //! that answers so is not the one this package was written for.
 //!
-//! In each call of the files below, the pointers come from live slices and
-//! arrays of the lengths given beside them, and Rust's borrowing keeps those
-//! that the library writes apart from all others.
+//! Lengths have 64 bits on every machine, as in the header. A pointer to a
+//! record is one to an array of the header's length.
+
+#![deny(clippy::undocumented_unsafe_blocks)]
 
 mod determinise;
 mod engine;
@@ -26,6 +27,10 @@ pub use routines::{check, read, rewrite, write};
 pub use run::{preview, preview_record, run, run_record};
 
 use crate::{Answer, Ending, Refusal, RunAnswer};
+
+fn length<T>(slice: &[T]) -> u64 {
+    slice.len() as u64
+}
 
 fn answer([number, place]: [u32; 2]) -> Answer {
     if number == 0 {

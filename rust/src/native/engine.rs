@@ -1,12 +1,13 @@
 //! Running a routine as it is written.
 
+use super::length;
 use crate::{Ending, Engine, EngineAnswer, EngineRecord, Layout, LayoutArray, Refusal};
 
 #[rustfmt::skip]
 extern "C" {
-    fn hemdroas_engine_run(layout: *const LayoutArray, words: *const u64, n: usize, engine: *mut [u32; EngineRecord::LENGTH],
-                           memory: *mut u32, cells: usize, budget: u32, readings: *const u32, r: usize,
-                           log: *mut u32, g: usize, answer: *mut [u32; 5]);
+    fn hemdroas_engine_run(layout: *const LayoutArray, words: *const u64, n: u64, engine: *mut [u32; EngineRecord::LENGTH],
+                           memory: *mut u32, cells: u64, budget: u32, readings: *const u32, r: u64,
+                           log: *mut u32, g: u64, answer: *mut [u32; 5]);
 }
 
 fn engine_answer([number, place, instructions, pairs, readings]: [u32; 5]) -> EngineAnswer {
@@ -54,19 +55,20 @@ pub fn engine_record(
     log: &mut [u32],
 ) -> EngineAnswer {
     let mut five = [0; 5];
+    // SAFETY: every slice is live and has the length given; record, memory, log and `five` are borrowed for this call alone.
     unsafe {
         hemdroas_engine_run(
             &layout.to_array(),
             words.as_ptr(),
-            words.len(),
+            length(words),
             &mut record.0,
             memory.as_mut_ptr(),
-            memory.len(),
+            length(memory),
             budget,
             readings.as_ptr(),
-            readings.len(),
+            length(readings),
             log.as_mut_ptr(),
-            log.len(),
+            length(log),
             &mut five,
         );
     }

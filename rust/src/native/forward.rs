@@ -1,20 +1,21 @@
 //! Checks of the class that always finishes.
 
-use super::answer;
+use super::{answer, length};
 use crate::{Answer, Layout, LayoutArray};
 
 #[rustfmt::skip]
 extern "C" {
-    fn hemdroas_forward(words: *const u64, n: usize, answer: *mut [u32; 2]);
-    fn hemdroas_check_forward(layout: *const LayoutArray, commands: *const u64, n: usize, answer: *mut [u32; 2]);
+    fn hemdroas_forward(words: *const u64, n: u64, answer: *mut [u32; 2]);
+    fn hemdroas_check_forward(layout: *const LayoutArray, commands: *const u64, n: u64, answer: *mut [u32; 2]);
 }
 
 /// Checks that a routine's words have no GOX and no GOIF to its own or a lower
 /// instruction.
 pub fn forward(words: &[u64]) -> Answer {
     let mut pair = [0; 2];
+    // SAFETY: words are a live slice of the length given; the call writes `pair` alone.
     unsafe {
-        hemdroas_forward(words.as_ptr(), words.len(), &mut pair);
+        hemdroas_forward(words.as_ptr(), length(words), &mut pair);
     }
     answer(pair)
 }
@@ -22,11 +23,12 @@ pub fn forward(words: &[u64]) -> Answer {
 /// Checks a command list, and the same of its bundles.
 pub fn check_forward(layout: &Layout, commands: &[u64]) -> Answer {
     let mut pair = [0; 2];
+    // SAFETY: layout and commands are live, commands of the length given; the call writes `pair` alone.
     unsafe {
         hemdroas_check_forward(
             &layout.to_array(),
             commands.as_ptr(),
-            commands.len(),
+            length(commands),
             &mut pair,
         );
     }

@@ -1,23 +1,24 @@
 //! Installing and loading.
 
-use super::answer;
+use super::{answer, length};
 use crate::{Answer, Layout, LayoutArray, Machine, Policy, Record};
 
 #[rustfmt::skip]
 extern "C" {
     fn hemdroas_word_right(states: u32, word: u32) -> u32;
-    fn hemdroas_install(layout: *const LayoutArray, states: u32, start: u32, table: *const u8, len: usize,
-                        landings: *const u32, count: usize, memory: *mut u32, cells: usize,
+    fn hemdroas_install(layout: *const LayoutArray, states: u32, start: u32, table: *const u8, len: u64,
+                        landings: *const u32, count: u64, memory: *mut u32, cells: u64,
                         machine: *mut [u32; Record::LENGTH], answer: *mut [u32; 2]);
-    fn hemdroas_load(layout: *const LayoutArray, states: u32, start: u32, table: *const u8, len: usize,
-                     landings: *const u32, count: usize, bytes: *const u8, n: usize, commands: *mut u64, room: usize,
-                     memory: *mut u32, cells: usize, machine: *mut [u32; Record::LENGTH], answer: *mut [u32; 2]);
+    fn hemdroas_load(layout: *const LayoutArray, states: u32, start: u32, table: *const u8, len: u64,
+                     landings: *const u32, count: u64, bytes: *const u8, n: u64, commands: *mut u64, room: u64,
+                     memory: *mut u32, cells: u64, machine: *mut [u32; Record::LENGTH], answer: *mut [u32; 2]);
 }
 
 /// Whether there are 1 to 16 states and each of a word's four bytes is one of
 /// them or no arrow: the test of a policy's table, four bytes together.
 #[inline]
 pub fn word_right(states: u32, word: u32) -> bool {
+    // SAFETY: the call takes two numbers and no pointer.
     match unsafe { hemdroas_word_right(states, word) } {
         0 => false,
         1 => true,
@@ -48,17 +49,18 @@ pub fn install_record(
     record: &mut Record,
 ) -> Answer {
     let mut pair = [0; 2];
+    // SAFETY: every slice is live and has the length given; memory, record and `pair` are borrowed for this call alone.
     unsafe {
         hemdroas_install(
             &layout.to_array(),
             policy.states,
             policy.start,
             policy.table.as_ptr(),
-            policy.table.len(),
+            length(policy.table),
             landings.as_ptr(),
-            landings.len(),
+            length(landings),
             memory.as_mut_ptr(),
-            memory.len(),
+            length(memory),
             &mut record.0,
             &mut pair,
         );
@@ -101,21 +103,22 @@ pub fn load_record(
     record: &mut Record,
 ) -> Answer {
     let mut pair = [0; 2];
+    // SAFETY: every slice is live and has the length given; commands, memory, record and `pair` are borrowed for this call alone.
     unsafe {
         hemdroas_load(
             &layout.to_array(),
             policy.states,
             policy.start,
             policy.table.as_ptr(),
-            policy.table.len(),
+            length(policy.table),
             landings.as_ptr(),
-            landings.len(),
+            length(landings),
             bytes.as_ptr(),
-            bytes.len(),
+            length(bytes),
             commands.as_mut_ptr(),
-            commands.len(),
+            length(commands),
             memory.as_mut_ptr(),
-            memory.len(),
+            length(memory),
             &mut record.0,
             &mut pair,
         );

@@ -1,6 +1,6 @@
 //! Two policies at once.
 
-use super::answer;
+use super::{answer, length};
 use crate::{Merged, Side};
 
 /// A state count, a start state and eight ceilings.
@@ -8,8 +8,8 @@ type Ten = [u32; 10];
 
 #[rustfmt::skip]
 extern "C" {
-    fn hemdroas_merge(one: *const Ten, table1: *const u8, len1: usize, other: *const Ten, table2: *const u8, len2: usize,
-                      table: *mut u8, room: usize, merged: *mut Ten, answer: *mut [u32; 2]);
+    fn hemdroas_merge(one: *const Ten, table1: *const u8, len1: u64, other: *const Ten, table2: *const u8, len2: u64,
+                      table: *mut u8, room: u64, merged: *mut Ten, answer: *mut [u32; 2]);
 }
 
 fn ten(side: &Side) -> Ten {
@@ -23,16 +23,17 @@ fn ten(side: &Side) -> Ten {
 pub fn merge(one: &Side, other: &Side, table: &mut [u8]) -> Merged {
     let (table1, table2) = (one.policy.table, other.policy.table);
     let (mut merged, mut pair) = ([0; 10], [0; 2]);
+    // SAFETY: the three tables are live slices of the lengths given; table, `merged` and `pair` are borrowed for this call alone.
     unsafe {
         hemdroas_merge(
             &ten(one),
             table1.as_ptr(),
-            table1.len(),
+            length(table1),
             &ten(other),
             table2.as_ptr(),
-            table2.len(),
+            length(table2),
             table.as_mut_ptr(),
-            table.len(),
+            length(table),
             &mut merged,
             &mut pair,
         );

@@ -1,11 +1,11 @@
 //! Policies from pairs of events.
 
-use super::answer;
+use super::{answer, length};
 use crate::Made;
 
 #[rustfmt::skip]
 extern "C" {
-    fn hemdroas_precedence(pairs: *const u8, n: usize, table: *mut u8, room: usize, made: *mut [u32; 4]);
+    fn hemdroas_precedence(pairs: *const u8, n: u64, table: *mut u8, room: u64, made: *mut [u32; 4]);
 }
 
 fn made([number, place, states, never]: [u32; 4]) -> Made {
@@ -24,12 +24,13 @@ fn made([number, place, states, never]: [u32; 4]) -> Made {
 /// events that it never allows.
 pub fn precedence(pairs: &[u8], table: &mut [u8]) -> Made {
     let mut four = [0; 4];
+    // SAFETY: pairs and table are live slices of the lengths given; table and `four` are borrowed for this call alone.
     unsafe {
         hemdroas_precedence(
             pairs.as_ptr(),
-            pairs.len(),
+            length(pairs),
             table.as_mut_ptr(),
-            table.len(),
+            length(table),
             &mut four,
         );
     }

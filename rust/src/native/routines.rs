@@ -1,25 +1,26 @@
 //! Reading, writing, rewriting and checking.
 
-use super::answer;
+use super::{answer, length};
 use crate::{Answer, Layout, LayoutArray};
 
 #[rustfmt::skip]
 extern "C" {
-    fn hemdroas_read(bytes: *const u8, n: usize, words: *mut u64, room: usize, answer: *mut [u32; 2]);
-    fn hemdroas_write(words: *const u64, n: usize, bytes: *mut u8, room: usize, answer: *mut [u32; 2]);
-    fn hemdroas_rewrite(layout: *const LayoutArray, words: *const u64, n: usize, commands: *mut u64, room: usize, answer: *mut [u32; 2]);
-    fn hemdroas_check(layout: *const LayoutArray, commands: *const u64, n: usize, answer: *mut [u32; 2]);
+    fn hemdroas_read(bytes: *const u8, n: u64, words: *mut u64, room: u64, answer: *mut [u32; 2]);
+    fn hemdroas_write(words: *const u64, n: u64, bytes: *mut u8, room: u64, answer: *mut [u32; 2]);
+    fn hemdroas_rewrite(layout: *const LayoutArray, words: *const u64, n: u64, commands: *mut u64, room: u64, answer: *mut [u32; 2]);
+    fn hemdroas_check(layout: *const LayoutArray, commands: *const u64, n: u64, answer: *mut [u32; 2]);
 }
 
 /// Reads a routine's bytes into words.
 pub fn read(bytes: &[u8], words: &mut [u64]) -> Answer {
     let mut pair = [0; 2];
+    // SAFETY: bytes and words are live slices of the lengths given; words and `pair` are borrowed for this call alone.
     unsafe {
         hemdroas_read(
             bytes.as_ptr(),
-            bytes.len(),
+            length(bytes),
             words.as_mut_ptr(),
-            words.len(),
+            length(words),
             &mut pair,
         );
     }
@@ -29,12 +30,13 @@ pub fn read(bytes: &[u8], words: &mut [u64]) -> Answer {
 /// Writes words as a routine's bytes.
 pub fn write(words: &[u64], bytes: &mut [u8]) -> Answer {
     let mut pair = [0; 2];
+    // SAFETY: words and bytes are live slices of the lengths given; bytes and `pair` are borrowed for this call alone.
     unsafe {
         hemdroas_write(
             words.as_ptr(),
-            words.len(),
+            length(words),
             bytes.as_mut_ptr(),
-            bytes.len(),
+            length(bytes),
             &mut pair,
         );
     }
@@ -44,13 +46,14 @@ pub fn write(words: &[u64], bytes: &mut [u8]) -> Answer {
 /// Rewrites a routine's words into commands that keep to the layout.
 pub fn rewrite(layout: &Layout, words: &[u64], commands: &mut [u64]) -> Answer {
     let mut pair = [0; 2];
+    // SAFETY: layout, words and commands are live and of the lengths given; commands and `pair` are borrowed for this call alone.
     unsafe {
         hemdroas_rewrite(
             &layout.to_array(),
             words.as_ptr(),
-            words.len(),
+            length(words),
             commands.as_mut_ptr(),
-            commands.len(),
+            length(commands),
             &mut pair,
         );
     }
@@ -60,11 +63,12 @@ pub fn rewrite(layout: &Layout, words: &[u64], commands: &mut [u64]) -> Answer {
 /// Checks a command list, from whatever producer.
 pub fn check(layout: &Layout, commands: &[u64]) -> Answer {
     let mut pair = [0; 2];
+    // SAFETY: layout and commands are live, commands of the length given; the call writes `pair` alone.
     unsafe {
         hemdroas_check(
             &layout.to_array(),
             commands.as_ptr(),
-            commands.len(),
+            length(commands),
             &mut pair,
         );
     }

@@ -1,17 +1,17 @@
 //! Running, and looking ahead.
 
-use super::run_answer;
+use super::{length, run_answer};
 use crate::{Layout, LayoutArray, Machine, Record, RunAnswer};
 
 #[rustfmt::skip]
 extern "C" {
-    fn hemdroas_run(layout: *const LayoutArray, commands: *const u64, n: usize, machine: *mut [u32; Record::LENGTH],
-                    memory: *mut u32, cells: usize, budget: u32, readings: *const u32, r: usize,
-                    log: *mut u32, g: usize, answer: *mut [u32; 4]);
-    fn hemdroas_preview(layout: *const LayoutArray, commands: *const u64, n: usize, machine: *const [u32; Record::LENGTH],
-                        memory: *const u32, cells: usize, work: *mut u32, spare: usize,
-                        budget: u32, readings: *const u32, r: usize,
-                        log: *mut u32, g: usize, after: *mut [u32; Record::LENGTH], answer: *mut [u32; 4]);
+    fn hemdroas_run(layout: *const LayoutArray, commands: *const u64, n: u64, machine: *mut [u32; Record::LENGTH],
+                    memory: *mut u32, cells: u64, budget: u32, readings: *const u32, r: u64,
+                    log: *mut u32, g: u64, answer: *mut [u32; 4]);
+    fn hemdroas_preview(layout: *const LayoutArray, commands: *const u64, n: u64, machine: *const [u32; Record::LENGTH],
+                        memory: *const u32, cells: u64, work: *mut u32, spare: u64,
+                        budget: u32, readings: *const u32, r: u64,
+                        log: *mut u32, g: u64, after: *mut [u32; Record::LENGTH], answer: *mut [u32; 4]);
 }
 
 /// Runs a machine until it ends, pauses or has used up its budget of steps.
@@ -42,19 +42,20 @@ pub fn run_record(
     log: &mut [u32],
 ) -> RunAnswer {
     let mut four = [0; 4];
+    // SAFETY: every slice is live and has the length given; record, memory, log and `four` are borrowed for this call alone.
     unsafe {
         hemdroas_run(
             &layout.to_array(),
             commands.as_ptr(),
-            commands.len(),
+            length(commands),
             &mut record.0,
             memory.as_mut_ptr(),
-            memory.len(),
+            length(memory),
             budget,
             readings.as_ptr(),
-            readings.len(),
+            length(readings),
             log.as_mut_ptr(),
-            log.len(),
+            length(log),
             &mut four,
         );
     }
@@ -97,21 +98,22 @@ pub fn preview_record(
     after: &mut Record,
 ) -> RunAnswer {
     let mut four = [0; 4];
+    // SAFETY: every slice is live and has the length given; work, log, after and `four` are borrowed for this call alone.
     unsafe {
         hemdroas_preview(
             &layout.to_array(),
             commands.as_ptr(),
-            commands.len(),
+            length(commands),
             &record.0,
             memory.as_ptr(),
-            memory.len(),
+            length(memory),
             work.as_mut_ptr(),
-            work.len(),
+            length(work),
             budget,
             readings.as_ptr(),
-            readings.len(),
+            length(readings),
             log.as_mut_ptr(),
-            log.len(),
+            length(log),
             &mut after.0,
             &mut four,
         );
