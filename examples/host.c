@@ -2,8 +2,8 @@
  * A small host: takes a routine of 18 bytes, brings it safely onto the drum
  * and prints what it did.
  *
- * Build, from the top of the repository:
- *   gcc -std=c11 -Wall -Wextra -Iinclude examples/host.c target/staticlib/libcapi.a -o target/host
+ * Build, once 'tools/install PREFIX' has installed the library:
+ *   gcc -std=c11 -Wall -Wextra examples/host.c $(pkg-config --cflags --libs hemdroas) -o target/host
  */
 #include "hemdroas.h"
 
@@ -23,8 +23,7 @@ static const struct hemdroas_layout layout = {
     .states = STATES,
     .base = 4096,
     .landings = 64,
-    /* no order is limited */
-    .ceilings = {UINT32_MAX, UINT32_MAX, UINT32_MAX, UINT32_MAX, UINT32_MAX, UINT32_MAX, UINT32_MAX, UINT32_MAX},
+    .ceilings = HEMDROAS_NO_CEILINGS,
 };
 
 /* Gas at 70, open the door, and gas again, which the policy forbids. */

@@ -7,8 +7,8 @@
  * and the probe falls silent; both are pauses. Lot 2 comes with a policy of its
  * exporter, which is merged with the roastery's and swapped in.
  *
- * Build, from the top of the repository:
- *   gcc -std=c11 -Wall -Wextra -Iinclude examples/roast.c target/staticlib/libcapi.a -o target/roast
+ * Build, once 'tools/install PREFIX' has installed the library:
+ *   gcc -std=c11 -Wall -Wextra examples/roast.c $(pkg-config --cflags --libs hemdroas) -o target/roast
  */
 #include "hemdroas.h"
 
@@ -57,7 +57,7 @@ static struct hemdroas_layout layout = {
     .states = 1,
     .base = 0x10000,
     .landings = LANDINGS,
-    .ceilings = {0, 0, 0, 0, 0, 0, 0, 0},
+    .ceilings = HEMDROAS_NO_CEILINGS,
 };
 
 static uint64_t commands[HEMDROAS_MOST_COMMANDS];
@@ -97,10 +97,8 @@ static void arrow(struct policy *p, uint32_t from, uint32_t event, uint8_t to)
 /* Every event is allowed, and stays in its state; gas up to a ceiling. */
 static void start_policy(struct policy *p, uint32_t states, uint32_t most_gas)
 {
-    p->numbers.states = states;
-    p->numbers.start = 0;
-    for (uint32_t event = 0; event < HEMDROAS_ORDERS; event++)
-        p->numbers.ceilings[event] = UINT32_MAX;
+    const struct hemdroas_policy open = {.states = states, .start = 0, .ceilings = HEMDROAS_NO_CEILINGS};
+    p->numbers = open;
     p->numbers.ceilings[GAS] = most_gas;
     for (uint32_t state = 0; state < states; state++)
         memset(p->table + HEMDROAS_EVENTS * state, (int)state, HEMDROAS_EVENTS);

@@ -1,26 +1,42 @@
 /*
- * Guest routines on a drum controller, kept to their sandbox.
+ * Hemdroas runs a stranger's roasting routine in a drum controller's memory and
+ * keeps it to its sandbox and to the policy of events.
  *
- * The usual way: load a routine's bytes, then run, as often as the routine
- * needs. Loading is four steps in one call, and each can be called alone: read
- * the bytes into words, rewrite the words into commands, check the commands,
- * install the policy. Only checking makes a command list trustworthy: check
- * every list that was not loaded, wherever it comes from, and keep the list
- * unchanged from then on.
+ * Call hemdroas_load once, then hemdroas_run as often as the routine needs.
+ * Loading does four things, and each has a call of its own: it reads the bytes
+ * into words, rewrites the words into commands, checks the commands and
+ * installs the policy. Only a checked list is safe. Check every list that was
+ * not loaded, wherever it comes from, and keep the list unchanged from then on.
  *
  * Buffers. Each pointer to a buffer comes with the number of its elements, and
- * no call reaches past it. Lengths are 64-bit numbers on every machine. The buffers and structs of one call must not overlap
- * each other. No call keeps a pointer. A pointer to an empty buffer is not
- * followed, but must not be null.
+ * no call reaches past it. Lengths are 64-bit numbers on every machine. NULL is
+ * allowed where the length is 0, and nowhere else. A buffer of uint64_t must be
+ * aligned to 8 bytes, of uint32_t to 4, of uint16_t to 2. What a call writes
+ * must not overlap anything else that it is lent; two inputs may be the same.
  *
- * A refusal leaves every buffer as it was, and so a run's machine record; a
- * refused loading or installation yields a record of zeros with status 3. A
- * success leaves the output past its result as it was.
+ * Memory. No call allocates, keeps a pointer or takes more than about a
+ * kilobyte of stack.
+ *
+ * Threads. The library has no global state. Calls on different buffers may run
+ * at the same time. Two calls may share a buffer if neither writes it.
+ *
+ * Refusals. A refused call leaves every buffer as it was, and a run's machine or
+ * engine too. A refused loading or installation hands back a machine of zeros
+ * that has faulted (status 3). A success leaves the output past its result as
+ * it was.
+ *
+ * Another policy. States and ceilings belong to the layout. To swap the policy,
+ * change the layout, then check the commands and install again.
  */
 #ifndef HEMDROAS_H
 #define HEMDROAS_H
 
 #include <stdint.h>
+
+#define HEMDROAS_VERSION_MAJOR 0
+#define HEMDROAS_VERSION_MINOR 2
+#define HEMDROAS_VERSION_PATCH 0
+#define HEMDROAS_VERSION "0.2.0"
 
 #ifdef __cplusplus
 extern "C" {
@@ -40,7 +56,7 @@ enum {
     HEMDROAS_MOST_CELLS = 4096     /* of memory */
 };
 
-/* Why nothing was done; 0 is success. */
+/* Why nothing was done. Success is taken (0). */
 enum hemdroas_refusal {
     HEMDROAS_TAKEN = 0,
     HEMDROAS_SHORT_WEIGHT = 1,      /* bytes end early */
@@ -58,32 +74,32 @@ enum hemdroas_refusal {
     HEMDROAS_BAD_BASE = 13,         /* base no multiple of the number of commands */
     HEMDROAS_BAD_LANDING_LIST = 14, /* landings not strictly rising, or one above 1023 */
     HEMDROAS_TOO_MANY_STATES = 15,  /* the policy would have more than 16 */
-    HEMDROAS_BAD_DRAWING = 16,      /* no start, states not 1 to 16, not 16 arrows a state, or a bit at or above states */
+    HEMDROAS_BAD_DRAWING = 16,      /* no start, states not 1 to 16, not 16 arrows a state, or a bit of no state */
     HEMDROAS_BAD_PAIR = 17,         /* event above 15 or without its partner, or more than four events named */
     HEMDROAS_NOT_FORWARD = 18       /* a GOX, or a GOIF to its own or a lower instruction */
 };
 
-/* How a run came out; a run that is refused has the refusal's number instead. */
+/* How a run came out. A refused run has the refusal's number instead. */
 enum hemdroas_ending {
     HEMDROAS_ENDING_ENDED = 20,        /* the routine came to its end */
     HEMDROAS_ENDING_NO_ARROW = 21,     /* the policy stopped it */
-    HEMDROAS_ENDING_FAULT = 22,        /* never on a list that check passed, run as installed */
+    HEMDROAS_ENDING_FAULT = 22,        /* never of a list that passed the check and runs as installed */
     HEMDROAS_ENDING_LOG_FULL = 23,     /* pause: go on with an empty log */
-    HEMDROAS_ENDING_PROBE_SILENT = 24, /* pause: go on with new readings; comes before 23 where both are true */
+    HEMDROAS_ENDING_PROBE_SILENT = 24, /* pause: go on with new readings; comes before log full (23) */
     HEMDROAS_ENDING_SPENT = 25,        /* pause: go on with a new budget */
-    HEMDROAS_ENDING_NO_LANDING = 26    /* a GOX to an instruction that is no landing stopped it */
+    HEMDROAS_ENDING_NO_LANDING = 26    /* stopped: a GOX to an instruction that is no landing */
 };
 
-/* Of a machine or engine record; a number above 4 counts as faulted. */
+/* The status of a machine or engine. A number above 4 counts as faulted (3). */
 enum hemdroas_status {
     HEMDROAS_STATUS_RUNNING = 0,
     HEMDROAS_STATUS_ENDED = 1,
     HEMDROAS_STATUS_STOPPED = 2, /* by the policy */
     HEMDROAS_STATUS_FAULTED = 3,
-    HEMDROAS_STATUS_STRAYED = 4  /* stopped for want of a landing */
+    HEMDROAS_STATUS_STRAYED = 4  /* stopped at a GOX to an instruction that is no landing */
 };
 
-/* A refusal's word; that of 0 is "taken". */
+/* The word of a refusal's number; that of 0 is "taken". */
 static inline const char *hemdroas_refusal_text(uint32_t number)
 {
     switch (number) {
@@ -110,7 +126,7 @@ static inline const char *hemdroas_refusal_text(uint32_t number)
     }
 }
 
-/* An ending's word, or where the run was refused the refusal's. */
+/* The word of an ending's number; for a refused run, the refusal's word. */
 static inline const char *hemdroas_ending_text(uint32_t number)
 {
     switch (number) {
@@ -125,12 +141,19 @@ static inline const char *hemdroas_ending_text(uint32_t number)
     }
 }
 
-/* ---- structs, of 32-bit numbers alone and without gaps */
+/* ---- structs: only 32-bit numbers, without gaps */
 
-/* A drum's memory. It is right when cells and states are in range; low <= high <
- * cells, state_cell < cells, table + 16 * states <= cells and landings + 32 <=
- * cells; high - low + 1 is a power of two and low a multiple of it; and sandbox,
- * state cell, table and landing cells share no cell. */
+/* A layout's or a policy's ceilings where no order is limited. */
+#define HEMDROAS_NO_CEILINGS \
+    {UINT32_MAX, UINT32_MAX, UINT32_MAX, UINT32_MAX, UINT32_MAX, UINT32_MAX, UINT32_MAX, UINT32_MAX}
+
+/* Where things lie in a drum's memory. A layout is right if all of these hold:
+ * - cells and states are in range;
+ * - low <= high < cells, state_cell < cells, table + 16 * states <= cells and
+ *   landings + 32 <= cells;
+ * - high - low + 1 is a power of two, and low is a multiple of it;
+ * - sandbox, state cell, table and landing cells share no cell.
+ * Any other layout is refused as bad layout (7). */
 struct hemdroas_layout {
     uint32_t cells;                     /* U: memory cells, 1 to 4096 */
     uint32_t low;                       /* SL: first cell of the sandbox */
@@ -140,65 +163,69 @@ struct hemdroas_layout {
     uint32_t states;                    /* S: policy states, 1 to 16 */
     uint32_t base;                      /* B: address of the first command */
     uint32_t landings;                  /* Q: first of 32 cells with a bit for each landing */
-    uint32_t ceilings[HEMDROAS_ORDERS]; /* any numbers: an order records the smaller of r0 and its event's */
+    /* Order e records the smaller of r0 and ceilings[e]. Left out, every ceiling
+     * is 0 and every order records 0: give numbers, or HEMDROAS_NO_CEILINGS. */
+    uint32_t ceilings[HEMDROAS_ORDERS];
 };
 
-/* The record of commands that are run, as installing or the last run left it. A
- * status above 4: the run, if it is not refused with 7, answers 22 with three
- * zeros, and the record comes back as it was. */
+/* A machine, which runs commands, as installing or the last run left it. With a
+ * status above 4 a run ends in fault (22) with three zeros and leaves the record
+ * as it was, unless it is refused as bad layout (7). */
 struct hemdroas_machine {
     uint32_t r[16]; /* r15 is hidden from routines */
     uint32_t pc;
     uint32_t status; /* enum hemdroas_status */
 };
 
-/* The record of words that are run; at first all zeros. */
+/* An engine, which runs words. Set it to zeros before its first run. */
 struct hemdroas_engine {
     uint32_t r[15];
     uint32_t index; /* of the next instruction */
     uint32_t status; /* enum hemdroas_status */
 };
 
-/* A policy's numbers beside its table; table[16 * s + e] is the state after event
+/* A policy without its table. In that, table[16 * s + e] is the state after event
  * e in state s, or HEMDROAS_NO_ARROW. */
 struct hemdroas_policy {
     uint32_t states; /* 1 to 16 */
     uint32_t start;  /* below states */
-    uint32_t ceilings[HEMDROAS_ORDERS];
+    uint32_t ceilings[HEMDROAS_ORDERS]; /* as a layout's */
 };
 
+/* Taken (0): place counts the words, bytes or commands written, and is 0 for the
+ * checks and install. Refused: place is the instruction at fault (1 to 4, 8 and
+ * forward's 18) or the bundle (11 and check_forward's 18), else 0. */
 struct hemdroas_answer {
     uint32_t number; /* enum hemdroas_refusal */
-    uint32_t place;  /* 0: words, bytes or commands written (0 for the checks and install);
-                      * refused: the instruction (1 to 4, 8, 18) or bundle (11, 18) at fault, else 0 */
+    uint32_t place;
 };
 
-/* A refusal, 7, has three zeros behind it, and nothing was done. */
+/* If the run is refused as bad layout (7), the other three are 0. */
 struct hemdroas_run_answer {
-    uint32_t ending;   /* enum hemdroas_ending, or 7 */
+    uint32_t ending;   /* enum hemdroas_ending, or HEMDROAS_BAD_LAYOUT */
     uint32_t steps;    /* commands done */
-    uint32_t pairs;    /* logged: two cells each */
+    uint32_t pairs;    /* of event and value written to the log, two cells each */
     uint32_t readings; /* used */
 };
 
-/* A refusal has its place and three zeros behind it, and nothing was done. */
+/* If the run is refused, the last three are 0. */
 struct hemdroas_engine_answer {
-    uint32_t ending; /* enum hemdroas_ending, or enum hemdroas_refusal */
-    uint32_t place;  /* of the word that was refused, else 0 */
-    uint32_t instructions;
-    uint32_t pairs;
-    uint32_t readings;
+    uint32_t ending;       /* enum hemdroas_ending, or enum hemdroas_refusal */
+    uint32_t place;        /* of the refused word, else 0 */
+    uint32_t instructions; /* done */
+    uint32_t pairs;        /* of event and value written to the log, two cells each */
+    uint32_t readings;     /* used */
 };
 
-/* A refusal has three zeros behind it. */
+/* If refused, the other three are 0. */
 struct hemdroas_precedence_answer {
     uint32_t number; /* enum hemdroas_refusal */
     uint32_t place;  /* bytes of the table written */
     uint32_t states; /* the start state is 0 */
-    uint32_t never;  /* bit e is set if no allowed list holds event e, as where pairs make a ring */
+    uint32_t never;  /* bit e is set if no allowed list of events holds event e, as when pairs form a ring */
 };
 
-/* A refusal has three zeros behind it. */
+/* If refused, the other three are 0. */
 struct hemdroas_determinise_answer {
     uint32_t number; /* enum hemdroas_refusal */
     uint32_t place;  /* bytes of the table written */
@@ -206,21 +233,18 @@ struct hemdroas_determinise_answer {
     uint32_t start; /* 0 */
 };
 
-/* The library takes these structs as arrays of so many numbers. */
-#ifdef __cplusplus
-#define HEMDROAS_NUMBERS(type, count) static_assert(sizeof(type) == (count) * sizeof(uint32_t), #type " has gaps")
-#else
-#define HEMDROAS_NUMBERS(type, count) _Static_assert(sizeof(type) == (count) * sizeof(uint32_t), #type " has gaps")
-#endif
-HEMDROAS_NUMBERS(struct hemdroas_layout, 16);
-HEMDROAS_NUMBERS(struct hemdroas_machine, 18);
-HEMDROAS_NUMBERS(struct hemdroas_engine, 17);
-HEMDROAS_NUMBERS(struct hemdroas_policy, 10);
-HEMDROAS_NUMBERS(struct hemdroas_answer, 2);
-HEMDROAS_NUMBERS(struct hemdroas_run_answer, 4);
-HEMDROAS_NUMBERS(struct hemdroas_engine_answer, 5);
-HEMDROAS_NUMBERS(struct hemdroas_precedence_answer, 4);
-HEMDROAS_NUMBERS(struct hemdroas_determinise_answer, 4);
+/* The library takes each struct as an array of so many numbers: a gap does not compile. */
+#define HEMDROAS_NUMBERS(name, count) \
+    typedef char name##_has_no_gaps[sizeof(struct name) == (count) * sizeof(uint32_t) ? 1 : -1]
+HEMDROAS_NUMBERS(hemdroas_layout, 16);
+HEMDROAS_NUMBERS(hemdroas_machine, 18);
+HEMDROAS_NUMBERS(hemdroas_engine, 17);
+HEMDROAS_NUMBERS(hemdroas_policy, 10);
+HEMDROAS_NUMBERS(hemdroas_answer, 2);
+HEMDROAS_NUMBERS(hemdroas_run_answer, 4);
+HEMDROAS_NUMBERS(hemdroas_engine_answer, 5);
+HEMDROAS_NUMBERS(hemdroas_precedence_answer, 4);
+HEMDROAS_NUMBERS(hemdroas_determinise_answer, 4);
 #undef HEMDROAS_NUMBERS
 
 /* ---- from bytes to an installed machine */
@@ -228,51 +252,58 @@ HEMDROAS_NUMBERS(struct hemdroas_determinise_answer, 4);
 /* Reads a routine of n bytes into words. */
 void hemdroas_read(const uint8_t *bytes, uint64_t n, uint64_t *words, uint64_t room, struct hemdroas_answer *answer);
 
-/* Writes n words as a routine's bytes, the inverse of reading. */
+/* Writes n words as a routine's bytes. It is the inverse of reading. */
 void hemdroas_write(const uint64_t *words, uint64_t n, uint8_t *bytes, uint64_t room, struct hemdroas_answer *answer);
 
-/* Rewrites n words into commands, 4 for each of 1, 2, 4, ... 1024 bundles: the
- * smallest such count above n. The base must be a multiple of the commands'
- * number. */
+/* Rewrites n words into bundles of 4 commands. The number of bundles is the
+ * smallest of 1, 2, 4, ... 1024 that is above n. The layout's base must be a
+ * multiple of the number of commands, else it is refused as bad base (13). */
 void hemdroas_rewrite(const struct hemdroas_layout *layout, const uint64_t *words, uint64_t n,
                       uint64_t *commands, uint64_t room, struct hemdroas_answer *answer);
 
 /* Checks that n commands, run under this layout, keep to sandbox and policy. */
-void hemdroas_check(const struct hemdroas_layout *layout, const uint64_t *commands, uint64_t n, struct hemdroas_answer *answer);
+void hemdroas_check(const struct hemdroas_layout *layout, const uint64_t *commands, uint64_t n,
+                    struct hemdroas_answer *answer);
 
 /* Checks that n words are a routine that always finishes: it has no GOX, and
- * every GOIF goes to a higher instruction than its own. 18, at the lowest
- * instruction that breaks this, comes last, after 5, 3, 2, 4 and 8. Rewritten
- * into N bundles and run as installed, such a routine ends or stops within
- * 4 * (N - 1) + 1 steps over all its runs, if each pause is resumed with two
- * log cells and a reading and the budgets suffice. */
+ * every GOIF goes to a higher instruction than its own. If not, the lowest
+ * instruction that breaks this is refused as not forward (18). Before that come
+ * oversize (5) and the refusals of a word: unknown variety (3), foreign matter
+ * (2), off grade (4) and bad landing (8).
+ *
+ * Rewritten into N bundles and run as installed, such a routine ends or stops
+ * within 4 * (N - 1) + 1 steps over all its runs. For this each pause must be
+ * resumed with two log cells and a reading, and the budgets must suffice. */
 void hemdroas_forward(const uint64_t *words, uint64_t n, struct hemdroas_answer *answer);
 
-/* Checks n commands as hemdroas_check does, then that they are those of such a
- * routine: 18, at the lowest bundle that breaks this, comes last. */
+/* Checks n commands as hemdroas_check does, then that they are the commands of
+ * such a routine. If not, the lowest bundle that breaks this is refused as not
+ * forward (18). */
 void hemdroas_check_forward(const struct hemdroas_layout *layout, const uint64_t *commands, uint64_t n,
                             struct hemdroas_answer *answer);
 
 /* 1 if states is 1 to 16 and each of the word's four bytes is below states or
- * 255, else 0: the test that installing makes of the policy's table, four
- * bytes together. */
+ * HEMDROAS_NO_ARROW, else 0. Installing tests a policy's table so, four bytes
+ * at a time. */
 uint32_t hemdroas_word_right(uint32_t states, uint32_t word);
 
-/* Writes the start state to the state cell, the policy's table and the bits of
- * the landings to theirs, and yields a machine at the first command. states must
- * be the layout's, len 16 times that. landings are the instructions that a GOX
- * may go to, strictly rising; count may be 0. */
-void hemdroas_install(const struct hemdroas_layout *layout, uint32_t states, uint32_t start, const uint8_t *table, uint64_t len,
-                      const uint32_t *landings, uint64_t count, uint32_t *memory, uint64_t cells,
+/* Installs a policy: writes its start state to the state cell, its table and the
+ * bits of the landings to their cells, and yields a machine at the first command.
+ * states must be the layout's, and len 16 times that. landings are the
+ * instructions that a GOX may go to, strictly rising; there may be none. */
+void hemdroas_install(const struct hemdroas_layout *layout, uint32_t states, uint32_t start,
+                      const uint8_t *table, uint64_t len, const uint32_t *landings, uint64_t count,
+                      uint32_t *memory, uint64_t cells,
                       struct hemdroas_machine *machine, struct hemdroas_answer *answer);
 
 /* Loads a routine of n bytes: reads, rewrites and checks it, then installs the
- * policy. The answer is the first refusal of the four, with its place, so that
- * damaged bytes are refused before a layout that is not right; or 0 and the
- * count of commands, which then stand at the start of commands. */
-void hemdroas_load(const struct hemdroas_layout *layout, uint32_t states, uint32_t start, const uint8_t *table, uint64_t len,
-                   const uint32_t *landings, uint64_t count, const uint8_t *bytes, uint64_t n,
-                   uint64_t *commands, uint64_t room, uint32_t *memory, uint64_t cells,
+ * policy. It answers the first refusal of the four with its place, so damaged
+ * bytes are refused before a bad layout (7). If it is taken (0), place counts
+ * the commands, which stand at the start of commands. */
+void hemdroas_load(const struct hemdroas_layout *layout, uint32_t states, uint32_t start,
+                   const uint8_t *table, uint64_t len, const uint32_t *landings, uint64_t count,
+                   const uint8_t *bytes, uint64_t n, uint64_t *commands, uint64_t room,
+                   uint32_t *memory, uint64_t cells,
                    struct hemdroas_machine *machine, struct hemdroas_answer *answer);
 
 /* ---- running */
@@ -281,65 +312,72 @@ void hemdroas_load(const struct hemdroas_layout *layout, uint32_t states, uint32
  * event takes two cells of the log, from cell 0 on: its number and its value.
  * Readings are taken from cell 0 on.
  *
- * At 23 and 24 the state cell is the policy's state over the recorded events;
- * at 25 it may still be that before the last of them. After a pause, lend the
- * same machine and memory again. */
+ * After log full (23) and probe silent (24) the state cell holds the policy's
+ * state over the recorded events. After spent (25) it may still hold the state
+ * before the last of them. After a pause, lend the same machine and memory
+ * again. */
 void hemdroas_run(const struct hemdroas_layout *layout, const uint64_t *commands, uint64_t n,
                   struct hemdroas_machine *machine, uint32_t *memory, uint64_t cells, uint32_t budget,
                   const uint32_t *readings, uint64_t r, uint32_t *log, uint64_t g, struct hemdroas_run_answer *answer);
 
-/* Looks ahead: answers as hemdroas_run would, with these readings, writes the
- * log as that would, and yields in after the machine record that it would
- * leave, which is machine's own numbers if it is refused. Neither machine nor
- * memory changes. The run is done on a copy of the memory in work, which then
- * holds what the run would leave of the memory. spare must be the layout's
- * size, as cells must; else the preview is refused as bad layout (7), and work
- * stays as it was. */
+/* Looks ahead: answers as hemdroas_run would with these readings, writes the log
+ * as that would, and yields in after the machine that it would leave. machine
+ * and memory do not change. The run works on a copy of the memory in work, which
+ * then holds what the run would leave. spare, like cells, must be the layout's
+ * cells. Otherwise it is refused as bad layout (7): work stays as it was, and
+ * after gets machine's own numbers. */
 void hemdroas_preview(const struct hemdroas_layout *layout, const uint64_t *commands, uint64_t n,
                       const struct hemdroas_machine *machine, const uint32_t *memory, uint64_t cells,
                       uint32_t *work, uint64_t spare, uint32_t budget,
                       const uint32_t *readings, uint64_t r, uint32_t *log, uint64_t g,
                       struct hemdroas_machine *after, struct hemdroas_run_answer *answer);
 
-/* Runs a routine's n words as they are written, without commands: the guest
- * rule, one instruction after another, under the layout, policy and landings
- * that hemdroas_install or hemdroas_load left in memory. Log and readings are as
- * for hemdroas_run. Words are judged once, before the first instruction, as
- * rewriting has it: 7, 5, then for the first word at fault 3, 2, 4 or 8. A record
- * that is not running comes back as it was, with any number above 4 too. A run
- * of budget 1 shows one instruction. */
+/* Runs a routine's n words as they are written, one instruction after another,
+ * under the layout, policy and landings that hemdroas_install or hemdroas_load
+ * left in memory. Log and readings are as for hemdroas_run. Budget 1 does one
+ * instruction.
+ *
+ * All words are judged first, with the rewriter's refusals in its order: bad
+ * layout (7), oversize (5), then for the first word at fault unknown variety
+ * (3), foreign matter (2), off grade (4) or bad landing (8). An engine that is
+ * not running comes back as it was, also with a status above 4. */
 void hemdroas_engine_run(const struct hemdroas_layout *layout, const uint64_t *words, uint64_t n,
                          struct hemdroas_engine *engine, uint32_t *memory, uint64_t cells, uint32_t budget,
-                         const uint32_t *readings, uint64_t r, uint32_t *log, uint64_t g, struct hemdroas_engine_answer *answer);
+                         const uint32_t *readings, uint64_t r, uint32_t *log, uint64_t g,
+                         struct hemdroas_engine_answer *answer);
 
 /* ---- making policies */
 
-/* Makes the policy of a list of n / 2 pairs of events, pairs[2 * i] before
- * pairs[2 * i + 1]: the second has an arrow only once the first has been
- * recorded. A state is the map of the named events recorded so far, bit k for
- * the k-th smallest of them from 0. Other events are allowed in every state, and
- * stay in it. A refusal is 17 or, after it, 9. */
-void hemdroas_precedence(const uint8_t *pairs, uint64_t n, uint8_t *table, uint64_t room, struct hemdroas_precedence_answer *made);
+/* Makes the policy of n / 2 pairs of events, pairs[2 * i] before
+ * pairs[2 * i + 1]: the second is allowed only once the first has been recorded.
+ * A state is the set of named events recorded so far: bit k stands for the k-th
+ * smallest of them, from 0. Events that no pair names are allowed in every
+ * state, and stay in it. Refused as bad pair (17), then small hopper (9). */
+void hemdroas_precedence(const uint8_t *pairs, uint64_t n, uint8_t *table, uint64_t room,
+                         struct hemdroas_precedence_answer *made);
 
-/* Makes the policy of a drawing in which a state may have several arrows for
- * one event, and of which several states may be starts. Bit s of starts is set
- * if state s is a start; bit t of arrows[16 * s + e] is set if event e leads
- * from state s to state t, too. The policy's states are the sets of states that
- * events lead to, the starts first, numbered as they are first met, events
- * taken in rising order from the lowest numbered set; the empty set is none.
- * So a list of events is allowed exactly if some run through the drawing
- * follows it. A refusal is 16 or, after it, 15, then 9. */
-void hemdroas_determinise(uint32_t states, uint32_t starts, const uint16_t *arrows, uint64_t n, uint8_t *table, uint64_t room,
-                          struct hemdroas_determinise_answer *made);
+/* Makes the policy of a drawing in which a state may have several arrows for one
+ * event, and several states may be starts. Bit s of starts is set if state s is
+ * a start. Bit t of arrows[16 * s + e] is set if event e leads from state s to
+ * state t. A list of events is allowed exactly if some path through the drawing
+ * follows it.
+ *
+ * The policy's states are the sets of states that events lead to; the empty set
+ * is none. State 0 is the set of starts. The others are numbered as they are
+ * first met, from the lowest numbered set on, events in rising order. Refused as
+ * bad drawing (16), then too many states (15), then small hopper (9). */
+void hemdroas_determinise(uint32_t states, uint32_t starts, const uint16_t *arrows, uint64_t n,
+                          uint8_t *table, uint64_t room, struct hemdroas_determinise_answer *made);
 
 /* Merges two policies into one that allows a list of events exactly if both do.
- * len1 and len2 must be 16 times their states, and each byte of a table below
- * these or 255. The merged policy's states are the pairs of states that events
- * lead to, the two starts first, numbered as they are first met, events taken in
- * rising order from the lowest numbered pair; its ceilings are the smaller of
- * each two. Swapping the two changes nothing. The answer's place is the bytes of
- * the table written. A refusal, 10 or after it 15, then 9, leaves zeros in
- * merged. */
+ * len1 and len2 must be 16 times their policy's states, and each byte of a table
+ * below those states or HEMDROAS_NO_ARROW. The order of the two does not matter.
+ *
+ * The merged states are the pairs of states that events lead to. State 0 is the
+ * pair of starts. The others are numbered as they are first met, from the lowest
+ * numbered pair on, events in rising order. Each ceiling is the smaller of the
+ * two. The answer's place counts the table's bytes. Refused as bad policy (10),
+ * then too many states (15), then small hopper (9); merged is then all zeros. */
 void hemdroas_merge(const struct hemdroas_policy *one, const uint8_t *table1, uint64_t len1,
                     const struct hemdroas_policy *other, const uint8_t *table2, uint64_t len2,
                     uint8_t *table, uint64_t room, struct hemdroas_policy *merged, struct hemdroas_answer *answer);
