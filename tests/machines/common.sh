@@ -18,9 +18,11 @@ compile_bare() { # TARGET INCLUDE SOURCE OBJECT [FLAG...]
 
 # The driver as a 32-bit program of this machine, by the kit's clang and ld.lld alone.
 link_driver32() { # INCLUDE PROGRAM [FLAG...]
-    local source
-    for source in driver linux32; do compile_bare i686-unknown-linux-gnu "$1" $here/$source.c "$2.$source.o" "${@:3}" || return 1; done
-    "$kit/ld.lld" -m elf_i386 -static "$2.driver.o" "$2.linux32.o" $portable/i686-unknown-linux-gnu/libhemdroas.a -o "$2"
+    local target=i686-unknown-linux-gnu source
+    for source in driver linux32 bare/routines; do
+        compile_bare $target "$1" $here/$source.c "$2.${source#*/}.o" "${@:3}" || return 1
+    done
+    "$kit/ld.lld" -m elf_i386 -static "$2.driver.o" "$2.linux32.o" "$2.routines.o" $portable/$target/libhemdroas.a -o "$2"
 }
 
 # The routines that a library asks of its host, in one line.

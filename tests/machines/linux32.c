@@ -1,6 +1,6 @@
 /*
  * The driver's start and output as a 32-bit program of Linux on x86, without a C
- * library, and the routines that the library and the driver ask of one.
+ * library, and the division that it asks of one.
  */
 #include <stdint.h>
 
@@ -9,9 +9,6 @@ enum { SYSTEM_EXIT = 1, SYSTEM_WRITE = 4, STANDARD_OUTPUT = 1, TOP_BIT = 63 };
 int main(void);
 void put_text(const char *text, uint32_t length);
 void _start(void);
-void *memcpy(void *to, const void *from, __SIZE_TYPE__ n);
-void *memmove(void *to, const void *from, __SIZE_TYPE__ n);
-void *memset(void *to, int byte, __SIZE_TYPE__ n);
 uint64_t __udivdi3(uint64_t a, uint64_t b);
 uint64_t __umoddi3(uint64_t a, uint64_t b);
 
@@ -37,36 +34,6 @@ __attribute__((force_align_arg_pointer)) void _start(void)
     system_call(SYSTEM_EXIT, main(), 0, 0);
     for (;;)
         ;
-}
-
-/* 'volatile' keeps the compiler from making each of these a call of itself */
-
-void *memcpy(void *to, const void *from, __SIZE_TYPE__ n)
-{
-    volatile uint8_t *t = to;
-    const uint8_t *f = from;
-    while (n--)
-        *t++ = *f++;
-    return to;
-}
-
-void *memmove(void *to, const void *from, __SIZE_TYPE__ n)
-{
-    volatile uint8_t *t = to;
-    const uint8_t *f = from;
-    if (t < f)
-        return memcpy(to, from, n);
-    while (n--)
-        t[n] = f[n];
-    return to;
-}
-
-void *memset(void *to, int byte, __SIZE_TYPE__ n)
-{
-    volatile uint8_t *t = to;
-    while (n--)
-        *t++ = (uint8_t)byte;
-    return to;
 }
 
 static uint64_t divide(uint64_t a, uint64_t b, uint64_t *rest)
