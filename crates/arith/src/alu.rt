@@ -1,4 +1,4 @@
-// Arithmetic of 32-bit numbers: wrapping, two's complement, the conditions.
+// Adds, subtracts, combines and shifts 32-bit numbers, and tests a condition.
 use crate::signed::less;
 pub use crate::signed::sar;
 use types::Layout;

@@ -1,3 +1,3 @@
-// Arithmetic of 32-bit numbers, and the conditions.
+// Arithmetic on 32-bit numbers, and the four conditions of a jump.
 pub mod alu;
 pub mod signed;

@@ -1,4 +1,4 @@
-// 32-bit numbers as two's complement.
+// 32-bit numbers as two's complement: arithmetic shift right, and signed comparison.
 use types::Layout;
 ghost use mathlib.Core.Path.{_≡_};
 ghost use Prim.Native.Nat.{min};

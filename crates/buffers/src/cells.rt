@@ -1,4 +1,4 @@
-// A cell of a slice, read or set, and a byte as a number that is wider.
+// Reads or sets one cell of a slice, and widens a byte.
 ghost use mathlib.Core.Path.{_≡_};
 ghost use Prim.Native.Nat.{_<_};
 ghost use lib.ListN.{getD, set};

@@ -1,4 +1,4 @@
-// Lent slices: a cell read or set, lists stored over others, the pairs of a log.
+// Reads and writes of slices that a caller lends.
 pub mod cells;
 pub mod pairs;
 pub mod stores;

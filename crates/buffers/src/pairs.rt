@@ -1,4 +1,4 @@
-// Pairs in a log: an event and its value, two cells.
+// Writes pairs to a log: an event and its value, two cells each.
 ghost use mathlib.Core.Path.{_≡_};
 ghost use Prim.Native.Nat.{_<_, _^_};
 ghost use Rattle.spec.specs.Layouts.{limited as limitedOf};

@@ -1,4 +1,4 @@
-// Words, cells and bytes stored over those of a slice, from a place on.
+// Copies words, cells or bytes into a slice from an index on.
 use crate::cells::cell_of;
 ghost use mathlib.Core.Path.{_≡_};
 ghost use Prim.Native.Nat.{_+_, _≤_};

@@ -1,4 +1,4 @@
-// A routine's bytes, for a C host.
+// `hemdroas_read` and `hemdroas_write`: a routine's bytes into words, and back.
 use capi_values::answers::ANSWER;
 use capi_values::answers::answer_of;
 ghost use mathlib.Core.Path.{_≡_};

@@ -1,4 +1,4 @@
-// A routine's commands, for a C host: rewriting words into them, and checking them.
+// `hemdroas_rewrite` and `hemdroas_check`: words into commands, and the check of commands.
 use capi_values::answers::ANSWER;
 use capi_values::answers::answer_of;
 use capi_values::layouts::LAYOUT;

@@ -1,4 +1,4 @@
-// The policy of a drawing with several arrows and starts, for a C host.
+// `hemdroas_determinise`: a policy from a drawing with several arrows and starts.
 use capi_values::answers::MADE;
 use capi_values::answers::made_of;
 ghost use mathlib.Core.Path.{_≡_};

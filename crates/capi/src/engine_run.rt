@@ -1,4 +1,4 @@
-// The engine over a C host's numbers, for the C interface: record and answer as arrays of u32.
+// `hemdroas_engine`: a run of guest words, with the engine's record and answer as arrays.
 use capi_values::layouts::LAYOUT;
 use capi_values::layouts::layout_of;
 use capi_values::records::TRAILER;

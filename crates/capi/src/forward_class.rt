@@ -1,4 +1,4 @@
-// The class of routines that always finish, for a C host.
+// `hemdroas_forward` and `hemdroas_check_forward`: the checks for the class of routines that always finish.
 use capi_values::answers::ANSWER;
 use capi_values::answers::answer_of;
 use capi_values::layouts::LAYOUT;

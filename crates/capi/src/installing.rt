@@ -1,4 +1,4 @@
-// Installing a policy, for a C host.
+// `hemdroas_install`: a policy into memory.
 use capi_values::answers::ANSWER;
 use capi_values::answers::answer_of;
 use capi_values::layouts::LAYOUT;

@@ -1,4 +1,4 @@
-// The C interface: the sandbox's parts over numbers, arrays and slices, each function under its name for C; a module for each part.
+// The C interface: each function in the module of its part, over numbers, arrays and slices.
 pub mod bytes;
 pub mod commands;
 pub mod determinise;

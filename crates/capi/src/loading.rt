@@ -1,4 +1,4 @@
-// Loading a routine, for a C host.
+// `hemdroas_load`: a routine's bytes to an installed machine in one call.
 use capi_values::answers::ANSWER;
 use capi_values::answers::answer_of;
 use capi_values::layouts::LAYOUT;

@@ -1,4 +1,4 @@
-// Two policies merged, for a C host.
+// `hemdroas_merge`: one policy from two.
 use buffers::stores::store_cells;
 use capi_values::answers::ANSWER;
 use capi_values::answers::answer_of;

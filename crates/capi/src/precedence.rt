@@ -1,4 +1,4 @@
-// The policy of pairs of events, for a C host.
+// `hemdroas_precedence`: a policy from pairs of events.
 use capi_values::answers::MADE;
 use capi_values::answers::made_of;
 ghost use mathlib.Core.Path.{_≡_};

@@ -1,4 +1,4 @@
-// Runs and previews, for a C host.
+// `hemdroas_run` and `hemdroas_preview`: a run, and a run on a copy.
 use capi_values::answers::RUN_ANSWER;
 use capi_values::answers::run_answer_of;
 use capi_values::layouts::LAYOUT;

@@ -1,4 +1,4 @@
-// Four bytes of a policy's table, tested as one word for a C host.
+// `hemdroas_word_right`: the test of four bytes of a policy's table as one word.
 ghost use mathlib.Core.Path.{_≡_};
 ghost use Rattle.installer.specs.table_words.Words.{wordRight};
 ghost use Rattle.capi.specs.table_words.Hosts.{yesOrNo};

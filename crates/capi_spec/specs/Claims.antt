@@ -1,4 +1,4 @@
--- What is claimed of a C host's numbers: a record comes back as it was, and isolation reaches the calls.
+-- Claims about C calls: a record survives the round trip through numbers, and calls are isolated.
 use Prim.Native.Nat.{ℕ, _+_}
 use mathlib.Core.Path.{_≡_}
 use mathlib.Core.Bool.{true}

@@ -1,4 +1,4 @@
--- What a C host holds after a call, in its numbers.
+-- What each C function answers and leaves, in numbers.
 use Prim.Native.Nat.{ℕ}
 use mathlib.Core.List.{List}
 use lib.ListN.{length}

@@ -1,4 +1,4 @@
--- The numbers in which a C host holds layouts and records.
+-- Layouts, records and answers as a C host's arrays of numbers.
 use Prim.Native.Nat.{ℕ, zero, suc, _+_}
 use mathlib.Core.Bool.{Bool, cond}
 use mathlib.Core.List.{List, [], _∷_, _++_}

@@ -1,5 +1,5 @@
--- A sample on the premise of HostIsolation: document 01's routine on a small drum, loaded, run in two calls with a refused one between, and run
--- again under another policy that is installed over the first.
+-- A sample that satisfies HostIsolation's premise: document 01's routine is loaded on a small drum, run in two calls with a refused
+-- one between, and run again under another policy.
 use Prim.Native.Nat.{ℕ}
 use mathlib.Core.Path.{_≡_}
 use mathlib.Core.List.{List, [], _∷_, _++_, map}

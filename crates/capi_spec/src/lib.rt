@@ -1,2 +1,2 @@
-// What a C host holds in its numbers, layouts, records and answers, and what is claimed of its calls. Definitions and claims in specs/; no code.
+// What each C function answers and leaves, in a C host's numbers, and the claims about its calls; no code.
 pub mod engine;

@@ -1,4 +1,4 @@
-// Answers as the numbers of a C host.
+// Answers as arrays of numbers.
 use types::Answer;
 use types::RunAnswer;
 ghost use mathlib.Core.Path.{_≡_};

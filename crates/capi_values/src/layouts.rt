@@ -1,4 +1,4 @@
-// A layout made of a C host's numbers.
+// A layout from an array of numbers.
 use buffers::stores::store_cells;
 use types::Layout;
 use types::PolicyNumbers;

@@ -1,4 +1,4 @@
-// A C host's numbers made into records and answers, and back.
+// Converts a C host's numbers into records and answers, and back.
 pub mod answers;
 pub mod layouts;
 pub mod machines;

@@ -1,4 +1,4 @@
-// The machine's record made of a C host's numbers, and its numbers.
+// The machine's record from an array of numbers, and back.
 use crate::records::TRAILER;
 use crate::records::read_record;
 use crate::records::store_record;

@@ -1,4 +1,4 @@
-// A record, a machine's or an engine's, read from a C host's numbers and stored in them.
+// Registers and status of a record, the machine's or the engine's, read from an array of numbers and stored in it.
 use crate::statuses::STATUSES;
 use crate::statuses::status_number;
 use crate::statuses::status_of;

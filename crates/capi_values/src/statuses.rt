@@ -1,4 +1,4 @@
-// The numbers of statuses, which are five.
+// The five statuses as numbers.
 use types::Status;
 ghost use mathlib.Core.Path.{_≡_};
 ghost use Rattle.capi_spec.specs.Numbers.{statusFrom, statusNumber};

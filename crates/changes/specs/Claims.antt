@@ -1,4 +1,4 @@
--- What the change requests changed of answers given before them: what is claimed, and what was before.
+-- Claims about what each change request altered: the rule before it, and how answers differ.
 use Prim.Native.Nat.{ℕ, _+_, _-_, _*_, _/_, _<_, _≤_}
 use mathlib.Core.Path.{_≡_}
 use mathlib.Core.Bool.{Bool, true, false, _&&_, cond}

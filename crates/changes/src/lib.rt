@@ -1,1 +1,1 @@
-// What the change requests changed of answers given before them. Definitions and claims in specs/; no code.
+// Claims about what each change request altered in answers given before it; no code.

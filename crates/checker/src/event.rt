@@ -1,4 +1,4 @@
-// The shape of an event, which looks into the policy first.
+// The shape of EVENT, which asks the policy first.
 use crate::word::HIDDEN;
 use crate::word::is_word;
 use types::Command;

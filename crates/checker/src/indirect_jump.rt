@@ -1,4 +1,4 @@
-// The shape of GOX, a jump through the hidden register.
+// The shape of GOX, which masks its target in the hidden register.
 use crate::word::HIDDEN;
 use crate::word::is_word;
 use types::Bundle;

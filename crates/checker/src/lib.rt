@@ -1,4 +1,4 @@
-// The check of a list of commands: bundles of the known shapes, the last of them HALT. It takes lists of any producer.
+// Checks a list of commands from any producer: every bundle has a known shape, and the last is HALT.
 pub mod event;
 pub mod indirect_jump;
 pub mod masked_access;

@@ -1,4 +1,4 @@
-// The shapes of LOAD and STORE, whose address the hidden register masks.
+// The shapes of LOAD and STORE, which mask their address in the hidden register.
 use crate::word::HIDDEN;
 use crate::word::is_word;
 use types::Command;

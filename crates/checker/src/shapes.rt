@@ -1,4 +1,4 @@
-// Whether four words are a bundle of one of the known shapes.
+// Tests whether four words are a bundle of one of the known shapes.
 use crate::event::is_event;
 use crate::indirect_jump::is_gox;
 use crate::masked_access::is_access;

@@ -1,4 +1,4 @@
-// The shapes of one command and three that do nothing: HALT, a plain command, GOIF.
+// The shapes of one command and three NOPs: HALT, a plain command, GOIF.
 use types::Bundle;
 use types::Command;
 use types::Layout;

@@ -1,4 +1,4 @@
-// Whether a word is that of a kind and its fields: whole words are compared, and no field is read.
+// Tests whether a word is that of a kind and its fields, by one comparison of whole words.
 use types::Machine;
 use words::fields::word;
 ghost use mathlib.Core.Path.{_≡_};

@@ -1,4 +1,4 @@
--- The first jump past a routine's end.
+-- The place of the first jump past a routine's end.
 use Prim.Native.Nat.{ℕ, _+_}
 use mathlib.Core.Bool.{cond}
 use mathlib.Core.List.{List, [], _∷_}

@@ -1,4 +1,4 @@
-// Bytes of an instruction as numbers: one, and the four of v.
+// Bytes of an instruction as numbers: one byte, or the four of v.
 ghost use mathlib.Core.Path.{_≡_};
 ghost use Prim.Native.Nat.{_+_, _*_, _≤_, _<_};
 ghost use lib.ListN.{length};

@@ -1,4 +1,4 @@
-// One instruction read from its bytes: by the fast path, or by the full one with every refusal.
+// Decodes one instruction: by the fast path, or by the full path where that gives no answer.
 use crate::fast_path::LONGEST;
 use crate::fast_path::read_fast;
 use crate::full_path::read_full;

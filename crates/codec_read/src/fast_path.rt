@@ -1,4 +1,4 @@
-// The fast path of reading: an instruction that is taken, with bytes enough after it.
+// Decodes an instruction that is valid and has enough bytes after it; gives no answer for any other.
 use crate::bytes::quad;
 use crate::bytes::wide;
 use types::Decoded;

@@ -1,4 +1,4 @@
-// The full path of reading: one instruction from its bytes, with every refusal.
+// Decodes one instruction, or gives its first refusal.
 use crate::bytes::quad;
 use crate::bytes::wide;
 use crate::map::map_of;

@@ -1,4 +1,4 @@
-// A routine's bytes read into words.
+// Reads a routine's bytes into words.
 pub mod bytes;
 pub mod decode;
 pub mod fast_path;

@@ -1,4 +1,4 @@
-// The map of an instruction's fields in its bytes, which reading and writing share.
+// The map byte of an instruction, which marks its nonzero fields; reading and writing share it.
 use types::Fields;
 ghost use mathlib.Core.Path.{_≡_};
 ghost use Prim.Native.Nat.{_+_, _*_, _<_};

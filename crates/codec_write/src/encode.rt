@@ -1,4 +1,4 @@
-// One instruction's word written in bytes.
+// Encodes one word as the bytes of its instruction.
 use codec_read::map::map_of;
 use types::Fields;
 use words::fields::fields;

@@ -1,4 +1,4 @@
-// A routine's words written in bytes.
+// Writes a routine's words as bytes.
 pub mod encode;
 
 use crate::encode::put_one;

@@ -1,4 +1,4 @@
-// The engine of request 5: it runs guest words directly under the guest rule.
+// Request 5: the engine, which runs guest words directly under the guest rule.
 pub mod refusal;
 pub mod run_loop;
 

@@ -1,4 +1,4 @@
-// The refusals before any instruction: 7, 5, then per word 3, 2, 4, 8.
+// The refusal of an engine's run, decided before its first instruction.
 use types::Answer;
 use types::Instr;
 use types::Layout;

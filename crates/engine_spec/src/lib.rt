@@ -1,4 +1,4 @@
-// The types of request 5's engine, which runs guest words directly under the guest rule; its definitions and claims are in specs/; no code.
+// Request 5: the types of the engine, which runs guest words directly; its definitions and claims are in specs/.
 use types::Answer;
 use types::Status;
 

@@ -1,4 +1,4 @@
-// An effect applied: the state that it leaves.
+// Applies an effect to the engine's registers, memory and log.
 use engine_spec::Engine;
 use machine_step::program_point::Point;
 use machine_step::program_point::ended;

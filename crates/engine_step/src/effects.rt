@@ -1,4 +1,4 @@
-// What the instruction at the index would do: a pure decision.
+// Decides what the instruction at the index would do; changes nothing.
 use crate::events::checked_event;
 use crate::fields::a_value;
 use crate::fields::address;

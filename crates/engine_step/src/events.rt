@@ -1,4 +1,4 @@
-// What an event would do.
+// Decides what an event would do in the engine.
 use engine_spec::Engine;
 use types::Effect;
 use types::Layout;

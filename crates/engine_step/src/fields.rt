@@ -1,4 +1,4 @@
-// The fields of a word that was validated, and what the registers that they name hold.
+// The fields of a validated word, and the values of the registers that they name.
 use engine_spec::Engine;
 use words::field;
 use words::memory;

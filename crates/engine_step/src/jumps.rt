@@ -1,4 +1,4 @@
-// What a jump would do: GOIF, and GOX with its landing.
+// Decides what GOIF and GOX would do in the engine.
 use types::Effect;
 use types::Layout;
 use types::Status;

@@ -1,4 +1,4 @@
-// One instruction of the engine: what it would do, and the state that it leaves; the record at first.
+// One instruction of the engine: what it would do, and the state after it.
 pub mod apply;
 pub mod effects;
 pub mod events;

@@ -1,4 +1,4 @@
-// The engine's record at first, from which a host runs a routine as written.
+// The engine's initial record.
 use engine_spec::Engine;
 use types::Status;
 ghost use mathlib.Core.Path.{_≡_};

@@ -1,5 +1,4 @@
-// The check of guest words for the class of routines that always finish: no GOX, and every GOIF goes to a higher
-// instruction than its own.
+// Checks guest words for the class of routines that always finish: no GOX, and every GOIF goes to a higher instruction.
 pub mod list;
 
 use types::Answer;

@@ -1,4 +1,4 @@
-// The check of a command list for the class of routines that always finish.
+// Checks a command list for the class of routines that always finish.
 use checker::check;
 use types::Answer;
 use types::Bundle;

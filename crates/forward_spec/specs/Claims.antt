@@ -1,4 +1,4 @@
--- What is claimed of the class. Each claim is a type; its proof has the claim's name in small letters, in proofs/.
+-- Claims about the class of routines that always finish. Each is a type; its proof has its name in small letters, in proofs/.
 use Prim.Native.Nat.{ℕ, _+_, _-_, _*_, _/_, _≤_}
 use mathlib.Core.Path.{_≡_}
 use mathlib.Core.Bool.{Bool, true, false}

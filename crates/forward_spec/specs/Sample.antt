@@ -1,5 +1,4 @@
--- Samples: answers of the two checks; a routine on the premises of Bounded and AlwaysFinish that pauses once and reaches the bound; one on those of
--- FinishesResumed.
+-- Samples: answers of the two checks, and routines that satisfy the premises of Bounded, AlwaysFinish and FinishesResumed.
 use Prim.Native.Nat.{ℕ, _*_, _≤_}
 use mathlib.Core.Path.{_≡_}
 use mathlib.Core.Bool.{Bool, true, false, cond}

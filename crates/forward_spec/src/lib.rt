@@ -1,1 +1,1 @@
-// Request 13: routines that always finish. Definitions and claims in specs/; no code.
+// Request 13: the class of routines that always finish, its two checks and the claims about it; no code.

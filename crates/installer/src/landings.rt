@@ -1,4 +1,4 @@
-// A list of landings: whether it is right, and the cells that hold its bits.
+// Tests a list of landings, and computes the cells that hold its bits.
 use types::Bundle;
 use types::Layout;
 ghost use mathlib.Core.Path.{_≡_};

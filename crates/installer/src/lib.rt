@@ -1,4 +1,4 @@
-// Installing a policy and a list of landings: its start state, its table and their bits into the machine's memory, and a fresh record.
+// Installs a policy: writes its start state, table and landing bits into memory, and yields a fresh machine record.
 pub mod landings;
 pub mod table;
 pub mod table_words;

@@ -1,4 +1,4 @@
-// A policy's table, tested by words.
+// Tests a policy's table, four bytes at a time.
 use crate::table_words::states_right;
 use crate::table_words::word_at;
 use crate::table_words::word_right;

@@ -1,4 +1,4 @@
-// Four bytes of a policy's table as one word, tested at once.
+// Tests four bytes of a policy's table as one word.
 use buffers::cells::cell_of;
 use types::Layout;
 ghost use mathlib.Core.Path.{_≡_};

@@ -1,4 +1,4 @@
-// The count of a list's bundles, and the base that fits it.
+// The count of bundles of a routine, and the tests of a list's length and base address.
 use types::Bundle;
 use types::Layout;
 ghost use mathlib.Core.Path.{_≡_};

@@ -1,3 +1,3 @@
-// Layouts: the test of one and the mask of its block; the count of a list's bundles.
+// Layouts: the test of one, the mask of its sandbox, and the count of bundles at its base.
 pub mod count;
 pub mod memory;

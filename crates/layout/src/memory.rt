@@ -1,4 +1,4 @@
-// The test of a layout, and the mask that keeps an address in its block.
+// Tests a layout, and masks an address into its sandbox.
 use types::Layout;
 use types::PolicyNumbers;
 ghost use mathlib.Core.Path.{_≡_};

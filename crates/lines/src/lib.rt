@@ -1,4 +1,4 @@
-// Lines of numbers on standard output, which the programs share.
+// Prints lines of text and numbers, for the programs.
 use libc::STDOUT_FILENO;
 use types::Answer;
 

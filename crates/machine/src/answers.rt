@@ -1,4 +1,4 @@
-// What a run answers: the record that it leaves, its ending, its steps and counts.
+// The outcome of a run: the record that it leaves, its ending and its counts.
 use machine_step::program_point::Point;
 use types::Ending;
 use types::Machine;

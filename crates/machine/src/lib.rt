@@ -1,4 +1,4 @@
-// The stepping machine: a run, the record by value.
+// A run of the machine, with the record by value.
 pub mod answers;
 pub mod run_loop;
 pub mod tiers;

@@ -1,4 +1,4 @@
--- What a run of a lent record leaves and answers.
+-- The outcome of a run on a lent record.
 use Rattle.types.specs.declared.Machine.{Machine}
 use Rattle.types.specs.declared.RunAnswer.{RunAnswer}
 use Rattle.types.specs.declared.Outcome.{Outcome}

@@ -1,4 +1,5 @@
-// A run of a record that is lent, and by value through it a run and a step, which is a run of budget 1. The proofs of the first two walk the compiled code by hand, which is why they stand apart from the machine.
+// `run_lent` takes the record by `&mut`; `run` and `step` wrap it by value.
+// The proofs of the first two follow the compiled code by hand, so they have a crate of their own.
 use types::Layout;
 use types::Machine;
 use types::Outcome;

@@ -1,4 +1,4 @@
-// A look ahead: what a run would answer and leave, before it touches memory and record.
+// Previews a run: runs on a copy of memory and record, and leaves both as they were.
 use buffers::stores::store_cells;
 use types::Layout;
 use types::Machine;

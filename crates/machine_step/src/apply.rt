@@ -1,4 +1,4 @@
-// An effect applied: the state that it leaves.
+// Applies an effect to registers, memory and log.
 use crate::program_point::Point;
 use crate::program_point::ended;
 use crate::program_point::jumped;

@@ -1,4 +1,4 @@
-// What the word at pc would do: a pure decision, applied by the machine.
+// Decides what the word at pc would do; changes nothing.
 use crate::events::event;
 use crate::events::look;
 use crate::landings::jump;

@@ -1,4 +1,4 @@
-// How a run ends, the machine's or the engine's: its ending by the record's status, and an ending's number.
+// The ending of a run from its status, and an ending's number; the engine's too.
 use types::Ending;
 use types::Refusal;
 use types::Status;

@@ -1,4 +1,4 @@
-// What an event asks of policy, log and readings: the policy's entry for it, two free cells in the log, and for a probe a reading.
+// Decides what an event would do: the policy's arrow, room in the log, and for a probe a reading.
 use types::Effect;
 use types::Ending;
 use types::PolicyNumbers;

@@ -1,4 +1,4 @@
-// Landings: where a jump through a register may go.
+// Decides whether a jump through a register goes to a listed landing.
 use arith::alu;
 use types::Bundle;
 use types::Effect;

@@ -1,4 +1,4 @@
-// One step: what the word at pc would do, and the state that it leaves; where a run stands, and how it ends.
+// One step of the machine: the effect of the word at pc, the state after it, and how a run ends.
 pub mod apply;
 pub mod effects;
 pub mod endings;

@@ -1,4 +1,4 @@
-// Where a run stands, the machine's or the engine's, and where an effect leads it.
+// The program point of a run: pc, status, and the counts of pairs and readings; the engine's too, with its index for pc.
 use types::Status;
 ghost use mathlib.Core.Path.{_≡_};
 ghost use Prim.Native.Nat.{_+_, _<_, _^_};

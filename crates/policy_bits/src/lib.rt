@@ -1,4 +1,4 @@
-// A bit of a map.
+// Tests one bit of a map.
 ghost use mathlib.Core.Path.{_≡_};
 ghost use Prim.Native.Nat.{_<_};
 ghost use Rattle.types.specs.Names.{events};

@@ -1,4 +1,4 @@
--- Request 8, 'Policies drawn with several arrows': the policy of the sets of states that events lead to.
+-- Request 8, 'Policies drawn with several arrows': drawings, and the policy of the sets of states that events reach.
 use Prim.Native.Nat.{ℕ, zero, suc, _+_, _*_, _^_, _<_, _≤_}
 use mathlib.Core.Path.{_≡_}
 use mathlib.Core.Bool.{Bool, true, _&&_, not, cond}

@@ -1,4 +1,4 @@
-// Policies drawn with several arrows: a deterministic policy of the sets of states that events lead to.
+// Request 8, 'Policies drawn with several arrows': makes a deterministic policy by the subset construction.
 use policy_spec::reachability::EVENTS;
 use policy_spec::reachability::MOST;
 use policy_spec::reachability::Made;

@@ -1,4 +1,4 @@
--- What is claimed of the merged policy. Each claim is a type; its proof has the claim's name in small letters, in proofs/.
+-- Claims about the merged policy. Each is a type; its proof has its name in small letters, in proofs/.
 use Prim.Native.Nat.{ℕ, _<_, min}
 use mathlib.Core.Path.{_≡_}
 use mathlib.Core.Bool.{true, _&&_, cond}

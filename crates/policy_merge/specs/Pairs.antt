@@ -1,4 +1,4 @@
--- Request 7, 'Two policies at once': the policy of the pairs of states that events lead to.
+-- Request 7, 'Two policies at once': the policy of the pairs of states that events reach.
 use Prim.Native.Nat.{ℕ, _+_, _-_, _*_, _/_, _%_, min}
 use mathlib.Core.Bool.{Bool, _&&_, _||_, not, cond}
 use mathlib.Core.List.{List, [], _∷_}

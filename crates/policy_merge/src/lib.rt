@@ -1,4 +1,4 @@
-// Two policies at once: the policy of the pairs of states that events lead to. A pair is held as 16 × s + t + 1, no pair as 0.
+// Request 7, 'Two policies at once': makes the policy of pairs of states. The pair of s and t is the number 16 × s + t + 1; 0 is no pair.
 use buffers::cells::index_of;
 use policy_spec::reachability::EVENTS;
 use policy_spec::reachability::MOST;

@@ -1,4 +1,4 @@
-// The arrow of an event in a state: whether its firsts are recorded, and where it then leads.
+// The arrow of an event in a state: there is one once all events that must come before it are recorded.
 use buffers::cells::index_of;
 use policy_spec::precedence::NO_ARROW;
 ghost use mathlib.Core.Path.{_≡_};

@@ -1,4 +1,4 @@
-// This before that: the policy of pairs of events made, or refused.
+// Request 11, 'This before that': makes a policy from pairs of events.
 pub mod arrows;
 pub mod unreachable;
 

@@ -1,4 +1,4 @@
-// The events that the policy never allows: those without an arrow where every event is recorded that ever can be.
+// The events that the policy never allows: those still blocked when no more events can be enabled.
 use crate::arrows::arrow;
 use policy_spec::precedence::EVENTS;
 use policy_spec::precedence::MOST_NAMED;

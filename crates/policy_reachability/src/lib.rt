@@ -1,4 +1,4 @@
-// Exploring: the caller has a loop, in which it asks for the node whose arrow is next and says where that leads.
+// A work list of the nodes that events reach; the caller's loop takes the next arrow and says where it leads.
 pub mod writing;
 
 use policy_spec::reachability::ARROWS;
@@ -14,7 +14,7 @@ ghost use Rattle.types.specs.Names.{events, mostStates};
 ghost use Rattle.policy_spec.specs.reachability.Reach.{indexOf as placeOf};
 ghost use Rattle.policy_spec.specs.reachability.Worklists.{Sized, initialWorklist, insertTarget, hasPending};
 
-// The initial worklist: the initial worklist: the start alone.
+// The initial work list: the start alone.
 pub fn begin(start: u16) -> Worklist
     ensures { λ r. ⌜ r ≡ initialWorklist start ⌝ }
 {

@@ -1,4 +1,4 @@
-// The policy of the nodes found, written: its numbers and its table, or a refusal.
+// Writes the policy of the nodes reached, or refuses it.
 use policy_spec::reachability::ARROWS;
 use policy_spec::reachability::EVENTS;
 use policy_spec::reachability::MOST;

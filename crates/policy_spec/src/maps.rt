@@ -1,1 +1,1 @@
-// Numbers as maps of bits. Definitions in specs/; no code.
+// Natural numbers as bit maps; definitions in specs/, no code.

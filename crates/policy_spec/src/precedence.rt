@@ -1,5 +1,4 @@
-// This before that: a policy from pairs of events, the first of which is to be recorded before the second.
-// Here are its types; its definitions and claims are in specs/, and no code is.
+// Request 11, 'This before that': the types of a policy made from pairs of events; its definitions and claims are in specs/.
 use types::Answer;
 use types::PolicyNumbers;
 

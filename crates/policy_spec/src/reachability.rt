@@ -1,5 +1,5 @@
-// What can be reached: the nodes that events lead to from a start, numbered as first met, and the policy of their numbers.
-// A node is a number above 0; 0 is no node. Here are its types; its definitions and claims are in specs/, and no code is.
+// Requests 7 and 8: the types of a search for the nodes that events reach from a start.
+// A node is a number above 0; 0 is no node. Definitions and claims are in specs/.
 use types::Answer;
 use types::Layout;
 use types::PolicyNumbers;

@@ -1,4 +1,4 @@
--- What writing the bundles of a routine takes.
+-- The precondition of writing a routine's bundles.
 use Prim.Native.Nat.{ℕ, _*_, _^_, _<_, _≤_}
 use mathlib.Core.Path.{_≡_}
 use mathlib.Core.Bool.{true}

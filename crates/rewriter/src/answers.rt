@@ -1,4 +1,4 @@
-// What rewriting answers, before anything is written.
+// The answer of rewriting, decided before anything is written.
 use types::Answer;
 use types::Bundle;
 use types::Instr;

@@ -1,4 +1,4 @@
-// The words of one bundle.
+// The four command words of an instruction's bundle.
 use types::Bundle;
 use types::Command;
 use types::Instr;

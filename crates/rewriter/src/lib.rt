@@ -1,4 +1,4 @@
-// Rewriting a routine's words into bundles of commands: one pass validates, one writes the bundles in place of the words.
+// Rewrites a routine's words into bundles of four commands: one pass validates, one writes the bundles in place of the words.
 pub mod answers;
 pub mod bundles;
 

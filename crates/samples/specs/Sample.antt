@@ -1,5 +1,5 @@
--- A sample on the claims' premises: the routine of document 01's trial in two runs with a refused one between,
--- and a second list alike in all but free cells and what the logs held.
+-- A sample that satisfies the claims' premises: the routine of document 01's trial in two runs with a refused one between,
+-- and a second list that differs only in free cells and in what the logs held.
 use Prim.Native.Nat.{ℕ}
 use mathlib.Core.Path.{_≡_}
 use mathlib.Core.List.{List, [], _∷_, _++_, map}

@@ -1,4 +1,4 @@
--- The sample tray: document 01's cases marked *, rows of one table.
+-- Document 01's sample tray: its cases marked *, as rows of one table.
 use Prim.Native.Nat.{ℕ, _+_, _-_, _^_}
 use mathlib.Core.Path.{_≡_}
 use mathlib.Core.Bool.{Bool, true, false, _&&_, Bool·beq}

@@ -1,4 +1,4 @@
--- Document 01's trial on its sample input, as the rules have it: 'so its output remains'. The program `trial` is tried, not claimed.
+-- Document 01's trial on its sample input, as a theorem of the rules. The program `trial` is tried, not claimed.
 use Prim.Native.Nat.{ℕ, zero, suc}
 use mathlib.Core.Path.{_≡_}
 use mathlib.Core.List.{List, [], _∷_}

@@ -1,1 +1,1 @@
-// Samples of the engine: runs on the premises of its claims. Definitions and claims in specs/; no code.
+// Runs of the engine that satisfy the premises of its claims; no code.

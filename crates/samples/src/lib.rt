@@ -1,2 +1,2 @@
-// Samples: document 01's sample tray, and runs on the claims' premises. Definitions and claims in specs/; no code.
+// Document 01's sample tray and trial as theorems, and runs that satisfy the claims' premises; no code.
 pub mod engine;

@@ -1,4 +1,4 @@
-// What reading and rewriting a routine's bytes answer, before anything is written: one pass over the bytes, no word is kept.
+// The answer of reading and rewriting a routine's bytes, decided in one pass that keeps no word and writes nothing.
 use codec_read::count;
 use codec_read::scan;
 use rewriter::answers::base_room_answer;

@@ -1,4 +1,4 @@
-// What programs, the C interface and hosts share: loading, running and stepping.
+// The parts joined: loads a routine from its bytes to an installed machine, then runs or steps it.
 pub mod judging;
 pub mod loading;
 pub mod writing;

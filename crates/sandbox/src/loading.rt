@@ -1,6 +1,5 @@
-// Loading: from a routine's bytes to an installed machine and its commands: reading, rewriting,
-// checking and installing in one call. All that can refuse is decided first, so that a refusal leaves
-// what is lent as it was; then the commands are written, checked and installed.
+// Loads a routine: reads, rewrites, checks and installs in one call.
+// All refusals are decided before anything is written, so a refusal leaves every lent slice as it was.
 use crate::judging::judge;
 use crate::writing::write_routine;
 use installer::install;

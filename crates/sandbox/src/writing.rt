@@ -1,4 +1,4 @@
-// The commands of a routine that was judged, written straight from its bytes.
+// Writes the commands of a judged routine, straight from its bytes.
 use codec_read::count;
 use codec_read::scan;
 use rewriter::expand;

@@ -1,4 +1,4 @@
--- What is claimed of loading.
+-- The claim about loading: from a load's 0 to isolation.
 use Prim.Native.Nat.{ℕ}
 use mathlib.Core.Path.{_≡_}
 use mathlib.Core.List.{List, []}

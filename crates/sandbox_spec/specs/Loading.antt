@@ -1,4 +1,4 @@
--- A routine's bytes made into an installed machine.
+-- What loading a routine's bytes answers and leaves.
 use Prim.Native.Nat.{ℕ}
 use mathlib.Core.List.{List}
 use lib.ListN.{length}

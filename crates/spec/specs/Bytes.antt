@@ -1,4 +1,4 @@
--- A routine's bytes: what reading and writing answer and leave.
+-- The byte form of a routine: what reading and writing answer and leave.
 use Rattle.spec.specs.Prelude.{ℕ, zero, suc, _+_, _*_, _/_, _%_, min, not, cond, List, [], _∷_, _++_, length, getD, drop, ltb, eqb}
 use Rattle.spec.specs.Types.{Fields, Answer, Decoded, Word, RefusedWith, Taken, Short, Foreign, Oversize, Trailing, SmallOutput}
 use Rattle.types.specs.Names.{mostInstructions, numberOf, answer, refusal, outputOf, roomFor, first}

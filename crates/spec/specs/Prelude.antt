@@ -1,4 +1,4 @@
--- All that the definitions take from the kit, for the files beside this one to bring in by one line. Numbers are natural and without bound:
+-- Re-exports all that the definitions take from the kit, so that each file beside this one needs one line. Numbers are natural and without bound:
 -- x - y is 0 where y is greater, x / 0 is 0 and x % 0 is x; eqb, leb and ltb are the tests of ≡, ≤ and <. Element i of a list is
 -- `getD xs i d`, or d past its end, where `set xs i x` and `sets xs i ys` (ys written from i on) change nothing; of bits, `ones` counts those set,
 -- `leadingZeros k` and `trailingZeros k` the zeros above and below them in k, all k of 0. Of integers `pos n` is n and `negsuc n` is −(n + 1);

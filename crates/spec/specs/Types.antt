@@ -1,4 +1,4 @@
--- The types of `types` and their cases, for the files beside this one to bring in by one line.
+-- Re-exports the types of `types` and their cases, so that each file beside this one needs one line.
 pub use Rattle.types.specs.declared.Layout.{Layout}
 pub use Rattle.types.specs.declared.PolicyNumbers.{PolicyNumbers}
 pub use Rattle.types.specs.declared.Fields.{Fields}

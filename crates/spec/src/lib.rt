@@ -1,1 +1,1 @@
-// The rules: definitions and claims in specs/; no code, so that an edit of a definition is judged without any.
+// The rules as definitions in specs/, and the claims about them, proved in proofs/; no code.

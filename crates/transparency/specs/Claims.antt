@@ -1,4 +1,4 @@
--- What is claimed of a routine that behaves: the sandbox does not disturb it, in the machine and in the engine.
+-- Claims that the sandbox does not alter a well-behaved routine, in the machine and in the engine.
 use Prim.Native.Nat.{ℕ, _+_, _-_, _<_}
 use mathlib.Core.Path.{_≡_}
 use mathlib.Core.Bool.{true}

@@ -1,4 +1,4 @@
--- A routine run as it is: raw addresses, raw jump targets, no policy; and when it behaves well.
+-- A raw run: raw addresses, raw jump targets, no policy; and when a routine is well-behaved.
 use Prim.Native.Nat.{ℕ, zero, suc, _+_, _<_}
 use mathlib.Core.Path.{_≡_}
 use mathlib.Core.Bool.{true, cond}

@@ -1,4 +1,4 @@
--- A sample on the premises: a routine with STORE, LOAD, GOX, an order and a reading, which behaves to its end.
+-- A sample that satisfies the premises: a well-behaved routine with STORE, LOAD, GOX, an order and a reading.
 use Prim.Native.Nat.{ℕ}
 use mathlib.Core.Path.{_≡_}
 use mathlib.Core.List.{List, [], _∷_, _++_}

@@ -1,1 +1,1 @@
-// Request 14: a well-behaved routine is not disturbed. Definitions and claims in specs/; no code.
+// Request 14: claims that the sandbox does not alter a well-behaved routine; no code.

@@ -1,6 +1,5 @@
-// Tries the sample tray's case that no theorem has, routines of 1,023 and 1,024 instructions, and
-// damaged routines for each number by which reading and rewriting refuse. A line each: the case,
-// its answer's number and its place.
+// Tries the cases of the sample tray that are no theorem, and damaged routines for each refusal of reading and rewriting.
+// Prints a line for each case: its name, the answer's number and its place.
 pub mod reading;
 
 use lines::print_case;

@@ -1,4 +1,4 @@
-// Routines of 1,023 and 1,024 instructions to read, and damaged ones for each number by which reading refuses.
+// The cases of reading: routines of 1,023 and 1,024 instructions, and a damaged one for each refusal.
 use lines::print_case;
 use types::Instr;
 

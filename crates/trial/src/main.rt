@@ -1,5 +1,5 @@
-// Tries the routine on standard input, in document 01's layout and policy: prints its answer and,
-// where that is 0, what one run records and how it ends.
+// Loads the routine on standard input, in document 01's layout and policy, and runs it once.
+// Prints the answer and, where that is 0, what the run records and how it ends.
 use libc::STDIN_FILENO;
 use lines::print;
 use types::Bundle;

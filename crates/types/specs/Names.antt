@@ -1,4 +1,4 @@
--- The numbers of document 01 and of the requests that change its rules, each named once; the numbers of refusals and endings; what an answer is and leaves.
+-- The numbers of document 01 and of the change requests, each named once, with refusals, endings and answers.
 use Prim.Native.Nat.{ℕ, _+_, _-_, _*_, _^_}
 use mathlib.Core.Bool.{Bool, cond}
 use mathlib.Core.List.{List, [], _∷_, _++_}

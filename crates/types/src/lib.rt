@@ -1,4 +1,4 @@
-// The types that the sandbox's parts share, their named numbers, and the constructors of layout, machine, answer and outcome.
+// The types and named numbers that all crates share, with constructors for layout, machine, answer and outcome.
 ghost use mathlib.Core.Path.{_≡_};
 ghost use Rattle.types.specs.declared.Ending.the-variants.{Refused};
 ghost use Rattle.types.specs.declared.Refusal.the-variants.{Taken};

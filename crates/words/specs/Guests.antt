@@ -1,2 +1,2 @@
--- The guest's registers in a word, passed on.
+-- Re-exports the test of a word's guest registers.
 pub use Rattle.words.specs.fields.Guests.{onlyGuestRegisters}

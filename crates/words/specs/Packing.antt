@@ -1,4 +1,4 @@
--- What a bundle is made of: words of fields that are cut, passed on, and an instruction that is valid.
+-- What packing a bundle's words needs: fields truncated to their widths, and a valid instruction.
 pub use Rattle.words.specs.fields.Truncation.{truncatedWord}
 use Prim.Native.Nat.{ℕ, _^_, _<_, _≤_}
 use mathlib.Core.Path.{_≡_}

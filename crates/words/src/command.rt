@@ -1,4 +1,4 @@
-// Command words: whether a word is a command, and which.
+// Tells whether a word is a command, and which.
 use crate::fields::field;
 use crate::fields::fields;
 use types::Command;

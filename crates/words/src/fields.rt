@@ -1,4 +1,4 @@
-// The fields of a word: taken apart, packed, and the instruction that they stand for; and the bits that no word of a kind has.
+// Unpacks the fields of a word, packs them, and gives the instruction that they stand for.
 pub mod field;
 
 use types::Fields;

@@ -1,4 +1,4 @@
-// The first refusal of a guest word.
+// The first refusal of a guest word on its own.
 use crate::fields::field;
 use crate::fields::fields;
 use crate::fields::only_guest_registers;

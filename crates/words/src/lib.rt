@@ -1,5 +1,5 @@
-// Words of 64 bits and cells of 32: guest words and command words, a module each; and, passed on, the tests of a layout, the
-// count of bundles, and arithmetic.
+// Guest words and command words: their fields, and what refuses one.
+// It re-exports the modules of `layout` and `arith` on which rewriter and checker stand.
 pub mod command;
 pub mod fields;
 pub mod guest;

@@ -1,4 +1,4 @@
-// The first refusal of an instruction, by its fields.
+// The first refusal of an instruction, from its fields.
 use types::Fields;
 use types::Instr;
 use types::Limits;

@@ -1,4 +1,4 @@
-// The first refusal of a guest word among others, and the first among the words of a routine.
+// The first refusal in a routine: of a word among n, and among all its words.
 use crate::fields::field;
 use crate::guest::is_instruction;
 use crate::guest::refusal_by_fields;

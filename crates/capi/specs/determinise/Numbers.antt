@@ -1,4 +1,4 @@
--- What is made of a C host's numbers, and the numbers that it gets.
+-- What `hemdroas_determinise` takes and answers, in numbers.
 use Prim.Native.Nat.{ℕ, _^_}
 use mathlib.Core.Bool.{cond}
 use mathlib.Core.List.{List}

@@ -1,4 +1,4 @@
--- What is made of a C host's numbers, and the numbers that it gets.
+-- What `hemdroas_merge` takes, answers and leaves, in numbers.
 use Prim.Native.Nat.{ℕ}
 use mathlib.Core.List.{List, [], _∷_}
 use lib.ListN.{length, getD}

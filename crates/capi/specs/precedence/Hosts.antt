@@ -1,4 +1,4 @@
--- What a C host is told of a policy that was made.
+-- What `hemdroas_precedence` answers, in numbers.
 use Prim.Native.Nat.{ℕ}
 use mathlib.Core.List.{List}
 use Rattle.capi_spec.specs.Numbers.{madeTo}

@@ -1,4 +1,4 @@
--- What a C host is told of a word of a policy's table.
+-- What `hemdroas_word_right` answers: 1 for yes, 0 for no.
 use Prim.Native.Nat.{ℕ}
 use mathlib.Core.Bool.{Bool, true, false}
 

@@ -1,4 +1,4 @@
--- What is claimed of the engine's record in a C host's numbers, as `capi_spec` claims it of the machine's, and of calls of hemdroas_engine_run.
+-- Claims about calls of `hemdroas_engine_run`: the record survives the round trip through numbers, and calls are isolated.
 use Prim.Native.Nat.{ℕ, _+_}
 use mathlib.Core.Path.{_≡_}
 use mathlib.Core.List.{List, [], map}

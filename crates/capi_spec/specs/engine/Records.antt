@@ -1,4 +1,4 @@
--- The numbers in which a C host holds the engine's record and its answer, and what it holds after a call.
+-- The engine's record and answer as arrays of numbers, and what a call answers and leaves.
 use Prim.Native.Nat.{ℕ}
 use mathlib.Core.List.{List, [], _∷_}
 use Rattle.types.specs.Names.{guestRegisters}

@@ -1,5 +1,5 @@
--- A sample on the premise of HostEngineIsolation: the routine and drum of `capi_spec`' sample, loaded, then run by the engine in two calls with a
--- refused one between.
+-- A sample that satisfies HostEngineIsolation's premise: the routine and drum of this crate's other sample, loaded, then run by the
+-- engine in two calls with a refused one between.
 use Prim.Native.Nat.{ℕ}
 use mathlib.Core.Path.{_≡_}
 use mathlib.Core.List.{List, [], _∷_, map}

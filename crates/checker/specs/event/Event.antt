@@ -1,4 +1,4 @@
--- The tests of an event's words.
+-- The test of an EVENT bundle's words.
 use Prim.Native.Nat.{ℕ}
 use mathlib.Core.Bool.{Bool, _&&_}
 use lib.Dec.{ltb, eqb}

@@ -1,4 +1,4 @@
--- The tests of a LOAD's and a STORE's words.
+-- The tests of a LOAD or STORE bundle's words.
 use Prim.Native.Nat.{ℕ}
 use mathlib.Core.Bool.{Bool, _&&_, cond}
 use lib.Dec.{ltb, eqb}

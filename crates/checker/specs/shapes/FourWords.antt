@@ -1,4 +1,4 @@
--- The test of four words, of whatever shape.
+-- The test of four words against every shape.
 use Prim.Native.Nat.{ℕ}
 use mathlib.Core.Bool.{Bool, _&&_, _||_}
 use lib.Dec.{eqb}

@@ -1,4 +1,4 @@
--- The tests of a command and three that do nothing.
+-- The tests of bundles of one command and three NOPs.
 use Prim.Native.Nat.{ℕ, _-_, _/_}
 use mathlib.Core.Bool.{Bool, _&&_}
 use lib.Dec.{ltb, eqb}

@@ -1,4 +1,4 @@
--- Two bytes, as the code reads them.
+-- Two bytes as one number.
 use Prim.Native.Nat.{ℕ, _+_, _*_}
 use mathlib.Core.List.{List}
 use lib.ListN.{getD}

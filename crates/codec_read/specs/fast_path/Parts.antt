@@ -1,4 +1,4 @@
--- Parts of an instruction's bytes on the fast path, as the code reads them.
+-- What the fast path reads of an instruction's bytes, and what it promises.
 use Prim.Native.Nat.{ℕ, _+_, _*_, _/_, _%_, _≤_, _<_}
 use mathlib.Core.Path.{_≡_}
 use mathlib.Core.Bool.{Bool, _&&_, not}

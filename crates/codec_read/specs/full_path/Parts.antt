@@ -1,4 +1,4 @@
--- Parts of an instruction's bytes, as the code reads them.
+-- The fields of an instruction in two halves, as the full path reads them.
 use Prim.Native.Nat.{ℕ, _+_, _/_, _%_}
 use mathlib.Core.List.{List}
 use Rattle.types.specs.declared.Fields.{Fields}

@@ -1,4 +1,4 @@
--- The widths of fields in the byte form.
+-- The number of bytes that an instruction's fields take.
 use Prim.Native.Nat.{ℕ, _+_, _*_, _<_}
 use Rattle.types.specs.declared.Fields.{Fields}
 use Rattle.spec.specs.Bytes.{bitOf}

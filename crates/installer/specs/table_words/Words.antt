@@ -1,4 +1,4 @@
--- The test of one word of a policy's table, four bytes together.
+-- The test of one word of a policy's table, four bytes at once.
 use Prim.Native.Nat.{ℕ, zero, suc, _/_, _%_}
 use mathlib.Core.Bool.{Bool, _&&_}
 use mathlib.Core.List.{List, [], _∷_}

@@ -1,4 +1,4 @@
--- Commands whose registers are the machine's and whose numbers have 32 bits, as those of a word are.
+-- Commands whose registers and numbers are in range, as those of every word are.
 use Prim.Native.Nat.{_≤_, _<_}
 use Rattle.types.specs.declared.Command.{Command}
 use Rattle.types.specs.declared.Command.the-variants.{Nop, Halt, Plain, Load, Store, GoIf, GoReg, Look, StopIf, Keep, Event, Invalid}

@@ -1,4 +1,4 @@
--- What holds below a number, numbers as maps of bits, and lists by their places.
+-- Natural numbers as bit maps, and tests, counts and lists over the numbers below n.
 use Prim.Native.Nat.{ℕ, zero, suc, _+_, _^_}
 use mathlib.Core.Bool.{Bool, true, false, _&&_, _||_, cond}
 use mathlib.Core.List.{List, [], _∷_, _++_}

@@ -1,4 +1,4 @@
--- Request 11, 'This before that': the policy of a list of pairs of events.
+-- Request 11, 'This before that': the policy made from a list of pairs of events.
 use Prim.Native.Nat.{ℕ, zero, suc, _+_, _*_, _/_, _%_, _^_, _≤_}
 use mathlib.Core.Path.{_≡_}
 use mathlib.Core.Bool.{Bool, true, _&&_, _||_, not, cond}

@@ -1,4 +1,4 @@
--- What is claimed of the nodes and of their policy, for every `next` that has no arrow out of 0 and for events 0 to 15 only.
+-- Claims about the nodes reached and their policy, for every `next` with no arrow out of 0 and for events 0 to 15 only.
 use Prim.Native.Nat.{ℕ, _+_, _*_, _<_, _≤_}
 use mathlib.Core.Path.{_≡_}
 use mathlib.Core.Bool.{true, false, not}

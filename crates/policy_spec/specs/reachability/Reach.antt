@@ -1,4 +1,4 @@
--- The nodes that events lead to from a start, numbered as first met, and the policy of their numbers; of requests 7 and 8.
+-- Requests 7 and 8: the nodes that events reach from a start, numbered as first met, and the policy of their numbers.
 -- A node is a number above 0. `next x e` is the node after event e in node x, or 0 where there is none.
 use Prim.Native.Nat.{ℕ, zero, suc, _*_, _/_, _%_}
 use mathlib.Core.Bool.{Bool, _||_, not, cond}

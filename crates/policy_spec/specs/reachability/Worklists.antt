@@ -1,4 +1,4 @@
--- The exploration as the code keeps it: the nodes in an array with room for one too many, and the arrows' numbers.
+-- The work list of the search as the code keeps it: the nodes in an array with room for one too many, and the arrows' numbers.
 use Prim.Native.Nat.{ℕ, _+_, _*_, _≤_}
 use mathlib.Core.Path.{_≡_}
 use mathlib.Core.Bool.{Bool, false, _&&_, _||_, not, cond}

@@ -1,4 +1,4 @@
--- A sample on the claims' premises: the routine of document 01's trial, in two runs of the engine with a refused one between.
+-- A sample that satisfies the engine's premises: the routine of document 01's trial, in two runs with a refused one between.
 use Prim.Native.Nat.{ℕ, _+_}
 use mathlib.Core.Path.{_≡_}
 use mathlib.Core.List.{List, [], _∷_, map}

@@ -1,4 +1,4 @@
--- What rewriting answers for words that were read, without the words.
+-- The answer of rewriting for words that were read, without keeping them.
 use Prim.Native.Nat.{ℕ}
 use mathlib.Core.Bool.{not}
 use mathlib.Core.List.{[], _∷_}

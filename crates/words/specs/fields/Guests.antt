@@ -1,4 +1,4 @@
--- The guest's registers in a word.
+-- Whether the register fields of a word name only guest registers.
 use Prim.Native.Nat.{ℕ}
 use mathlib.Core.Bool.{Bool, _&&_}
 use lib.Dec.{ltb}

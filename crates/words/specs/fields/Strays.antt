@@ -1,4 +1,4 @@
--- The bits that no word of a kind has, from the limits of its fields.
+-- The reserved bits of each kind of word, from the limits of its fields.
 use Prim.Native.Nat.{ℕ, _+_, _-_, _*_, _^_}
 use mathlib.Core.Bool.{cond}
 use lib.Dec.{eqb}

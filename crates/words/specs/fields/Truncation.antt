@@ -1,4 +1,4 @@
--- Fields too great for a word, as packing takes them.
+-- Fields truncated to their widths in a word, as packing takes them.
 use Prim.Native.Nat.{ℕ, _%_, _^_}
 use Rattle.types.specs.declared.Fields.{Fields}
 use Rattle.spec.specs.Words.{packOf}

@@ -1,4 +1,4 @@
-// The fields of a word, one by one: kind in bits 0 to 7, d from 8, a from 12, b from 16, c from 20, zero bits from 24, v from 32.
+// One field of a word at a time: kind in bits 0 to 7, d from 8, a from 12, b from 16, c from 20, zero bits from 24, v from 32.
 ghost use mathlib.Core.Path.{_≡_};
 ghost use Prim.Native.Nat.{_/_, _%_, _^_, _<_};
 ghost use Rattle.spec.specs.Words.{kindOf, dOf, aOf, bOf, cOf, zeroOf, vOf};
