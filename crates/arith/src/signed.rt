@@ -24,7 +24,7 @@ fn to_bits(z: i32) -> u32
 }
 
 // A shift past a cell's last bit leaves the sign alone, as the shift to that bit does.
-fn to_last_bit(v: u32) -> u32
+fn clamp_shift(v: u32) -> u32
     ensures { λ r. ⌜ r ≡ min v topShift ⌝ }
 {
     if v < Layout::CELL_BITS {
@@ -37,7 +37,7 @@ pub fn sar(x: u32, v: u32) -> u32
     ensures { λ r. ⌜ r ≡ sarOf x v ⌝ }
 {
     let z = to_signed(x);
-    let s = to_last_bit(v);
+    let s = clamp_shift(v);
     to_bits(z >> s)
 }
 

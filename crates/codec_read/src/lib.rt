@@ -39,7 +39,7 @@ fn earliest(n: usize, past: usize, i: usize, w: u64) -> usize
 }
 
 // A word stored; nothing where there is no room.
-fn put(words: &mut [u64], at: usize, w: u64)
+fn set_word(words: &mut [u64], at: usize, w: u64)
     ensures { λ _. ⌜ now (words .exit) ≡ set (now (words .entry)) at w ⌝ }
 {
     if at < words.len() {
@@ -62,7 +62,7 @@ pub fn scan(s: &[u8], n: usize, words: &mut [u64]) -> Scanned
         match o {
             Decoded::Word(w, used) => {
                 past = earliest(n, past, i, w);
-                put(words, i, w);
+                set_word(words, i, w);
                 t = &t[used..];
                 i += 1;
             }

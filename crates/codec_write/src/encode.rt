@@ -8,7 +8,7 @@ ghost use Prim.Native.Nat.{_+_, _*_, _/_, _%_, _≤_, _<_};
 ghost use lib.ListN.{length, set};
 ghost use lib.Seq.{sets as stores};
 ghost use Rattle.spec.specs.Bytes.{bitOf, byteOut, quadOut, regsOut, fieldsOut, encodeOne};
-ghost use Rattle.codec_write.specs.encode.Widths.{encodedSize, Small};
+ghost use Rattle.codec_write.specs.encode.Widths.{encodedSize, ByteFields};
 
 // A field of one byte, left out where it is 0.
 fn put_byte(bytes: &mut [u8], at: usize, x: u64) -> usize
@@ -65,7 +65,7 @@ fn put_two(bytes: &mut [u8], at: usize, x: u64, y: u64) -> usize
 }
 
 fn put_regs(bytes: &mut [u8], at: usize, f: Fields) -> usize
-    requires { ⌜ (at + bitOf (f .d) + bitOf (f .a) + bitOf (f .b) + bitOf (f .c) ≤ length (now bytes)) × Small f ⌝ }
+    requires { ⌜ (at + bitOf (f .d) + bitOf (f .a) + bitOf (f .b) + bitOf (f .c) ≤ length (now bytes)) × ByteFields f ⌝ }
     ensures next { λ r. ⌜ r ≡ at + bitOf (f .d) + bitOf (f .a) + bitOf (f .b) + bitOf (f .c) ⌝ }
     ensures content { λ _. ⌜ now (bytes .exit) ≡ stores (now (bytes .entry)) at (regsOut f) ⌝ }
 {
@@ -74,7 +74,7 @@ fn put_regs(bytes: &mut [u8], at: usize, f: Fields) -> usize
 }
 
 fn put_fields(bytes: &mut [u8], at: usize, f: Fields) -> usize
-    requires { ⌜ (at + encodedSize f ≤ length (now bytes)) × Small f ⌝ }
+    requires { ⌜ (at + encodedSize f ≤ length (now bytes)) × ByteFields f ⌝ }
     ensures next { λ r. ⌜ r ≡ at + encodedSize f ⌝ }
     ensures content { λ _. ⌜ now (bytes .exit) ≡ stores (now (bytes .entry)) at (fieldsOut f) ⌝ }
 {
@@ -85,7 +85,7 @@ fn put_fields(bytes: &mut [u8], at: usize, f: Fields) -> usize
 }
 
 // The bytes of a word, from the place at on; the place after them.
-pub fn put_one(bytes: &mut [u8], at: usize, w: u64) -> usize
+pub fn encode_word(bytes: &mut [u8], at: usize, w: u64) -> usize
     requires { ⌜ at + length (encodeOne w) ≤ length (now bytes) ⌝ }
     ensures next { λ r. ⌜ r ≡ at + length (encodeOne w) ⌝ }
     ensures content { λ _. ⌜ now (bytes .exit) ≡ stores (now (bytes .entry)) at (encodeOne w) ⌝ }

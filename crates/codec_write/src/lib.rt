@@ -1,7 +1,7 @@
 // Writes a routine's words as bytes.
 pub mod encode;
 
-use crate::encode::put_one;
+use crate::encode::encode_word;
 use codec_read::map::map_of;
 use codec_read::map::size_of;
 use types::Answer;
@@ -53,13 +53,13 @@ fn emit(words: &[u64], bytes: &mut [u8], at: usize)
     let mut to = at;
     let mut i: usize = 0;
     while i < words.len() {
-        to = put_one(bytes, to, words[i]);
+        to = encode_word(bytes, to, words[i]);
         i += 1;
     }
 }
 
 // The count and the words' bytes.
-fn put_all(words: &[u64], bytes: &mut [u8])
+fn encode_all(words: &[u64], bytes: &mut [u8])
     requires { ⌜ (2 + length (bytesOf (now words)) ≤ length (now bytes)) × (length (now words) ≤ mostInstructions) ⌝ }
     ensures { λ _. ⌜ now (bytes .exit) ≡ stores (now (bytes .entry)) 0 (routineOf (now (words .entry))) ⌝ }
 {
@@ -86,7 +86,7 @@ pub fn write(words: &[u64], bytes: &mut [u8]) -> Answer
     let a = write_check(words, bytes.len());
     let refused = a.number;
     if refused == Refusal::TAKEN {
-        put_all(words, bytes);
+        encode_all(words, bytes);
     }
     a
 }

@@ -66,19 +66,19 @@ paused-waits lay ws rd s run =
     loop-ind (engineLoop lay ws rd) 0 0 s (λ (r : RunResult). PausedBy (r .outcome .answer .number) → (w : Ending) × (nextOf lay ws rd s ≡ Wait w)) (λ o. absurd (o run)) (λ _ w z p. (w, z))
     (λ _ go p. absurd (status-answers (stepOf lay ws rd s .status) (subst (λ (r : RunResult). PausedBy (r .outcome .answer .number)) (engineLoop lay ws rd .none 1 (stepOf lay ws rd s)) p)))
 
-act-waits : (lay : Layout) (N : ℕ) (i : Instr) (s : View) (w : Ending) → instrEffect lay N i s ≡ Wait w → (v : ℕ) × (i ≡ EVENT v)
+effect-waits : (lay : Layout) (N : ℕ) (i : Instr) (s : View) (w : Ending) → instrEffect lay N i s ≡ Wait w → (v : ℕ) × (i ≡ EVENT v)
 unfolding instrEffect
-act-waits lay N HALT s w z = no (cc)
-act-waits lay N (PLAIN k d a b v) s w z = no (cc)
-act-waits lay N (LOAD d a) s w z = no (cc)
-act-waits lay N (STORE a b) s w z = no (cc)
-act-waits lay N (GOIF a b c v) s w z =
+effect-waits lay N HALT s w z = no (cc)
+effect-waits lay N (PLAIN k d a b v) s w z = no (cc)
+effect-waits lay N (LOAD d a) s w z = no (cc)
+effect-waits lay N (STORE a b) s w z = no (cc)
+effect-waits lay N (GOIF a b c v) s w z =
     let P : Effect → Type 0 = λ x. x ≡ Wait w → (e : ℕ) × (GOIF a b c v ≡ EVENT e) in
     cond-ind P (holdsOf c (regAt s a) (regAt s b)) (λ _ y. no (cc)) (λ _ y. no (cc)) z
-act-waits lay N (GOX d a b c) s w z =
+effect-waits lay N (GOX d a b c) s w z =
     let P : Effect → Type 0 = λ x. x ≡ Wait w → (e : ℕ) × (GOX d a b c ≡ EVENT e) in
     cond-ind P (holdsOf c (regAt s a) (regAt s b)) (λ _. cond-ind P (marked (s .mem) (s .landings) (regAt s d % N)) (λ _ y. no (cc)) (λ _ y. no (cc))) (λ _ y. no (cc)) z
-act-waits lay N (EVENT v) s w z = (v, refl)
+effect-waits lay N (EVENT v) s w z = (v, refl)
 
 send-waits : (v : ℕ) (s : View) (w : Ending) → checkedEvent v s ≡ Wait w → (cellAt s (entryOf s v) ≡ noArrow → ⊥) × (eventEffect v (s .free) (s .left) ≡ Wait w)
 unfolding checkedEvent
@@ -98,7 +98,7 @@ unfolding instrEffectAt instrEffect
 waited lay ws rd s w l z =
     let N = bundlesFor (length ws) in
     let here : instrEffect lay N (routine ws (s .pc)) (viewAt lay rd s) ≡ Wait w = rw (lt-ltb (s .pc) N l) at z in
-    let i = act-waits lay N (routine ws (s .pc)) (viewAt lay rd s) w here in
+    let i = effect-waits lay N (routine ws (s .pc)) (viewAt lay rd s) w here in
     let y = send-waits (i .0) (viewAt lay rd s) w (sym (ap (λ (x : Instr). instrEffect lay N x (viewAt lay rd s)) (i .1)) ∙ here) in
     record { event = i .0; is = i .1; some = y .0; pauses = y .1 }
 

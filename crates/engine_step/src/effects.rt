@@ -18,7 +18,7 @@ ghost use mathlib.Core.Path.{_≡_};
 ghost use Prim.Native.Nat.{_+_};
 ghost use Rattle.spec.specs.Words.{instrOf, bundlesFor};
 ghost use Rattle.spec.specs.Machines.{viewOf};
-ghost use Rattle.engine_step.specs.fields.Named.{GuestFields};
+ghost use Rattle.engine_step.specs.fields.GuestFields.{GuestFields};
 ghost use Rattle.engine_spec.specs.Engines.{ValidatedWords, instrEffect, instrEffectAt};
 
 // What the word of an instruction would do, n of them in all. Single numbers, no range: so the match becomes one jump; and each arm takes

@@ -6,7 +6,7 @@ ghost use mathlib.Core.Path.{_≡_};
 ghost use lib.ListN.{getD};
 ghost use Rattle.spec.specs.Layouts.{maskOf};
 ghost use Rattle.spec.specs.Words.{dOf, aOf, bOf, vOf};
-ghost use Rattle.engine_step.specs.fields.Named.{GuestFields};
+ghost use Rattle.engine_step.specs.fields.GuestFields.{GuestFields};
 
 pub fn d_field(w: u64) -> usize
     ensures { λ r. ⌜ r ≡ dOf w ⌝ }

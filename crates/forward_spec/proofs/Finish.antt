@@ -1,4 +1,4 @@
--- It goes on, and it finishes.
+-- A resumed machine takes a step, and a routine of the class finishes.
 use mathlib.Core.Path.{_≡_, refl, sym, _∙_, ap}
 use mathlib.Core.Bool.{Bool, true, false}
 use mathlib.Core.Logic.{_⊎_, inl, inr, ⊎-elim}

@@ -11,7 +11,7 @@ use Rattle.types.specs.Names.{mostInstructions, bundleLength, answer}
 use Rattle.spec.specs.Words.{refusalAt, routine}
 use Rattle.spec.specs.Bundles.{bundleAt, checkAnswer}
 use Rattle.spec.proofs.Bools.{cond-ind}
-use Rattle.spec.proofs.Counts.{Bounded, at-start, or-else, first-bound, judge-at-small, check-bound}
+use Rattle.spec.proofs.Counts.{Bounded, at-start, or-else, first-bound, refusal-at-small, check-bound}
 use Rattle.spec.proofs.Conditions.{passed-of}
 use Rattle.forward_spec.specs.Forward.{forwardAt, forwardFrom, forwardAnswer, checkForwardAnswer}
 
@@ -28,7 +28,7 @@ unfolding forwardAnswer
 forward-bound ws =
     cond-ind (Bounded mostInstructions 0) (ltb mostInstructions (length ws)) (λ _. at-start _ _ _ (lit< tt))
     (λ e. let n : length ws ≤ mostInstructions = ltb-false _ _ e in
-    let b = first-bound (refusalAt (length ws)) (judge-at-small (length ws)) ws 0 mostInstructions 0 (answer 0 0) (omega arith) (at-start _ _ _ (lit< tt)) in
+    let b = first-bound (refusalAt (length ws)) (refusal-at-small (length ws)) ws 0 mostInstructions 0 (answer 0 0) (omega arith) (at-start _ _ _ (lit< tt)) in
     or-else mostInstructions 0 _ _ (b .number) (b .place) (λ _. scan-bound (routine ws) 0 (length ws) mostInstructions (omega arith)))
 
 pub check-forward-bound : (lay : Layout) (ws : List ℕ) → Bounded mostInstructions 0 (checkForwardAnswer lay ws)

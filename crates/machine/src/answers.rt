@@ -29,7 +29,7 @@ pub fn finish(regs: [u32; Machine::REGISTERS], at: Point, ending: Ending, steps:
 }
 
 // A run that no pause ended.
-pub fn over(regs: [u32; Machine::REGISTERS], at: Point, steps: u32) -> Outcome
+pub fn finish_unpaused(regs: [u32; Machine::REGISTERS], at: Point, steps: u32) -> Outcome
     ensures { λ r. ⌜ r ≡ outcomeOf (machineOf regs (at .pc) (at .status)) (endingOf (at .status)) steps (at .pairs) (at .used) ⌝ }
 {
     let status = at.status;

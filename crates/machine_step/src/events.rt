@@ -31,7 +31,7 @@ pub fn look(d: usize, cell: u32, table: u32, v: u32, memory: &[u32]) -> Effect
 }
 
 // An event's effect, or the pause before it for want of two free log cells.
-fn in_room(free: usize, e: Effect) -> Effect
+fn unless_log_full(free: usize, e: Effect) -> Effect
     ensures { λ r. ⌜ r ≡ ifRoom free e ⌝ }
 {
     if free < 2 {
@@ -45,10 +45,10 @@ pub fn event(v: u32, free: usize, left: usize) -> Effect
     ensures { λ r. ⌜ r ≡ eventEffect v free left ⌝ }
 {
     if v < PolicyNumbers::ORDERS {
-        return in_room(free, Effect::Order(v));
+        return unless_log_full(free, Effect::Order(v));
     }
     if left == 0 {
         return Effect::Wait(Ending::Silent);
     }
-    in_room(free, Effect::Probe(v))
+    unless_log_full(free, Effect::Probe(v))
 }

@@ -1,7 +1,7 @@
 -- Every claim of this crate is proved.
 use Rattle.policy_determinise.specs.Proved.{Proved}
 use Rattle.policy_determinise.proofs.Runs.{taken-makes, made-right, allowed-runs, sets-are-ends, sets-exact}
-use Rattle.policy_determinise.proofs.Samples.{worked}
+use Rattle.policy_determinise.proofs.Samples.{worked-examples}
 
 pub proved : Proved
 proved =
@@ -11,5 +11,5 @@ proved =
       allowedRuns = allowed-runs;
       setsAreEnds = sets-are-ends;
       setsExact = sets-exact;
-      worked = worked;
+      workedExamples = worked-examples;
     }

@@ -8,14 +8,14 @@ use Rattle.types.specs.declared.Layout.{Layout}
 use Rattle.types.specs.Names.{noArrow, answer}
 use Rattle.spec.specs.Policies.{allowed, rightPolicy}
 use Rattle.policy_spec.specs.maps.Maps.{bit}
-use Rattle.policy_spec.specs.reachability.Reach.{statesOf, few, madeWith, nodeAfter}
+use Rattle.policy_spec.specs.reachability.Reach.{statesOf, nodesFit, madeWith, nodeAfter}
 use Rattle.policy_spec.specs.reachability.Claims.{Exactly}
 use Rattle.policy_determinise.specs.Drawings.{Drawing, drawingOf, successors, setAfter, drawingRight, madePolicy, determiniseOf, determiniseTable}
 
 -- what is handed back and left with answer 0 is the policy of which the other claims speak
 pub record Makes (d : Drawing) (table : List ℕ) : Type 0 where
   pub right : drawingRight d ≡ true
-  pub few : few (setAfter d) (d .starts) ≡ true
+  pub few : nodesFit (setAfter d) (d .starts) ≡ true
   pub states : determiniseOf d (length table) .policy .states ≡ madePolicy d .states
   pub start : determiniseOf d (length table) .policy .start ≡ madePolicy d .start
   pub leaves : take (determiniseOf d (length table) .answer .place) (determiniseTable d table) ≡ madePolicy d .table
@@ -25,7 +25,7 @@ TakenMakes = (d : Drawing) (table : List ℕ) → determiniseOf d (length table)
 
 -- the policy can be installed under a layout with as many states
 abbrev pub MadeRight : Type 0
-MadeRight = (d : Drawing) (lay : Layout) → drawingRight d ≡ true → few (setAfter d) (d .starts) ≡ true → lay .states ≡ statesOf (setAfter d) (d .starts) → rightPolicy lay (madePolicy d) ≡ true
+MadeRight = (d : Drawing) (lay : Layout) → drawingRight d ≡ true → nodesFit (setAfter d) (d .starts) ≡ true → lay .states ≡ statesOf (setAfter d) (d .starts) → rightPolicy lay (madePolicy d) ≡ true
 
 -- a way through the drawing from state s to state t that follows a list of events
 pub data DrawingPath (d : Drawing) : ℕ → List ℕ → ℕ → Type 0 where
@@ -48,7 +48,7 @@ pub record FollowLaws (d : Drawing) (es : List ℕ) : Type 0 where
   pub allows : Followed d es → allowed (madePolicy d) es ≡ true
 
 abbrev pub AllowedRuns : Type 0
-AllowedRuns = (d : Drawing) (es : List ℕ) → drawingRight d ≡ true → few (setAfter d) (d .starts) ≡ true → FollowLaws d es
+AllowedRuns = (d : Drawing) (es : List ℕ) → drawingRight d ≡ true → nodesFit (setAfter d) (d .starts) ≡ true → FollowLaws d es
 
 -- the set after a list of events holds the states in which its runs end
 pub record SetLaws (d : Drawing) (es : List ℕ) (t : ℕ) : Type 0 where
@@ -80,7 +80,7 @@ fourth = drawn 1 3 ++ drawn 4 4 ++ drawn 8 8 ++ drawn 16 16 ++ drawn 0 0
 abbrev pub fifth : List ℕ
 fifth = drawn 1 3 ++ drawn 4 4 ++ drawn 8 8 ++ drawn 16 16 ++ drawn 32 32 ++ drawn 0 0
 
-pub record Worked : Type 0 where
+pub record WorkedExamples : Type 0 where
   pub sets : determiniseOf (drawingOf 2 1 both) 32 ≡ madeWith (answer 0 32) 2
   pub rows : madePolicy (drawingOf 2 1 both) .table ≡ row 1 255 ++ row 1 0
   pub starts : madePolicy (drawingOf 2 2 both) .table ≡ row 255 1 ++ row 2 255 ++ row 2 1

@@ -1,5 +1,5 @@
 -- Every claim of this crate, a field each: its one term is `proved`, in proofs/Proved.antt.
-use Rattle.policy_determinise.specs.Claims.{TakenMakes, MadeRight, AllowedRuns, SetsAreEnds, SetsExact, Worked}
+use Rattle.policy_determinise.specs.Claims.{TakenMakes, MadeRight, AllowedRuns, SetsAreEnds, SetsExact, WorkedExamples}
 
 pub record Proved : Type 0 where
   pub takenMakes : TakenMakes
@@ -7,4 +7,4 @@ pub record Proved : Type 0 where
   pub allowedRuns : AllowedRuns
   pub setsAreEnds : SetsAreEnds
   pub setsExact : SetsExact
-  pub worked : Worked
+  pub workedExamples : WorkedExamples

@@ -2,7 +2,7 @@
 use Rattle.policy_merge.specs.Proved.{Proved}
 use Rattle.policy_merge.proofs.Pairs.{taken-merges, merged-right, allowed-by-both, pairs-are-states, pairs-exact, ceilings-of-both, side-installs}
 use Rattle.policy_merge.proofs.Swaps.{merge-commutes}
-use Rattle.policy_merge.proofs.Samples.{worked}
+use Rattle.policy_merge.proofs.Samples.{worked-examples}
 
 pub proved : Proved
 proved =
@@ -15,5 +15,5 @@ proved =
       ceilingsOfBoth = ceilings-of-both;
       sideInstalls = side-installs;
       mergeCommutes = merge-commutes;
-      worked = worked;
+      workedExamples = worked-examples;
     }

@@ -3,8 +3,8 @@ use mathlib.Core.Path.{refl}
 use Rattle.policy_spec.specs.maps.Maps.{build}
 use Rattle.policy_spec.specs.reachability.Reach.{insert, reachedBy, tableOf, reachAnswer, reachOf}
 use Rattle.policy_merge.specs.Pairs.{both, pairAfter, sideRight, mergeMade, withCeilings, mergeOf}
-use Rattle.policy_merge.specs.Claims.{Worked}
+use Rattle.policy_merge.specs.Claims.{WorkedExamples}
 
-pub worked : Worked
+pub worked-examples : WorkedExamples
 unfolding build insert reachedBy tableOf reachAnswer reachOf both pairAfter sideRight mergeMade withCeilings mergeOf
-worked = record { pairs = refl; rows = refl; small = refl; many = refl; same = refl; bad = refl; bad-start = refl }
+worked-examples = record { pairs = refl; rows = refl; small = refl; many = refl; same = refl; bad = refl; bad-start = refl }

@@ -8,7 +8,7 @@ use Rattle.types.specs.declared.Answer.{Answer}
 use Rattle.types.specs.declared.Layout.{Layout}
 use Rattle.types.specs.Names.{orders, topWord, noArrow, answer}
 use Rattle.spec.specs.Policies.{Policy, policyOf, stateOver, allowed, statesRight, rightPolicy}
-use Rattle.policy_spec.specs.reachability.Reach.{statesOf, few, nodeAfter}
+use Rattle.policy_spec.specs.reachability.Reach.{statesOf, nodesFit, nodeAfter}
 use Rattle.policy_spec.specs.reachability.Claims.{Exactly}
 use Rattle.policy_merge.specs.declared.Merged.{Merged}
 use Rattle.policy_merge.specs.Pairs.{pair, pairAfter, startPair, sideRight, mergedPolicy, smaller, mergeOf, mergeTable}
@@ -16,7 +16,7 @@ use Rattle.policy_merge.specs.Pairs.{pair, pairAfter, startPair, sideRig
 -- what is handed back and left with answer 0 is the policy of which the other claims speak
 pub record Merges (a : Policy) (c : List ℕ) (b : Policy) (d table : List ℕ) : Type 0 where
   pub right : (sideRight a && sideRight b) ≡ true
-  pub few : few (pairAfter a b) (startPair a b) ≡ true
+  pub few : nodesFit (pairAfter a b) (startPair a b) ≡ true
   pub states : mergeOf a c b d (length table) .policy .states ≡ mergedPolicy a b .states
   pub start : mergeOf a c b d (length table) .policy .start ≡ mergedPolicy a b .start
   pub ceilings : mergeOf a c b d (length table) .ceilings ≡ smaller c d
@@ -26,26 +26,26 @@ abbrev pub TakenMerges : Type 0
 TakenMerges = (a : Policy) (c : List ℕ) (b : Policy) (d table : List ℕ) → mergeOf a c b d (length table) .answer .number ≡ 0 → Merges a c b d table
 
 -- two inputs that are not refused with 10 (bad policy)
-abbrev pub Right : Policy → Policy → Type 0
-Right a b = (sideRight a && sideRight b) ≡ true
+abbrev pub BothRight : Policy → Policy → Type 0
+BothRight a b = (sideRight a && sideRight b) ≡ true
 
 -- the merged policy can be installed under a layout with as many states
 abbrev pub MergedRight : Type 0
-MergedRight = (a b : Policy) (lay : Layout) → Right a b → few (pairAfter a b) (startPair a b) ≡ true → lay .states ≡ statesOf (pairAfter a b) (startPair a b) → rightPolicy lay (mergedPolicy a b) ≡ true
+MergedRight = (a b : Policy) (lay : Layout) → BothRight a b → nodesFit (pairAfter a b) (startPair a b) ≡ true → lay .states ≡ statesOf (pairAfter a b) (startPair a b) → rightPolicy lay (mergedPolicy a b) ≡ true
 
 -- 'The words of events it allows are exactly those that both allow'
 abbrev pub AllowedByBoth : Type 0
-AllowedByBoth = (a b : Policy) (es : List ℕ) → Right a b → few (pairAfter a b) (startPair a b) ≡ true → allowed (mergedPolicy a b) es ≡ (allowed a es && allowed b es)
+AllowedByBoth = (a b : Policy) (es : List ℕ) → BothRight a b → nodesFit (pairAfter a b) (startPair a b) ≡ true → allowed (mergedPolicy a b) es ≡ (allowed a es && allowed b es)
 
 -- the pair after a list of events is that of their states, if both allow it; else there is none
 abbrev pub PairsAreStates : Type 0
 PairsAreStates =
-    (a b : Policy) (es : List ℕ) → Right a b →
+    (a b : Policy) (es : List ℕ) → BothRight a b →
     nodeAfter (pairAfter a b) (startPair a b) es ≡ cond (allowed a es && allowed b es) (pair (stateOver a es) (stateOver b es)) 0
 
 -- the states are the pairs that are reached, each once; refused with 15 (too many states) exactly if there are more than 16
 abbrev pub PairsExact : Type 0
-PairsExact = (a b : Policy) → Right a b → Exactly (pairAfter a b) (startPair a b)
+PairsExact = (a b : Policy) → BothRight a b → Exactly (pairAfter a b) (startPair a b)
 
 -- what an order records under the merged ceilings is what it would under one side's and then the other's
 abbrev pub CeilingsOfBoth : Type 0
@@ -87,7 +87,7 @@ ceilings c = c ∷ 7 ∷ replicate 6 topWord
 abbrev pub mergedWith : Answer → ℕ → List ℕ → Merged
 mergedWith a s c = record { answer = a; policy = record { states = s; start = 0 }; ceilings = c }
 
-pub record Worked : Type 0 where
+pub record WorkedExamples : Type 0 where
   pub pairs : mergeOf turns (ceilings 5) single (ceilings 9) 48 ≡ mergedWith (answer 0 48) 3 (ceilings 5)
   pub rows : mergedPolicy turns single .table ≡ row 1 255 ++ row 255 2 ++ row 1 255
   pub small : mergeOf turns (ceilings 5) single (ceilings 9) 47 ≡ mergedWith (answer 9 0) 0 (replicate 8 0)

@@ -1,5 +1,5 @@
 -- Every claim of this crate, a field each: its one term is `proved`, in proofs/Proved.antt.
-use Rattle.policy_merge.specs.Claims.{TakenMerges, MergedRight, AllowedByBoth, PairsAreStates, PairsExact, CeilingsOfBoth, SideInstalls, MergeCommutes, Worked}
+use Rattle.policy_merge.specs.Claims.{TakenMerges, MergedRight, AllowedByBoth, PairsAreStates, PairsExact, CeilingsOfBoth, SideInstalls, MergeCommutes, WorkedExamples}
 
 pub record Proved : Type 0 where
   pub takenMerges : TakenMerges
@@ -10,4 +10,4 @@ pub record Proved : Type 0 where
   pub ceilingsOfBoth : CeilingsOfBoth
   pub sideInstalls : SideInstalls
   pub mergeCommutes : MergeCommutes
-  pub worked : Worked
+  pub workedExamples : WorkedExamples

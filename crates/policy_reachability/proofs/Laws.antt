@@ -9,7 +9,7 @@ use borrow.Author.Tests.{eq-eqb, ne-eqb, lt-ltb, le-ltb}
 use Rattle.types.specs.Names.{noArrow}
 use Rattle.policy_spec.specs.reachability.Reach.{indexOf}
 use Rattle.policy_spec.specs.declared.reachability.Worklist.{Worklist}
-use Rattle.policy_spec.specs.reachability.Worklists.{Sized, nodesOf, insertTarget}
+use Rattle.policy_spec.specs.reachability.Worklists.{WorklistSized, nodesOf, insertTarget}
 
 -- the place of a number, of which the first i are not it
 abbrev pub Sought : List ℕ → ℕ → ℕ → Type 0
@@ -49,7 +49,7 @@ pub step-none : (f : Worklist) (k x : ℕ) → x ≡ 0 → numbered f k noArrow 
 unfolding insertTarget
 step-none f k x e = rw e
 
-module _ (f : Worklist) (k x p : ℕ) (sized : Sized f) (z : x ≡ 0 → ⊥) (e : p ≡ indexOf (nodesOf f) x) where
+module _ (f : Worklist) (k x p : ℕ) (sized : WorklistSized f) (z : x ≡ 0 → ⊥) (e : p ≡ indexOf (nodesOf f) x) where
   size : length (nodesOf f) ≡ f .count
   size = length-take-le (f .count) (f .nodes) (omega (arith, sized .most, sized .nodes))
 

@@ -12,7 +12,7 @@ ghost use Prim.Native.Nat.{_+_, _*_, _/_, _≤_, _<_};
 ghost use lib.ListN.{length, getD, take};
 ghost use Rattle.types.specs.Names.{events, mostStates};
 ghost use Rattle.policy_spec.specs.reachability.Reach.{indexOf as placeOf};
-ghost use Rattle.policy_spec.specs.reachability.Worklists.{Sized, initialWorklist, insertTarget, hasPending};
+ghost use Rattle.policy_spec.specs.reachability.Worklists.{WorklistSized, initialWorklist, insertTarget, hasPending};
 
 // The initial work list: the start alone.
 pub fn begin(start: u16) -> Worklist
@@ -29,7 +29,7 @@ pub fn begin(start: u16) -> Worklist
 
 // Whether arrow k is one of a node that was found, and these are not too many.
 pub fn has_pending(f: Worklist, k: usize) -> bool
-    requires { ⌜ Sized f ⌝ }
+    requires { ⌜ WorklistSized f ⌝ }
     ensures { λ r. ⌜ r ≡ hasPending f k ⌝ }
 {
     (k < EVENTS * f.count) & (f.count <= MOST)
@@ -61,7 +61,7 @@ fn index_of_node(nodes: &[u16; NODES], n: usize, x: u16) -> usize
 
 // The worklist after arrow k, which leads to x.
 pub fn step(f: Worklist, k: usize, x: u16) -> Worklist
-    requires { ⌜ Sized f × (f .count ≤ mostStates) × (k < events * mostStates) ⌝ }
+    requires { ⌜ WorklistSized f × (f .count ≤ mostStates) × (k < events * mostStates) ⌝ }
     ensures { λ r. ⌜ r ≡ insertTarget f k x ⌝ }
 {
     let mut g = f;

@@ -13,7 +13,7 @@ ghost use Prim.Native.Nat.{_*_, _≤_};
 ghost use lib.ListN.{length, take, drop};
 ghost use Rattle.types.specs.Names.{events, mostStates, answer};
 ghost use Rattle.policy_spec.specs.reachability.Reach.{madeWith};
-ghost use Rattle.policy_spec.specs.reachability.Worklists.{Sized, writtenOf, writtenTable};
+ghost use Rattle.policy_spec.specs.reachability.Worklists.{WorklistSized, writtenOf, writtenTable};
 
 // A refusal: all else is 0.
 pub fn refused(number: u8) -> Made
@@ -42,7 +42,7 @@ fn copy(from: &[u8; ARROWS], to: &mut [u8], n: usize)
 
 // Writes the policy of the nodes found: its table from the start of the one lent.
 pub fn write(f: Worklist, table: &mut [u8]) -> Made
-    requires { ⌜ Sized f ⌝ }
+    requires { ⌜ WorklistSized f ⌝ }
     ensures made { λ r. ⌜ r ≡ writtenOf f (length (now (table .entry))) ⌝ }
     ensures table { λ _. ⌜ now (table .exit) ≡ writtenTable f (now (table .entry)) ⌝ }
 {

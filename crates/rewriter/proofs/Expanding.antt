@@ -16,7 +16,7 @@ use Rattle.spec.specs.Words.{instrOf, routine}
 use Rattle.spec.specs.Bundles.{bundleOf, bundlesFrom}
 use Rattle.spec.proofs.Bools.{cases}
 use Rattle.words.specs.Packing.{Packable}
-use Rattle.rewriter.specs.Rewriting.{Ready}
+use Rattle.rewriter.specs.Rewriting.{BundlesFit}
 use Rattle.rewriter.proofs.Filling.{fits}
 
 -- ---- what is stored above leaves what is below
@@ -66,7 +66,7 @@ module _ (l : Layout) (n k : ℕ) (out₀ : List ℕ) where
     instr-is : i ≡ is (h - 1)
     instr-is = ei ∙ rw e (routine-below k out₀ (bundleLength * h) (h - 1) (bundlesFrom l n is h (n - h)) (omega arith))
 
-    pub expand-packable : (room : ℕ) → Ready l n (take k out₀) room → Packable l n i
+    pub expand-packable : (room : ℕ) → BundlesFit l n (take k out₀) room → Packable l n i
     expand-packable room r = fits (take k out₀) (h - 1) l n room r i instr-is
 
     pub expand-more : h ≤ n → (out′ : List ℕ) → out′ ≡ sets out (bundleLength * (h - 1)) (bundleOf l n i .words) → Expanded (h - 1) out′

@@ -13,7 +13,7 @@ use Rattle.types.specs.Names.{bundleLength}
 use Rattle.spec.specs.Words.{instrOf, routine}
 use Rattle.spec.specs.Bundles.{bundleOf}
 use Rattle.words.specs.Packing.{Packable}
-use Rattle.rewriter.specs.Rewriting.{Ready}
+use Rattle.rewriter.specs.Rewriting.{BundlesFit}
 
 -- ---- one instruction and its words
 
@@ -26,7 +26,7 @@ module _ (ws : List ℕ) (h : ℕ) where
   unfolding routine instrOf
   routine-past g = rw (List·getD-eq-default ws 0 g)
 
-  pub fits : (l : Layout) (n room : ℕ) → Ready l n ws room → (i : Instr) → i ≡ routine ws h → Packable l n i
+  pub fits : (l : Layout) (n room : ℕ) → BundlesFit l n ws room → (i : Instr) → i ≡ routine ws h → Packable l n i
   fits l n room r i e = record { some = r .some; most = r .most; top = r .top; valid = rw e (r .each h) }
 
 pub put-four : (out : List ℕ) (at w x y z : ℕ) → set (set (set (set out at w) (at + 1) x) (at + 2) y) (at + 3) z ≡ sets out at (w ∷ x ∷ y ∷ z ∷ [])
@@ -34,7 +34,7 @@ put-four out at w x y z = simp towards-suc
 
 -- ---- one bundle
 
-pub ready-room : (l : Layout) (n room room′ : ℕ) (ws : List ℕ) → Ready l n ws room → room′ ≡ room → bundleLength * n ≤ room′
+pub ready-room : (l : Layout) (n room room′ : ℕ) (ws : List ℕ) → BundlesFit l n ws room → room′ ≡ room → bundleLength * n ≤ room′
 ready-room l n room room′ ws r e = rw e (r .fit)
 
 pub put-bundle : (l : Layout) (n h : ℕ) (i : Instr) (b : Bundle) → b ≡ bundleOf l n i

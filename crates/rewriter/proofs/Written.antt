@@ -23,7 +23,7 @@ use Rattle.spec.proofs.Layouts.{layout-facts}
 use Rattle.spec.proofs.Masks.{base-room}
 use Rattle.spec.proofs.Conditions.{Taken, taken-of, size-laws, count-most, routine-valid, routine-length}
 use Rattle.buffers.proofs.stores.Storing.{store-front}
-use Rattle.rewriter.specs.Rewriting.{Ready}
+use Rattle.rewriter.specs.Rewriting.{BundlesFit}
 
 -- facts of an instruction as the test of it
 valid-of : (n : ℕ) (i : Instr) → Valid n i → valid n i ≡ true
@@ -60,7 +60,7 @@ module _ (l : Layout) (ws : List ℕ) (room : ℕ) where
     pub short : length ws < 2 ^ 32
     short = omega (arith, taken .most)
 
-    pub ready : (k : ℕ) → k ≡ bundlesFor (length ws) → Ready l k ws room
+    pub ready : (k : ℕ) → k ≡ bundlesFor (length ws) → BundlesFit l k ws room
     ready k ek =
         record {
           some = omega (arith, ek, size-laws l ws taken .above);
@@ -105,7 +105,7 @@ module _ (l : Layout) (ws out : List ℕ) (a : Answer) (ea : a ≡ rewriteAnswer
       list-long = omega (arith, same-length, words-fit)
 
       module _ (n : ℕ) (en : n ≡ bundlesFor k) where
-        pub list-ready : Ready l n (take k out₁) (length out₁)
+        pub list-ready : BundlesFit l n (take k out₁) (length out₁)
         list-ready = rw (words-at, same-length) (ready l ws (length out) a ea z n (en ∙ rw ek))
 
         pub list-written : (out′ : List ℕ) → out′ ≡ sets out₁ 0 (bundlesFrom l n (routine (take k out₁)) 0 n) → out′ ≡ sets out 0 (commandsOf l ws)

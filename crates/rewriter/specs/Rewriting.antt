@@ -9,7 +9,7 @@ use Rattle.spec.specs.Words.{routine}
 use Rattle.spec.specs.Bundles.{addressOf, valid}
 
 -- n bundles that end at 2 ^ 32 or before it, room for them, and each instruction valid among them
-pub record Ready (l : Layout) (n : ℕ) (ws : List ℕ) (room : ℕ) : Type 0 where
+pub record BundlesFit (l : Layout) (n : ℕ) (ws : List ℕ) (room : ℕ) : Type 0 where
   pub some : 0 < n
   pub most : n ≤ mostBundles
   pub top : addressOf l n ≤ 2 ^ 32

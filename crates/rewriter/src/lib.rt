@@ -21,7 +21,7 @@ ghost use Rattle.types.specs.Names.{bundleLength};
 ghost use Rattle.spec.specs.Words.{routine};
 ghost use Rattle.spec.specs.Bundles.{bundleOf, bundlesFrom, rewriteAnswer, rewriteOutput};
 ghost use Rattle.words.specs.Packing.{Packable};
-ghost use Rattle.rewriter.specs.Rewriting.{Ready};
+ghost use Rattle.rewriter.specs.Rewriting.{BundlesFit};
 
 // Instruction h of a routine; those past its words are HALT.
 fn instruction_at(words: &[u64], h: usize) -> Instr
@@ -63,7 +63,7 @@ fn write_bundle(layout: Layout, n: usize, i: Instr, h: usize, commands: &mut [u6
 // The bundles of the k words at the start of a list, in place of them. The last goes first: bundle h lies from 4h on, so
 // that it covers no word before word h.
 pub fn expand(layout: Layout, n: usize, k: usize, commands: &mut [u64])
-    requires { ⌜ Ready layout n (take k (now commands)) (length (now commands)) × (k ≤ length (now commands)) ⌝ }
+    requires { ⌜ BundlesFit layout n (take k (now commands)) (length (now commands)) × (k ≤ length (now commands)) ⌝ }
     ensures { λ _. ⌜ now (commands .exit) ≡ sets (now (commands .entry)) 0 (bundlesFrom layout n (routine (take k (now (commands .entry)))) 0 n) ⌝ }
 {
     let mut h = n;

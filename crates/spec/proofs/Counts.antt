@@ -76,9 +76,9 @@ first-bound judge s (w ∷ ws) i m r z h b =
 
 -- ---- reading and writing
 
-judge-small : (x : Bool) (f : Fields) → fieldsRefusal x f < 2 ^ 8
+refusal-small : (x : Bool) (f : Fields) → fieldsRefusal x f < 2 ^ 8
 unfolding fieldsRefusal
-judge-small x f =
+refusal-small x f =
     cond-ind (λ (n : ℕ). n < 2 ^ 8) (ltb topKind (f .kind)) (λ _. lit< tt)
     (λ _. cond-ind (λ (n : ℕ). n < 2 ^ 8) (x || hasStray (guestLimits (f .kind)) f) (λ _. lit< tt)
     (λ _. cond-ind (λ (n : ℕ). n < 2 ^ 8) (hasHigh (guestLimits (f .kind)) f) (λ _. lit< tt) (λ _. lit< tt)))
@@ -94,7 +94,7 @@ one-small s =
     (λ _. cond-ind SmallOne (ltb 63 (getD s 0 0)) (λ _. lit< tt)
     (λ _. cond-ind SmallOne (ltb (length s) (sizeOf (getD s 0 0))) (λ _. lit< tt)
     (λ _. cond-ind SmallOne (eqb (fieldsRefusal (not (eqb (getD s 0 0) (mapOf (fieldsAt (getD s 0 0) s)))) (fieldsAt (getD s 0 0) s)) 0) (λ _. tt)
-    (λ _. judge-small _ _))))
+    (λ _. refusal-small _ _))))
 
 -- place i of a refusal, and i + n of n instructions taken
 scan-bound : (n i m : ℕ) (s : List ℕ) → i + n ≤ m → Bounded m m (scanOf n i s)
@@ -133,15 +133,15 @@ unfolding writeAnswer
 write-bound ws room =
     cond-ind (Bounded mostBytes room) (ltb mostInstructions (length ws)) (λ _. at-start _ _ _ (lit< tt))
     (λ e. let n : length ws ≤ mostInstructions = ltb-false _ _ e in
-    first-bound wordRefusal (λ w. judge-small _ _) ws 0 mostBytes room _ (omega arith)
+    first-bound wordRefusal (λ w. refusal-small _ _) ws 0 mostBytes room _ (omega arith)
     (room-bound _ _ _ (omega (arith, length-routine ws, bytes-bound ws))))
 
 -- ---- rewriting and checking
 
-pub judge-at-small : (n w : ℕ) → refusalAt n w < 2 ^ 8
+pub refusal-at-small : (n w : ℕ) → refusalAt n w < 2 ^ 8
 unfolding refusalAt
-judge-at-small n w =
-    unless-ind (λ (x : ℕ). x < 2 ^ 8) (eqb (wordRefusal w) 0) (λ _. judge-small _ _)
+refusal-at-small n w =
+    unless-ind (λ (x : ℕ). x < 2 ^ 8) (eqb (wordRefusal w) 0) (λ _. refusal-small _ _)
     (λ _. cond-ind (λ (x : ℕ). x < 2 ^ 8) (eqb (kindOf w) (guest .goif) && ltb n (vOf w)) (λ _. lit< tt) (λ _. lit< tt))
 
 -- at most 1,024 bundles
@@ -157,7 +157,7 @@ rewrite-bound lay ws room =
     unless-ind (Bounded mostCommands room) (rightLayout lay) (λ _. at-start _ _ _ (lit< tt))
     (λ _. cond-ind (Bounded mostCommands room) (ltb mostInstructions (length ws)) (λ _. at-start _ _ _ (lit< tt))
     (λ e. let n : length ws ≤ mostInstructions = ltb-false _ _ e in
-    first-bound (refusalAt (length ws)) (judge-at-small (length ws)) ws 0 mostCommands room _ (omega arith)
+    first-bound (refusalAt (length ws)) (refusal-at-small (length ws)) ws 0 mostCommands room _ (omega arith)
     (unless-ind (Bounded mostCommands room) (baseRight lay (bundlesFor (length ws))) (λ _. at-start _ _ _ (lit< tt))
     (λ _. room-bound _ _ _ (count-bound (length ws) n)))))
 

@@ -1,4 +1,4 @@
--- Lists of runs, the machine's and the engine's alike. The laws of lists are here once.
+-- Laws of lists of runs, for machine and engine.
 use mathlib.Core.Path.{_≡_, refl, sym, _∙_, ap}
 use mathlib.Core.Bool.{false}
 use mathlib.Core.List.{List, [], _∷_, _++_, append-assoc, append-nil}

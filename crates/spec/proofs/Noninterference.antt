@@ -1,4 +1,4 @@
--- Isolation (d): two lists of runs that are alike in all but free cells and what the logs held do the same, run by run.
+-- Isolation (d), noninterference: two lists of runs that differ only in free cells and old logs do the same, run by run.
 use mathlib.Core.Path.{_≡_, refl, sym, _∙_, ap, subst}
 use mathlib.Core.Bool.{Bool, true, false, _&&_}
 use mathlib.Core.Logic.{⊎-elim}
@@ -301,8 +301,8 @@ record Within (lay : Layout) (pol : Policy) (n : ℕ) (is : ℕ → Instr) (g0 :
   begun : ℕ
   known : RunInvariant lay pol n is past before rd g0 begun s
 
-watched : (lay : Layout) (pol : Policy) (ws : List ℕ) (n : ℕ) (is : ℕ → Instr) (g0 : Guest) → Right lay pol n → Bundled lay ws n is → Invariant lay ws (Within lay pol n is g0) (SessionInvariant lay pol n is g0)
-watched lay pol ws n is g0 ok bs =
+invariant-after : (lay : Layout) (pol : Policy) (ws : List ℕ) (n : ℕ) (is : ℕ → Instr) (g0 : Guest) → Right lay pol n → Bundled lay ws n is → Invariant lay ws (Within lay pol n is g0) (SessionInvariant lay pol n is g0)
+invariant-after lay pol ws n is g0 ok bs =
     record {
       safe =
           λ rd s w run.
@@ -318,7 +318,7 @@ watched lay pol ws n is g0 ok bs =
 pub noninterference : (lay : Layout) (pol : Policy) (ws mem : List ℕ) (gs : List RunInput) (n : ℕ) (is : ℕ → Instr) → Right lay pol n → Bundled lay ws n is → SessionInvariant lay pol n is (guestStart lay pol (installMemory lay pol mem)) (initialSession lay pol mem) → HostPremise lay pol ws mem gs → (pol′ : Policy) (mem′ : List ℕ) (gs′ : List RunInput) → HostPremise lay pol′ ws mem′ gs′ → LowEqual lay (installMemory lay pol mem) (installMemory lay pol′ mem′) → Pairwise SameInputs gs gs′ → Pairwise (SameObservations lay) (allRuns lay pol ws mem gs) (allRuns lay pol′ ws mem′ gs′)
 noninterference lay pol ws mem gs n is ok bs w v pol′ mem′ gs′ v′ m a =
     let g0 = guestStart lay pol (installMemory lay pol mem) in
-    let k = watched lay pol ws n is g0 ok bs in
+    let k = invariant-after lay pol ws n is g0 ok bs in
     runs-alike lay (λ c. c .machine) (λ c. c .memory) (runAs lay ws) (afterRun lay ws) (SessionInvariant lay pol n is g0) (λ c g. refl) (k .leave)
     (λ c c′ g g′. nextPc lay ws (Within lay pol n is g0) (SessionInvariant lay pol n is g0) k c c′ g g′ _ refl) (initialSession lay pol mem) (initialSession lay pol′ mem′) gs gs′ a (v .preserved) (v′ .preserved) w
     (machine-of lay pol mem (v .installed) ∙ sym (machine-of lay pol′ mem′ (v′ .installed))) m

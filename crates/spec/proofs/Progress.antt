@@ -1,4 +1,4 @@
--- A machine that stands on a first command comes within four steps to the next place of comparison, if log and readings suffice.
+-- A running machine at a bundle boundary reaches the next one within four steps, if log and readings suffice.
 -- So whatever the guest does in its next instruction, the machine does too.
 use mathlib.Core.Path.{_≡_, refl, sym, _∙_, ap, subst}
 use mathlib.Core.Bool.{Bool, true, false, cond}
@@ -301,9 +301,9 @@ module _ (lay : Layout) (pol : Policy) (ws : List ℕ) (n : ℕ) (is : ℕ → I
       record { j = y .j; few = omega (arith, y .few); boundary = y .boundary; begun = y .begun }
 
 -- and so does the run that is given that budget, where it is not refused
-proceeds : (lay : Layout) (ws : List ℕ) (c : Session) (g : RunInput) (b : ℕ) → fits lay (g .memory) ≡ true → BoundaryReached lay ws (g .readings) bundleLength 0 (c .begun) b (startOf (c .machine) (g .memory) (g .log)) → ReachesBoundary lay ws c g b
+reaches-boundary : (lay : Layout) (ws : List ℕ) (c : Session) (g : RunInput) (b : ℕ) → fits lay (g .memory) ≡ true → BoundaryReached lay ws (g .readings) bundleLength 0 (c .begun) b (startOf (c .machine) (g .memory) (g .log)) → ReachesBoundary lay ws c g b
 unfolding afterRun afterTaken runOn runOf
-proceeds lay ws c g b fit y = record { budget = y .j; few = y .few; boundary = rw fit (y .boundary); begun = rw fit (y .begun) }
+reaches-boundary lay ws c g b fit y = record { budget = y .j; few = y .few; boundary = rw fit (y .boundary); begun = rw fit (y .begun) }
 
 pub resumes : Resumes
 resumes lay pol ws mem gs v run g lent n =
@@ -312,7 +312,7 @@ resumes lay pol ws mem gs v run g lent n =
     let s = startOf (c .machine) (g .memory) (g .log) in
     let w = enter lay pol ws _ _ (t .right) (t .bundled) _ c g (n .memory) lent (t .last) in
     let k = sim-invariant lay pol ws _ _ (t .right) (t .bundled) (c .records) (c .consumed) (g .readings) _ (c .begun) s w in
-    proceeds lay ws c g _ (join _ _ (layout-of lay ws (v .passed)) (eq-eqb (length (g .memory)) (lay .size) (n .memory)))
+    reaches-boundary lay ws c g _ (join _ _ (layout-of lay ws (v .passed)) (eq-eqb (length (g .memory)) (lay .size) (n .memory)))
     (from-here lay pol ws _ _ (t .right) (t .bundled) (c .records) (c .consumed) (g .readings) _ (c .begun) s _ (k .0) w run (omega (arith, n .log), omega (arith, n .readings)) (k .1 .sim))
 
 pub progress : Progress

@@ -1,4 +1,4 @@
--- A routine that behaves is not disturbed: the raw run is the guest rule, and so are machine and engine.
+-- The sandbox does not alter a well-behaved routine: the raw run is the guest rule, and so are machine and engine.
 use Prim.Native.Nat.{ℕ, _+_, _-_, _<_, _≤_}
 use mathlib.Core.Path.{_≡_, refl, sym, _∙_, ap, subst}
 use mathlib.Core.Bool.{true}

@@ -1,3 +1,3 @@
 pub mod RefusalLaws
 pub mod Laws
-pub mod Laying
+pub mod BundleWords

@@ -1,4 +1,4 @@
--- Laws of the common case, in the form in which the proofs of the functions cite them.
+-- Laws of the fast path, in the form in which the proofs of the functions cite them.
 use mathlib.Core.Path.{_≡_, refl, sym, ap, _∙_}
 use mathlib.Core.Bool.{Bool, true, false, _&&_, not}
 use mathlib.Core.List.{List}
@@ -18,13 +18,13 @@ use Rattle.spec.proofs.WordLaws.{bits-pack}
 use Rattle.codec_read.specs.fast_path.Parts.{longest, presentZero, bytePart, quadPart, ReadPrefix, FastAnswer}
 use Rattle.codec_read.specs.declared.fast_path.Part.{Part}
 
-pub got-none : (s : List ℕ) (at bit : ℕ) → bit ≡ 0 → record { value = 0; next = at; zero = false } ≡ bytePart bit s at
+pub part-none : (s : List ℕ) (at bit : ℕ) → bit ≡ 0 → record { value = 0; next = at; zero = false } ≡ bytePart bit s at
 unfolding byteAt
-got-none s at bit e = let z : at + 0 ≡ at = omega arith in rw (e, z)
+part-none s at bit e = let z : at + 0 ≡ at = omega arith in rw (e, z)
 
-pub got-one : (s : List ℕ) (at bit : ℕ) → (bit ≡ 0 → ⊥) → bit ≤ 1 → (x : ℕ) → x ≡ getD s at 0 → record { value = x; next = at + 1; zero = eqb x 0 } ≡ bytePart bit s at
+pub part-one : (s : List ℕ) (at bit : ℕ) → (bit ≡ 0 → ⊥) → bit ≤ 1 → (x : ℕ) → x ≡ getD s at 0 → record { value = x; next = at + 1; zero = eqb x 0 } ≡ bytePart bit s at
 unfolding byteAt
-got-one s at bit n h x e = let one : bit ≡ 1 = omega arith in rw (one, e)
+part-one s at bit n h x e = let one : bit ≡ 1 = omega arith in rw (one, e)
 
 pub four-none : (s : List ℕ) (at bit : ℕ) → bit ≡ 0 → record { value = 0; next = at; zero = false } ≡ quadPart bit s at
 unfolding quadAt
@@ -47,8 +47,8 @@ four-absent : (bit : ℕ) (s : List ℕ) (at : ℕ) → bit ≡ 0 → quadAt bit
 unfolding quadAt
 four-absent bit s at e = rw e
 
-got-bit : (bit : ℕ) (s : List ℕ) (at : ℕ) → bit ≤ 1 → (g : Part) → g ≡ bytePart bit s at → g .zero ≡ false → bitOf (g .value) ≡ bit
-got-bit bit s at h g e z =
+part-bit : (bit : ℕ) (s : List ℕ) (at : ℕ) → bit ≤ 1 → (g : Part) → g ≡ bytePart bit s at → g .zero ≡ false → bitOf (g .value) ≡ bit
+part-bit bit s at h g e z =
     ap (λ (g : Part). bitOf (g .value)) e ∙ bit-of bit (byteAt bit s at) h (byte-none bit s at) (sym (ap (λ (g : Part). g .zero) e) ∙ z)
 
 four-bit : (bit : ℕ) (s : List ℕ) (at : ℕ) → bit ≤ 1 → (g : Part) → g ≡ quadPart bit s at → g .zero ≡ false → bitOf (g .value) ≡ bit
@@ -61,10 +61,10 @@ map-digits m = omega arith
 size-most : (m : ℕ) → m ≤ 63 → sizeOf m ≤ longest
 size-most m h = omega arith
 
-pub begun : (s : List ℕ) (m : ℕ) → longest ≤ length s → m ≡ getD s 0 0 → m ≤ 63
+pub read-prefix : (s : List ℕ) (m : ℕ) → longest ≤ length s → m ≡ getD s 0 0 → m ≤ 63
     → (k d a : Part) → k ≡ bytePart (m % 2) s 1 → k .zero ≡ false → k .value < 256 → d ≡ bytePart (m / 2 % 2) s (k .next) → d .zero ≡ false → d .value < 256
     → a ≡ bytePart (m / 2 / 2 % 2) s (d .next) → a .zero ≡ false → a .value < 256 → ReadPrefix s m (a .next) (k .value) (d .value) (a .value)
-begun s m long em small k d a ek zk hk ed zd hd ea za ha =
+read-prefix s m long em small k d a ek zk hk ed zd hd ea za ha =
     let nk : k .next ≡ 1 + m % 2 = ap (λ (g : Part). g .next) ek in
     let nd : d .next ≡ 1 + m % 2 + m / 2 % 2 = ap (λ (g : Part). g .next) ed ∙ rw nk in
     record {
@@ -75,9 +75,9 @@ begun s m long em small k d a ek zk hk ed zd hd ea za ha =
       kind-is = ap (λ (g : Part). g .value) ek;
       d-is = ap (λ (g : Part). g .value) ed ∙ rw nk;
       a-is = ap (λ (g : Part). g .value) ea ∙ rw nd;
-      kind-bit = got-bit (m % 2) s 1 (omega arith) k ek zk;
-      d-bit = got-bit (m / 2 % 2) s (k .next) (omega arith) d ed zd;
-      a-bit = got-bit (m / 2 / 2 % 2) s (d .next) (omega arith) a ea za;
+      kind-bit = part-bit (m % 2) s 1 (omega arith) k ek zk;
+      d-bit = part-bit (m / 2 % 2) s (k .next) (omega arith) d ed zd;
+      a-bit = part-bit (m / 2 / 2 % 2) s (d .next) (omega arith) a ea za;
       kind-byte = hk;
       d-byte = hd;
       a-byte = ha;
@@ -115,14 +115,14 @@ module _ (s : List ℕ) (m at k d a : ℕ) (g : ReadPrefix s m at k d a) where
             g .kind-bit,
             g .d-bit,
             g .a-bit,
-            got-bit (m / 2 / 2 / 2 % 2) s at (omega arith) b eb zb,
-            got-bit (m / 2 / 2 / 2 / 2 % 2) s (b .next) (omega arith) c ec zc,
+            part-bit (m / 2 / 2 / 2 % 2) s at (omega arith) b eb zb,
+            part-bit (m / 2 / 2 / 2 / 2 % 2) s (b .next) (omega arith) c ec zc,
             four-bit (m / 2 / 2 / 2 / 2 / 2) s (c .next) (omega (arith, g .small)) v ev zv,
           ))
 
-      pub sure-word : (w : ℕ) → w ≡ packOf k d a (b .value) (c .value) (v .value)
+      pub fast-word : (w : ℕ) → w ≡ packOf k d a (b .value) (c .value) (v .value)
           → (r : Bool) → r ≡ eqb (wordRefusal w) 0 → ((ltb d 16 && ltb a 16 && ltb (b .value) 16 && ltb (c .value) 16) && r) ≡ true → Word w (v .next) ≡ decodeOne s
-      sure-word w ew r jr t =
+      fast-word w ew r jr t =
           let t₃ = both (ltb d 16 && ltb a 16 && ltb (b .value) 16 && ltb (c .value) 16) r t in
           let t₂ = both _ _ (t₃ .0) in
           let t₁ = both _ _ (t₂ .0) in
@@ -139,5 +139,5 @@ module _ (s : List ℕ) (m at k d a : ℕ) (g : ReadPrefix s m at k d a) where
           one-fields s m (g .map) (λ (z : length s ≡ 0). omega arith) read read-is (v .next) next-v (g .small) (omega (arith, size-most m (g .small), next-v)) (Word w (v .next))
           (fields-word m read (mapOf read) refl 0 judged refl w (v .next) ew next-v)
 
-pub sure-is : (s : List ℕ) (o : Decoded) → FastAnswer o s → (w u : ℕ) → o ≡ Word w u → Word w u ≡ decodeOne s
-sure-is s o h w u e = (rw e at h)
+pub fast-is : (s : List ℕ) (o : Decoded) → FastAnswer o s → (w u : ℕ) → o ≡ Word w u → Word w u ≡ decodeOne s
+fast-is s o h w u e = (rw e at h)

@@ -9,7 +9,7 @@ use Rattle.codec_write.proofs.emit.Statement.{statement}
 use Rattle.codec_write.proofs.emit.Tie as tie
 use Rattle.codec_write.proofs.emit.Reads as reads
 use Rattle.codec_write.proofs.emit.Lts as lts
-use Rattle.codec_write.proofs.encode.put_one.Reads as put-one-reads
+use Rattle.codec_write.proofs.encode.encode_word.Reads as put-one-reads
 
 abbrev Inv-loop : tie.InvT-loop
 Inv-loop words bytes₀ at to₀ i₀ bytes to i = (i ≤ length words) × (length bytes ≡ length bytes₀) × (to + length (bytesOf (drop i words)) ≤ length bytes₀) × (stores bytes₀ at (bytesOf words) ≡ stores bytes to (bytesOf (drop i words)))
@@ -20,14 +20,14 @@ abbrev μ-loop : tie.MeasureT-loop
 loop-holds : tie.Need-loop-holds Inv-loop μ-loop
 loop-holds c = search needs
 
-mul-put-one : tie.Need-mul-put-one Inv-loop μ-loop
-mul-put-one c = search needs
+mul-encode-word : tie.Need-mul-encode-word Inv-loop μ-loop
+mul-encode-word c = search needs
 
-shared-slice-read-put-one : tie.Need-shared-slice-read-put-one Inv-loop μ-loop
-shared-slice-read-put-one c = search needs
+shared-slice-read-encode-word : tie.Need-shared-slice-read-encode-word Inv-loop μ-loop
+shared-slice-read-encode-word c = search needs
 
-put-one-requires : tie.Need-put-one-requires Inv-loop μ-loop
-put-one-requires c κs = search (emit-room, needs)
+encode-word-requires : tie.Need-encode-word-requires Inv-loop μ-loop
+encode-word-requires c κs = search (emit-room, needs)
 
 add-i : tie.Need-add-i Inv-loop μ-loop
 add-i c = search needs
@@ -51,9 +51,9 @@ emit-spec =
     Inv-loop
     μ-loop
     loop-holds
-    mul-put-one
-    shared-slice-read-put-one
-    put-one-requires
+    mul-encode-word
+    shared-slice-read-encode-word
+    encode-word-requires
     add-i
     loop-less
     loop-again

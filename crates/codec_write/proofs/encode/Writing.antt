@@ -11,7 +11,7 @@ use Rattle.types.specs.declared.Fields.{Fields}
 use Rattle.spec.specs.Words.{fieldsOf}
 use Rattle.spec.specs.Bytes.{bitOf, mapOf, byteOut, quadOut, regsOut, fieldsOut, encodeOne}
 use Rattle.spec.proofs.Bytes.{byte-none, byte-some, length-byte, quad-none, quad-some, length-two, length-regs, length-fields}
-use Rattle.codec_write.specs.encode.Widths.{encodedSize, Small}
+use Rattle.codec_write.specs.encode.Widths.{encodedSize, ByteFields}
 use Rattle.codec_write.proofs.encode.Storing.{put-after}
 
 -- ---- a field
@@ -68,7 +68,7 @@ module _ (w : ℕ) (f : Fields) (e : f ≡ fieldsOf w) where
   pub word-room : (at n : ℕ) → at + length (encodeOne w) ≤ n → at + encodedSize f ≤ n
   word-room at n h = rw weight-length h
 
-  pub word-small : Small f
+  pub word-small : ByteFields f
   word-small = rw e (record { kind = omega arith; d = omega arith; a = omega arith; b = omega arith; c = omega arith })
 
   pub word-next : (at x : ℕ) → x ≡ at + encodedSize f → x ≡ at + length (encodeOne w)

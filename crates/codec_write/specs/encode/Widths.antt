@@ -8,7 +8,7 @@ abbrev pub encodedSize : Fields → ℕ
 encodedSize f = 1 + bitOf (f .kind) + bitOf (f .d) + bitOf (f .a) + bitOf (f .b) + bitOf (f .c) + 4 * bitOf (f .v)
 
 -- the fields of one byte fit one
-pub record Small (f : Fields) : Type 0 where
+pub record ByteFields (f : Fields) : Type 0 where
   pub kind : f .kind < 256
   pub d : f .d < 256
   pub a : f .a < 256

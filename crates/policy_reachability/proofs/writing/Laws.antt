@@ -12,7 +12,7 @@ use Rattle.types.specs.Names.{mostStates, events, answer, refusal}
 use Rattle.policy_spec.specs.reachability.Reach.{madeWith}
 use Rattle.policy_spec.specs.declared.reachability.Worklist.{Worklist}
 use Rattle.policy_spec.specs.declared.reachability.Made.{Made}
-use Rattle.policy_spec.specs.reachability.Worklists.{Sized, worklistAnswer, writtenOf, writtenTable}
+use Rattle.policy_spec.specs.reachability.Worklists.{WorklistSized, worklistAnswer, writtenOf, writtenTable}
 
 -- one more byte copied
 pub copy-more : (s t₀ t : List ℕ) (i r : ℕ) → t ≡ take i s ++ drop i t₀ → i < length s → i < length t₀ → r ≡ getD s i 0 → set t i r ≡ take (i + 1) s ++ drop (i + 1) t₀
@@ -27,7 +27,7 @@ copy-done s t₀ t i n e h k = let q : i ≡ n = omega arith in e ∙ ap (λ (j 
 pub refused-is : (x : ℕ) (a : Answer) → a ≡ answer x 0 → madeWith a 0 ≡ madeWith (answer x 0) 0
 refused-is x a e = rw e
 
-module _ (f : Worklist) (sized : Sized f) where
+module _ (f : Worklist) (sized : WorklistSized f) where
   abbrev pub Writes : List ℕ → Made → List ℕ → Type 0
   Writes t made t′ = (made ≡ writtenOf f (length t)) × (t′ ≡ writtenTable f t)
 

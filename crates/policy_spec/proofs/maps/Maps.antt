@@ -1,4 +1,4 @@
--- Laws of what holds below a number, of maps of bits and of lists by their places.
+-- Laws of bit maps, and of tests, counts and lists over the numbers below n.
 use Prim.Native.Nat.{ℕ, zero, suc, _+_, _-_, _*_, _/_, _%_, _^_, _<_, _≤_, max}
 use mathlib.Core.Path.{_≡_, refl, sym, ap, ap₂, _∙_}
 use mathlib.Core.Bool.{Bool, true, false, _||_, cond}

@@ -280,8 +280,8 @@ module _ (ps : List ℕ) (m : ℕ) (e : m ≡ mapWhere (isNamed ps) events) (r :
 pub states-fit : (ps : List ℕ) (m s : ℕ) → ValidPairs ps m → s ≡ statesOf ps → s < 2 ^ 32
 states-fit ps m s fit e = omega (arith, states-most ps m fit)
 
-pub never-fits : (p : ℕ → Bool) (x : ℕ) → x ≡ mapWhere p events → x < 2 ^ 16
-never-fits p x e = rw e (map-lt p events)
+pub unreachable-fits : (p : ℕ → Bool) (x : ℕ) → x ≡ mapWhere p events → x < 2 ^ 16
+unreachable-fits p x e = rw e (map-lt p events)
 
 pub taken-is : (ps : List ℕ) (b s r x : ℕ) → s ≡ statesOf ps → r ≡ fixpointOf ps → x ≡ mapWhere (blocked ps r) events → (a : Answer) → a ≡ answer 0 b → madeWith a s x ≡ madeWith (answer 0 b) (statesOf ps) (unreachableEvents ps)
 taken-is ps b s r x e f g a ea = let h : x ≡ unreachableEvents ps = g ∙ ap (λ (y : ℕ). mapWhere (blocked ps y) events) f in rw (ea, e, h)

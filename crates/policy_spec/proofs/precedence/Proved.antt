@@ -2,8 +2,8 @@
 use Rattle.policy_spec.specs.precedence.Proved.{Proved}
 use Rattle.policy_spec.proofs.precedence.Policies.{taken-makes, made-right}
 use Rattle.policy_spec.proofs.precedence.Orders.{allowed-in-order}
-use Rattle.policy_spec.proofs.precedence.Unreachable.{never-allowed}
-use Rattle.policy_spec.proofs.precedence.Samples.{worked}
+use Rattle.policy_spec.proofs.precedence.Unreachable.{unreachable-allowed}
+use Rattle.policy_spec.proofs.precedence.Samples.{worked-examples}
 
 pub proved : Proved
 proved =
@@ -11,6 +11,6 @@ proved =
       takenMakes = taken-makes;
       madeRight = made-right;
       allowedInOrder = allowed-in-order;
-      unreachableExact = never-allowed;
-      worked = worked;
+      unreachableExact = unreachable-allowed;
+      workedExamples = worked-examples;
     }

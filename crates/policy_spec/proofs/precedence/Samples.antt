@@ -2,8 +2,8 @@
 use mathlib.Core.Path.{refl}
 use Rattle.policy_spec.specs.maps.Maps.{every, some, count, mapWhere, bit, build}
 use Rattle.policy_spec.specs.precedence.Precedence.{namedIn, knownIn, pairsRight, firstsIn, arrowOf, iterate, makeAnswer, makeOf}
-use Rattle.policy_spec.specs.precedence.Claims.{Worked}
+use Rattle.policy_spec.specs.precedence.Claims.{WorkedExamples}
 
-pub worked : Worked
+pub worked-examples : WorkedExamples
 unfolding every some count mapWhere bit build namedIn knownIn pairsRight firstsIn arrowOf iterate makeAnswer makeOf
-worked = record { none = refl; chain = refl; ring = refl; alone = refl; above = refl; fifth = refl; small = refl; rows = refl }
+worked-examples = record { none = refl; chain = refl; ring = refl; alone = refl; above = refl; fifth = refl; small = refl; rows = refl }

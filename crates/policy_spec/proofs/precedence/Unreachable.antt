@@ -251,5 +251,5 @@ module _ (ps : List ℕ) (m : ℕ) (fit : ValidPairs ps m) where
       low : bit (unreachableEvents ps) e ≡ true → e < events
       low t = ⊎-elim (λ l. ltb-true e events l) (λ l. no (sym (bit-high (unreachableEvents ps) events e (map-lt (blocked ps (fixpointOf ps)) events) (ltb-false e events l)) ∙ t)) (cases (ltb e events))
 
-pub never-allowed : UnreachableExact
-never-allowed ps e t = never-laws ps (mapWhere (isNamed ps) events) (fit-right ps t) e
+pub unreachable-allowed : UnreachableExact
+unreachable-allowed ps e t = never-laws ps (mapWhere (isNamed ps) events) (fit-right ps t) e

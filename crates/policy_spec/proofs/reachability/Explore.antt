@@ -1,4 +1,4 @@
--- The loop of an exploration: it starts, goes on and ends with what the definitions say.
+-- The loop of the search: it starts, goes on and ends with what the definitions say.
 use Prim.Native.Nat.{ℕ, suc, _+_, _-_, _*_, _/_, _%_, _<_, _≤_}
 use mathlib.Core.Path.{_≡_, refl, sym, ap, ap₂, _∙_}
 use mathlib.Core.Bool.{Bool, true, false, _&&_, _||_, cond, and-true}
@@ -15,7 +15,7 @@ use Rattle.policy_spec.proofs.maps.Maps.{length-build}
 use Rattle.policy_spec.proofs.maps.Tables.{fill-none, fill-more}
 use Rattle.policy_spec.specs.declared.reachability.Worklist.{Worklist}
 use Rattle.policy_spec.specs.reachability.Reach.{indexOf, known, insert, target, reachedBy, nodes, nodeState, byteOf, statesOf, tableOf, reachAnswer, reachOf, reachTable}
-use Rattle.policy_spec.specs.reachability.Worklists.{Sized, initialWorklist, nodesOf, hasPending, insertTarget, WorklistInvariant, Explored, worklistAnswer, writtenOf, writtenTable}
+use Rattle.policy_spec.specs.reachability.Worklists.{WorklistSized, initialWorklist, nodesOf, hasPending, insertTarget, WorklistInvariant, Explored, worklistAnswer, writtenOf, writtenTable}
 use Rattle.policy_spec.specs.reachability.Claims.{Arrows}
 use Rattle.policy_spec.proofs.reachability.Places.{place-le, place-append, place-new, Inserts, none, again, anew, inserts, reached-known}
 use Rattle.policy_spec.proofs.reachability.Reach.{reached-zero, reached-suc, grows, rests}
@@ -193,5 +193,5 @@ module _ (next : ℕ → ℕ → ℕ) (q : ℕ) (ok : Arrows next q) (f : Workli
       go false t = let w = many t in rw (t, w .many-nodes)
 
   -- what the code asks of it
-  pub explored-sized : Sized f
+  pub explored-sized : WorklistSized f
   explored-sized = ex .holds .sized

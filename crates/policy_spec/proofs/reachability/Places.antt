@@ -53,9 +53,9 @@ place-new (y ∷ ns) x h = go (eqb y x) h (place-new ns x)
     go false l f = ap suc (f (omega arith))
 
 -- n + 1 numbers below n are not all apart
-pub pigeons : (n : ℕ) (f : ℕ → ℕ) → ((i : ℕ) → i ≤ n → f i < n) → ((i j : ℕ) → i ≤ n → j ≤ n → f i ≡ f j → i ≡ j) → ⊥
-pigeons zero f below apart = let h = below 0 (omega arith) in omega arith
-pigeons (suc n) f below apart = pigeons n g g-below g-apart
+pub pigeonhole : (n : ℕ) (f : ℕ → ℕ) → ((i : ℕ) → i ≤ n → f i < n) → ((i j : ℕ) → i ≤ n → j ≤ n → f i ≡ f j → i ≡ j) → ⊥
+pigeonhole zero f below apart = let h = below 0 (omega arith) in omega arith
+pigeonhole (suc n) f below apart = pigeonhole n g g-below g-apart
   where
     top : ℕ
     top = f (suc n)

@@ -12,9 +12,9 @@ use Rattle.types.specs.Names.{mostStates, events, noArrow}
 use Rattle.spec.specs.Policies.{arrow, allowedFrom, allowed, entryRight, rightPolicy}
 use Rattle.policy_spec.proofs.maps.Maps.{length-build, build-at}
 use Rattle.policy_spec.proofs.maps.Tables.{entries-build}
-use Rattle.policy_spec.specs.reachability.Reach.{indexOf, insert, target, reachedBy, nodes, nodeState, byteOf, statesOf, tableOf, policyFrom, few, reachAnswer, reachOf, reachTable, nodeAfter}
+use Rattle.policy_spec.specs.reachability.Reach.{indexOf, insert, target, reachedBy, nodes, nodeState, byteOf, statesOf, tableOf, policyFrom, nodesFit, reachAnswer, reachOf, reachTable, nodeAfter}
 use Rattle.policy_spec.specs.reachability.Claims.{Arrows, Reached, Exactly, NodesExact, Makes, TakenReaches, ReachRight, AllowedReaches}
-use Rattle.policy_spec.proofs.reachability.Places.{pigeons, place-at, place-of, place-append, place-new, Inserts, none, again, anew, inserts, insert-none, reached-known, More, insert-more}
+use Rattle.policy_spec.proofs.reachability.Places.{pigeonhole, place-at, place-of, place-append, place-new, Inserts, none, again, anew, inserts, insert-none, reached-known, More, insert-more}
 use Rattle.spec.proofs.Bools.{or-left, or-right}
 
 -- one event more
@@ -194,7 +194,7 @@ module _ (next : ℕ → ℕ → ℕ) (q : ℕ) (ok : Arrows next q) where
   apart : (i j : ℕ) → i < statesOf next q → j < statesOf next q → getD (nodes next q) i 0 ≡ getD (nodes next q) j 0 → i ≡ j
   apart i j h l e = sym (good (events * mostStates) .own i h) ∙ ap (indexOf (nodes next q)) e ∙ good (events * mostStates) .own j l
 
-  numbered : few next q ≡ true → (x : ℕ) → Reached next q x → indexOf (nodes next q) x < statesOf next q
+  numbered : nodesFit next q ≡ true → (x : ℕ) → Reached next q x → indexOf (nodes next q) x < statesOf next q
   numbered t x r =
       let z : nodeAfter next (getD (nodes next q) 0 0) (r .by) ≡ x = ap (λ (y : ℕ). nodeAfter next y (r .by)) first ∙ r .leads in
       rw z at (on-from (leb-true (statesOf next q) mostStates t) (r .by) 0 some-state (λ v. r .node (sym z ∙ v)))
@@ -211,7 +211,7 @@ module _ (next : ℕ → ℕ → ℕ) (q : ℕ) (ok : Arrows next q) where
         not-many = λ t m.
             let s : statesOf next q ≤ mostStates = leb-true (statesOf next q) mostStates t in
             let below : (i : ℕ) → i ≤ mostStates → indexOf (nodes next q) (m .node i) < statesOf next q = λ i h. numbered t (m .node i) (m .reached i h) in
-            pigeons
+            pigeonhole
             mostStates
             (λ i. indexOf (nodes next q) (m .node i))
             (λ i h. omega (arith, below i h))
@@ -280,9 +280,9 @@ reach-right next q lay ok t e =
 
 pub taken-reaches : TakenReaches
 unfolding reachAnswer reachOf reachTable
-taken-reaches next q table t = go (few next q) refl (ltb (length table) (events * statesOf next q)) refl
+taken-reaches next q table t = go (nodesFit next q) refl (ltb (length table) (events * statesOf next q)) refl
   where
-    go : (a : Bool) → few next q ≡ a → (b : Bool) → ltb (length table) (events * statesOf next q) ≡ b → Makes next q table
+    go : (a : Bool) → nodesFit next q ≡ a → (b : Bool) → ltb (length table) (events * statesOf next q) ≡ b → Makes next q table
     go false e b f = absurd (omega (arith, rw e at t))
     go true e true f = absurd (omega (arith, rw (e, f) at t))
     go true e false f =
@@ -296,9 +296,9 @@ taken-reaches next q table t = go (few next q) refl (ltb (length table) (events 
 -- the bytes written are 256 at most
 pub place-most : (next : ℕ → ℕ → ℕ) (q room : ℕ) → reachOf next q room .answer .place ≤ events * mostStates
 unfolding reachOf reachAnswer
-place-most next q room = go (few next q) refl (ltb room (events * statesOf next q)) refl
+place-most next q room = go (nodesFit next q) refl (ltb room (events * statesOf next q)) refl
   where
-    go : (a : Bool) → few next q ≡ a → (b : Bool) → ltb room (events * statesOf next q) ≡ b → reachOf next q room .answer .place ≤ events * mostStates
+    go : (a : Bool) → nodesFit next q ≡ a → (b : Bool) → ltb room (events * statesOf next q) ≡ b → reachOf next q room .answer .place ≤ events * mostStates
     go false e b f = rw e (omega arith)
     go true e true f = rw (e, f) (omega arith)
     go true e false f = rw (e, f) (omega (arith, leb-true (statesOf next q) mostStates e))

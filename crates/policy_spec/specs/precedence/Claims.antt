@@ -60,7 +60,7 @@ abbrev pub UnreachableExact : Type 0
 UnreachableExact = (ps : List ℕ) (e : ℕ) → pairsRight ps ≡ true → UnreachableLaws ps e
 
 -- worked samples, with gas 0, door 2 and charge 3
-pub record Worked : Type 0 where
+pub record WorkedExamples : Type 0 where
   -- 'An empty list gives one state that allows everything'
   pub none : makeOf [] 16 ≡ madeWith (answer 0 16) 1 0
   -- 'charge before gas, gas before door'

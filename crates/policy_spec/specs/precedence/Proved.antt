@@ -1,9 +1,9 @@
 -- Every claim of this module, a field each: its one term is `proved`, in proofs/precedence/Proved.antt.
-use Rattle.policy_spec.specs.precedence.Claims.{TakenMakes, MadeRight, AllowedInOrder, UnreachableExact, Worked}
+use Rattle.policy_spec.specs.precedence.Claims.{TakenMakes, MadeRight, AllowedInOrder, UnreachableExact, WorkedExamples}
 
 pub record Proved : Type 0 where
   pub takenMakes : TakenMakes
   pub madeRight : MadeRight
   pub allowedInOrder : AllowedInOrder
   pub unreachableExact : UnreachableExact
-  pub worked : Worked
+  pub workedExamples : WorkedExamples

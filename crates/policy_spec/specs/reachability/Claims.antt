@@ -8,7 +8,7 @@ use lib.Dec.{eqb}
 use Rattle.types.specs.declared.Layout.{Layout}
 use Rattle.types.specs.Names.{mostStates, events}
 use Rattle.spec.specs.Policies.{allowed, rightPolicy}
-use Rattle.policy_spec.specs.reachability.Reach.{reachedBy, nodes, statesOf, policyFrom, few, reachOf, reachTable, nodeAfter}
+use Rattle.policy_spec.specs.reachability.Reach.{reachedBy, nodes, statesOf, policyFrom, nodesFit, reachOf, reachTable, nodeAfter}
 
 pub record Arrows (next : ℕ → ℕ → ℕ) (q : ℕ) : Type 0 where
   pub none : (e : ℕ) → next 0 e ≡ 0
@@ -36,19 +36,19 @@ pub record MoreThan (n : ℕ) (next : ℕ → ℕ → ℕ) (q : ℕ) : Type 0 wh
 pub record Exactly (next : ℕ → ℕ → ℕ) (q : ℕ) : Type 0 where
   pub reached : (i : ℕ) → i < statesOf next q → Reached next q (getD (nodes next q) i 0)
   pub once : (i j : ℕ) → i < statesOf next q → j < statesOf next q → getD (nodes next q) i 0 ≡ getD (nodes next q) j 0 → i ≡ j
-  pub all : few next q ≡ true → (x : ℕ) → Reached next q x → Numbered (nodes next q) x
+  pub all : nodesFit next q ≡ true → (x : ℕ) → Reached next q x → Numbered (nodes next q) x
   -- '15 (.. more than 16 ..)' is given exactly then
-  pub many : few next q ≡ false → MoreThan mostStates next q
-  pub not-many : few next q ≡ true → MoreThan mostStates next q → ⊥
+  pub many : nodesFit next q ≡ false → MoreThan mostStates next q
+  pub not-many : nodesFit next q ≡ true → MoreThan mostStates next q → ⊥
   -- further arrows would meet no other
-  pub enough : few next q ≡ true → (more : ℕ) → reachedBy next q (events * mostStates + more) ≡ nodes next q
+  pub enough : nodesFit next q ≡ true → (more : ℕ) → reachedBy next q (events * mostStates + more) ≡ nodes next q
 
 abbrev pub NodesExact : Type 0
 NodesExact = (next : ℕ → ℕ → ℕ) (q : ℕ) → Arrows next q → Exactly next q
 
 -- what is handed back and left with answer 0 is that policy
 pub record Makes (next : ℕ → ℕ → ℕ) (q : ℕ) (table : List ℕ) : Type 0 where
-  pub few : few next q ≡ true
+  pub few : nodesFit next q ≡ true
   pub states : reachOf next q (length table) .policy .states ≡ policyFrom next q .states
   pub start : reachOf next q (length table) .policy .start ≡ policyFrom next q .start
   pub leaves : take (reachOf next q (length table) .answer .place) (reachTable next q table) ≡ policyFrom next q .table
@@ -58,8 +58,8 @@ TakenReaches = (next : ℕ → ℕ → ℕ) (q : ℕ) (table : List ℕ) → rea
 
 -- the policy is right under every layout with as many states
 abbrev pub ReachRight : Type 0
-ReachRight = (next : ℕ → ℕ → ℕ) (q : ℕ) (lay : Layout) → Arrows next q → few next q ≡ true → lay .states ≡ statesOf next q → rightPolicy lay (policyFrom next q) ≡ true
+ReachRight = (next : ℕ → ℕ → ℕ) (q : ℕ) (lay : Layout) → Arrows next q → nodesFit next q ≡ true → lay .states ≡ statesOf next q → rightPolicy lay (policyFrom next q) ≡ true
 
 -- a list of events is allowed exactly if it leads to a node
 abbrev pub AllowedReaches : Type 0
-AllowedReaches = (next : ℕ → ℕ → ℕ) (q : ℕ) (es : List ℕ) → Arrows next q → few next q ≡ true → allowed (policyFrom next q) es ≡ not (eqb (nodeAfter next q es) 0)
+AllowedReaches = (next : ℕ → ℕ → ℕ) (q : ℕ) (es : List ℕ) → Arrows next q → nodesFit next q ≡ true → allowed (policyFrom next q) es ≡ not (eqb (nodeAfter next q es) 0)

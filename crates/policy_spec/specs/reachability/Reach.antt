@@ -56,12 +56,12 @@ abbrev pub policyFrom : (ℕ → ℕ → ℕ) → ℕ → Policy
 policyFrom next q = policyOf (statesOf next q) 0 (tableOf next q) []
 
 -- not 'more than 16'
-abbrev pub few : (ℕ → ℕ → ℕ) → ℕ → Bool
-few next q = leb (statesOf next q) mostStates
+abbrev pub nodesFit : (ℕ → ℕ → ℕ) → ℕ → Bool
+nodesFit next q = leb (statesOf next q) mostStates
 
 -- '15 .. and then 9 follow'
 unfoldable pub reachAnswer : (ℕ → ℕ → ℕ) → ℕ → ℕ → Answer
-reachAnswer next q room = first ((not (few next q), refusal TooManyStates 0) ∷ []) (roomFor room (events * statesOf next q))
+reachAnswer next q room = first ((not (nodesFit next q), refusal TooManyStates 0) ∷ []) (roomFor room (events * statesOf next q))
 
 -- 'After a reject all else handed back is 0'
 abbrev pub madeWith : Answer → ℕ → Made

@@ -26,7 +26,7 @@ abbrev pub nodesOf : Worklist → List ℕ
 nodesOf f = take (f .count) (f .nodes)
 
 -- its arrays have their lengths, and not more nodes are found than there is room for
-pub record Sized (f : Worklist) : Type 0 where
+pub record WorklistSized (f : Worklist) : Type 0 where
   pub most : f .count ≤ capacity
   pub nodes : length (f .nodes) ≡ capacity
   pub arrows : length (f .arrows) ≡ events * mostStates
@@ -47,7 +47,7 @@ insertTarget f k x =
 
 -- with the first k arrows taken
 pub record WorklistInvariant (next : ℕ → ℕ → ℕ) (q : ℕ) (f : Worklist) (k : ℕ) : Type 0 where
-  pub sized : Sized f
+  pub sized : WorklistSized f
   pub count : f .count ≡ length (reachedBy next q k)
   pub list : nodesOf f ≡ reachedBy next q k
   pub arrows : f .arrows ≡ build (byteOf next (nodes next q)) k ++ drop k (replicate (events * mostStates) 0)

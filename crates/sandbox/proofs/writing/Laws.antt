@@ -13,7 +13,7 @@ use Rattle.spec.specs.Bundles.{bundlesFrom, commandsOf, rewriteAnswer}
 use Rattle.spec.proofs.Refusals.{else-none}
 use Rattle.spec.proofs.Bytes.{ReadOk, read-ok}
 use Rattle.codec_read.proofs.Reading.{rest}
-use Rattle.rewriter.specs.Rewriting.{Ready}
+use Rattle.rewriter.specs.Rewriting.{BundlesFit}
 use Rattle.rewriter.proofs.Written.{list-long, list-ready, list-written}
 use Rattle.sandbox_spec.specs.Loading.{translateAnswer}
 
@@ -44,7 +44,7 @@ module _ (lay : Layout) (s out : List ℕ) (z : translateAnswer lay s (length ou
       all-long = list-long lay (wordsIn s) out _ refl (parts .1) k count-is out₁ words-out
 
       module _ (n : ℕ) (en : n ≡ bundlesFor k) where
-        pub all-ready : Ready lay n (take k out₁) (length out₁)
+        pub all-ready : BundlesFit lay n (take k out₁) (length out₁)
         all-ready = list-ready lay (wordsIn s) out _ refl (parts .1) k count-is out₁ words-out n en
 
         pub all-written : (out′ : List ℕ) → out′ ≡ sets out₁ 0 (bundlesFrom lay n (routine (take k out₁)) 0 n) → out′ ≡ sets out 0 (commandsOf lay (wordsIn s))

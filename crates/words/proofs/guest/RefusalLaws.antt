@@ -18,8 +18,8 @@ use Rattle.words.proofs.fields.Masks.{bool-ext, Within}
 use Rattle.words.proofs.guest.Masks.{guest-within, within-guest}
 
 -- what is said of the fields, said of the word
-pub word-judged : (w z : ℕ) (f : Fields) → z ≡ zeroOf w → f ≡ fieldsOf w → (x : ℕ) → x ≡ fieldsRefusal (ltb 0 z) f → x ≡ wordRefusal w
-word-judged w z f ez e x ex = ex ∙ rw (ez, e)
+pub word-refusal : (w z : ℕ) (f : Fields) → z ≡ zeroOf w → f ≡ fieldsOf w → (x : ℕ) → x ≡ fieldsRefusal (ltb 0 z) f → x ≡ wordRefusal w
+word-refusal w z f ez e x ex = ex ∙ rw (ez, e)
 
 -- ---- a word without a stray bit, of the guest's registers
 

@@ -11,14 +11,14 @@ use Rattle.arith.proofs.signed.sar.Tie as tie
 to-signed-requires : tie.Need-to-signed-requires
 to-signed-requires c κs = search needs
 
-to-last-bit-requires : tie.Need-to-last-bit-requires
-to-last-bit-requires c κs = search needs
+clamp-shift-requires : tie.Need-clamp-shift-requires
+clamp-shift-requires c κs = search needs
 
 cast-to-bits : tie.Need-cast-to-bits
 cast-to-bits c = search needs
 
 shr-to-bits : tie.Need-shr-to-bits
-shr-to-bits c = omega (arith, c .to-last-bit .ensures, min-le-right (c .before .before .args .v) topShift)
+shr-to-bits c = omega (arith, c .clamp-shift .ensures, min-le-right (c .before .before .args .v) topShift)
 
 to-bits-requires : tie.Need-to-bits-requires
 to-bits-requires c κs = search needs
@@ -27,8 +27,8 @@ returns : tie.Need-returns
 returns c =
     let a = c .before .before .before .args in
     c .to-bits .ensures
-    ∙ ap bitsOf (shifted (a .x) (a .v) _ _ (c .before .before .before .fits .x) (sfits-of (c .before .before .to-signed .ok)) (c .before .before .to-signed .ensures) (c .before .to-last-bit .ensures))
+    ∙ ap bitsOf (shifted (a .x) (a .v) _ _ (c .before .before .before .fits .x) (sfits-of (c .before .before .to-signed .ok)) (c .before .before .to-signed .ensures) (c .before .clamp-shift .ensures))
 
 pub sar-spec : {M : Type 1} → statement M
 sar-spec =
-    tie.close (tie.spec to-signed-requires to-last-bit-requires cast-to-bits shr-to-bits to-bits-requires returns)
+    tie.close (tie.spec to-signed-requires clamp-shift-requires cast-to-bits shr-to-bits to-bits-requires returns)

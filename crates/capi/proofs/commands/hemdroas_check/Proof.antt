@@ -1,7 +1,7 @@
 use lib.Dec.{lit<}
 use Rattle.spec.proofs.Counts.{check-bound}
 use Rattle.capi_values.proofs.answers.Places.{narrow}
-use Rattle.capi.proofs.commands.Hosting.{checked}
+use Rattle.capi.proofs.commands.Laws.{checked}
 use borrow.Author.Needs.{needs}
 use Rattle.capi.proofs.commands.hemdroas_check.Statement.{statement}
 use Rattle.capi.proofs.commands.hemdroas_check.Tie as tie

@@ -1,7 +1,7 @@
 use lib.Dec.{lit<}
 use Rattle.spec.proofs.Counts.{rewrite-bound}
 use Rattle.capi_values.proofs.answers.Places.{narrow}
-use Rattle.capi.proofs.commands.Hosting.{rewritten}
+use Rattle.capi.proofs.commands.Laws.{rewritten}
 use borrow.Author.Needs.{needs}
 use Rattle.capi.proofs.commands.hemdroas_rewrite.Statement.{statement}
 use Rattle.capi.proofs.commands.hemdroas_rewrite.Tie as tie

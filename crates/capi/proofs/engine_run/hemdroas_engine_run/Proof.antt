@@ -1,4 +1,4 @@
-use Rattle.capi.proofs.engine_run.Hosting.{narrow, left}
+use Rattle.capi.proofs.engine_run.Laws.{narrow, left}
 use borrow.Author.Needs.{needs}
 use Rattle.capi.proofs.engine_run.hemdroas_engine_run.Statement.{statement}
 use Rattle.capi.proofs.engine_run.hemdroas_engine_run.Tie as tie

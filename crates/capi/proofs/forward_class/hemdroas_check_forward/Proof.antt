@@ -1,4 +1,4 @@
-use Rattle.capi.proofs.forward_class.Hosting.{narrow-check-forward, checked-forward}
+use Rattle.capi.proofs.forward_class.Laws.{narrow-check-forward, checked-forward}
 use borrow.Author.Needs.{needs}
 use Rattle.capi.proofs.forward_class.hemdroas_check_forward.Statement.{statement}
 use Rattle.capi.proofs.forward_class.hemdroas_check_forward.Tie as tie

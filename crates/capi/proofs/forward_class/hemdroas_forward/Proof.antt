@@ -1,4 +1,4 @@
-use Rattle.capi.proofs.forward_class.Hosting.{narrow-forward, forward-is}
+use Rattle.capi.proofs.forward_class.Laws.{narrow-forward, forward-is}
 use borrow.Author.Needs.{needs}
 use Rattle.capi.proofs.forward_class.hemdroas_forward.Statement.{statement}
 use Rattle.capi.proofs.forward_class.hemdroas_forward.Tie as tie

@@ -3,7 +3,7 @@ use Rattle.types.specs.declared.Installed.{Installed}
 use lib.Dec.{lit<}
 use Rattle.spec.proofs.Counts.{install-bound}
 use Rattle.capi_values.proofs.answers.Places.{narrow}
-use Rattle.capi.proofs.installing.Hosting.{installed}
+use Rattle.capi.proofs.installing.Laws.{installed}
 use borrow.Author.Needs.{needs}
 use Rattle.capi.proofs.installing.hemdroas_install.Statement.{statement}
 use Rattle.capi.proofs.installing.hemdroas_install.Tie as tie

@@ -3,7 +3,7 @@ use Rattle.types.specs.declared.Installed.{Installed}
 use lib.Dec.{lit<}
 use Rattle.sandbox_spec.proofs.Loading.{load-bound}
 use Rattle.capi_values.proofs.answers.Places.{narrow}
-use Rattle.capi.proofs.loading.Hosting.{loaded}
+use Rattle.capi.proofs.loading.Laws.{loaded}
 use borrow.Author.Needs.{needs}
 use Rattle.capi.proofs.loading.hemdroas_load.Statement.{statement}
 use Rattle.capi.proofs.loading.hemdroas_load.Tie as tie

@@ -1,4 +1,4 @@
-use Rattle.capi.proofs.running.Hosting.{preview-counts, looked}
+use Rattle.capi.proofs.running.Laws.{preview-counts, looked}
 use borrow.Author.Needs.{needs}
 use Rattle.capi.proofs.running.hemdroas_preview.Statement.{statement}
 use Rattle.capi.proofs.running.hemdroas_preview.Tie as tie

@@ -1,4 +1,4 @@
-use Rattle.capi.proofs.running.Hosting.{counts, left}
+use Rattle.capi.proofs.running.Laws.{counts, left}
 use borrow.Author.Needs.{needs}
 use Rattle.capi.proofs.running.hemdroas_run.Statement.{statement}
 use Rattle.capi.proofs.running.hemdroas_run.Tie as tie

@@ -1,5 +1,5 @@
 use borrow.Author.Needs.{needs}
-use Rattle.codec_read.proofs.fast_path.Reading.{sure-is}
+use Rattle.codec_read.proofs.fast_path.Reading.{fast-is}
 use Rattle.codec_read.proofs.decode.read_one.Statement.{statement}
 use Rattle.codec_read.proofs.decode.read_one.Tie as tie
 
@@ -13,5 +13,5 @@ read-one-spec =
     (λ c. search needs)
     (λ c. search needs)
     (λ c κs. search needs)
-    (λ c. search (sure-is, needs))
+    (λ c. search (fast-is, needs))
     (λ c. search needs))

@@ -1,5 +1,5 @@
 use borrow.Author.Needs.{needs}
-use Rattle.codec_read.proofs.fast_path.Reading.{got-none, got-one}
+use Rattle.codec_read.proofs.fast_path.Reading.{part-none, part-one}
 use Rattle.codec_read.proofs.fast_path.byte_part.Statement.{statement}
 use Rattle.codec_read.proofs.fast_path.byte_part.Tie as tie
 
@@ -7,8 +7,8 @@ pub byte-part-spec : {M : Type 1} → statement M
 byte-part-spec =
     tie.close
     (tie.spec
-    (λ c. search (got-none, needs))
+    (λ c. search (part-none, needs))
     (λ c. search needs)
     (λ c κs. search needs)
     (λ c. search needs)
-    (λ c. search (got-one, needs)))
+    (λ c. search (part-one, needs)))

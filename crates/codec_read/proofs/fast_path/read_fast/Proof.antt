@@ -1,5 +1,5 @@
 use borrow.Author.Needs.{needs}
-use Rattle.codec_read.proofs.fast_path.Reading.{begun}
+use Rattle.codec_read.proofs.fast_path.Reading.{read-prefix}
 use Rattle.codec_read.proofs.fast_path.read_fast.Statement.{statement}
 use Rattle.codec_read.proofs.fast_path.read_fast.Tie as tie
 
@@ -16,5 +16,5 @@ read-fast-spec =
     (λ c. search needs)
     (λ c κs. search needs)
     (λ c. search needs)
-    (λ c κs. search (begun, needs))
+    (λ c κs. search (read-prefix, needs))
     (λ c. search needs))

@@ -1,5 +1,5 @@
 use borrow.Author.Needs.{needs}
-use Rattle.engine_step.proofs.apply.Applied.{set-in, goes, puts, stores, orders, probes, ends, waits}
+use Rattle.engine_step.proofs.apply.Laws.{set-in, goes, puts, stores, orders, probes, ends, waits}
 use Rattle.engine_step.proofs.apply.apply.Statement.{statement}
 use Rattle.engine_step.proofs.apply.apply.Tie as tie
 

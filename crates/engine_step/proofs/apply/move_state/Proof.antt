@@ -1,5 +1,5 @@
 use borrow.Author.Needs.{needs}
-use Rattle.engine_step.proofs.apply.Applied.{kept}
+use Rattle.engine_step.proofs.apply.Laws.{kept}
 use Rattle.engine_step.proofs.apply.move_state.Statement.{statement}
 use Rattle.engine_step.proofs.apply.move_state.Tie as tie
 

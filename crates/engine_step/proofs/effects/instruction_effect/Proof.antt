@@ -1,5 +1,5 @@
 use Rattle.words.proofs.Laws.{past}
-use Rattle.engine_step.proofs.effects.Acting.{arm}
+use Rattle.engine_step.proofs.effects.Laws.{arm}
 use Rattle.engine_spec.specs.Engines.{instrEffect}
 use Rattle.types.specs.Names.{guest}
 use Rattle.spec.specs.Words.{kindOf}

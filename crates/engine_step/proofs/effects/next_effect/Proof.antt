@@ -1,5 +1,5 @@
 use borrow.Author.Needs.{needs}
-use Rattle.engine_step.proofs.effects.Acting.{judged-at, next-acts, next-halts, next-faults}
+use Rattle.engine_step.proofs.effects.Laws.{valid-fields-at, next-instr, next-halt, next-faults}
 use Rattle.engine_step.proofs.effects.next_effect.Statement.{statement}
 use Rattle.engine_step.proofs.effects.next_effect.Tie as tie
 
@@ -9,7 +9,7 @@ next-effect-spec =
     (tie.spec
     (λ c. search needs)
     (λ c. search needs)
-    (λ c κs. judged-at _ _ _ (c .before .before .before .before .pre) (c .before .if1 .taken))
-    (λ c. search (next-acts, needs))
-    (λ c. search (next-halts, needs))
+    (λ c κs. valid-fields-at _ _ _ (c .before .before .before .before .pre) (c .before .if1 .taken))
+    (λ c. search (next-instr, needs))
+    (λ c. search (next-halt, needs))
     (λ c. search (next-faults, needs)))

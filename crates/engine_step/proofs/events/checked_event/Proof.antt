@@ -1,5 +1,5 @@
 use borrow.Author.Needs.{needs}
-use Rattle.engine_step.proofs.events.Sending.{faults, stops, sends}
+use Rattle.engine_step.proofs.events.Laws.{faults, stops, sends}
 use Rattle.engine_step.proofs.events.checked_event.Statement.{statement}
 use Rattle.engine_step.proofs.events.checked_event.Tie as tie
 

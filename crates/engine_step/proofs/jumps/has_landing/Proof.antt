@@ -1,5 +1,5 @@
 use borrow.Author.Needs.{needs}
-use Rattle.engine_step.proofs.jumps.Landing.{lands-is}
+use Rattle.engine_step.proofs.jumps.Laws.{lands-is}
 use Rattle.engine_step.proofs.jumps.has_landing.Statement.{statement}
 use Rattle.engine_step.proofs.jumps.has_landing.Tie as tie
 

@@ -1,5 +1,5 @@
 use borrow.Author.Needs.{needs}
-use Rattle.engine_step.proofs.jumps.Landing.{land-goes, land-strays}
+use Rattle.engine_step.proofs.jumps.Laws.{land-goes, land-strays}
 use Rattle.engine_step.proofs.jumps.jump_to_landing.Statement.{statement}
 use Rattle.engine_step.proofs.jumps.jump_to_landing.Tie as tie
 

@@ -1,5 +1,5 @@
 use borrow.Author.Needs.{needs}
-use Rattle.machine_step.proofs.apply.Applied.{goes, puts, stores, orders, probes, ends, waits}
+use Rattle.machine_step.proofs.apply.Laws.{goes, puts, stores, orders, probes, ends, waits}
 use Rattle.machine_step.proofs.apply.apply.Statement.{statement}
 use Rattle.machine_step.proofs.apply.apply.Tie as tie
 

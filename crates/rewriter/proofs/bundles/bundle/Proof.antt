@@ -1,5 +1,5 @@
 use borrow.Author.Needs.{needs}
-use Rattle.words.proofs.Laying.{kind-fits, jump-fits, landing-fits, lay-halt, lay-plain, lay-load, lay-store, lay-goif, lay-gox, lay-event}
+use Rattle.words.proofs.BundleWords.{kind-fits, jump-fits, landing-fits, lay-halt, lay-plain, lay-load, lay-store, lay-goif, lay-gox, lay-event}
 use Rattle.rewriter.proofs.bundles.bundle.Statement.{statement}
 use Rattle.rewriter.proofs.bundles.bundle.Tie as tie
 

@@ -1,5 +1,5 @@
 use borrow.Author.Needs.{needs}
-use Rattle.words.proofs.guest.RefusalLaws.{word-judged}
+use Rattle.words.proofs.guest.RefusalLaws.{word-refusal}
 use Rattle.words.proofs.guest.refusal_by_fields.Statement.{statement}
 use Rattle.words.proofs.guest.refusal_by_fields.Tie as tie
 
@@ -10,4 +10,4 @@ refusal-by-fields-spec =
     (λ c κs. search needs)
     (λ c κs. search needs)
     (λ c κs. search needs)
-    (λ c. search (word-judged, needs)))
+    (λ c. search (word-refusal, needs)))

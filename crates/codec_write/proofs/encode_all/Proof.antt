@@ -2,11 +2,11 @@ use borrow.Author.Needs.{needs}
 use native.Mathlib.Omega.{arith}
 use lib.ListN.{length-set}
 use Rattle.codec_write.proofs.Writing.{put-length, put-routine}
-use Rattle.codec_write.proofs.put_all.Statement.{statement}
-use Rattle.codec_write.proofs.put_all.Tie as tie
+use Rattle.codec_write.proofs.encode_all.Statement.{statement}
+use Rattle.codec_write.proofs.encode_all.Tie as tie
 
-pub put-all-spec : {M : Type 1} → statement M
-put-all-spec =
+pub encode-all-spec : {M : Type 1} → statement M
+encode-all-spec =
     tie.close
     (tie.spec
     (λ c. search needs)

@@ -2,11 +2,11 @@ use mathlib.Core.Path.{sym}
 use native.Mathlib.Omega.{arith}
 use lib.Seq.{set-out}
 use borrow.Author.Needs.{needs}
-use Rattle.codec_read.proofs.put.Statement.{statement}
-use Rattle.codec_read.proofs.put.Tie as tie
+use Rattle.codec_read.proofs.set_word.Statement.{statement}
+use Rattle.codec_read.proofs.set_word.Tie as tie
 
-pub put-spec : {M : Type 1} → statement M
-put-spec =
+pub set-word-spec : {M : Type 1} → statement M
+set-word-spec =
     tie.close
     (tie.spec
     (λ c. search needs)

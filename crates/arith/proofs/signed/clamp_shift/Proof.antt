@@ -1,11 +1,11 @@
 use native.Mathlib.Omega.{arith}
 use native.Mathlib.Nat.{min-eq-left, min-eq-right}
 use mathlib.Core.Path.{sym}
-use Rattle.arith.proofs.signed.to_last_bit.Statement.{statement}
-use Rattle.arith.proofs.signed.to_last_bit.Tie as tie
+use Rattle.arith.proofs.signed.clamp_shift.Statement.{statement}
+use Rattle.arith.proofs.signed.clamp_shift.Tie as tie
 
-pub to-last-bit-spec : {M : Type 1} → statement M
-to-last-bit-spec =
+pub clamp-shift-spec : {M : Type 1} → statement M
+clamp-shift-spec =
     tie.close
     (tie.spec
     (λ c. sym (min-eq-left (omega arith)))
