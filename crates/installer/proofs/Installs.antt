@@ -1,27 +1,42 @@
 -- What installing answers and leaves.
 use Prim.Native.Nat.{ℕ, _+_, _≤_}
-use mathlib.Core.Path.{_≡_, refl, ap, _∙_}
+use mathlib.Core.Path.{_≡_, refl, sym, ap, _∙_}
 use mathlib.Core.Bool.{Bool, true, false}
 use mathlib.Core.List.{List, []}
 use native.Mathlib.Omega.{arith}
+use lib.Dec.{eqb, leb}
 use lib.ListN.{length, set}
 use lib.Seq.{sets}
-use borrow.Author.Tests.{eq-eqb, ne-eqb, eqb-true}
+use borrow.Author.Tests.{eq-eqb, ne-eqb, eqb-true, le-leb}
 use Rattle.types.specs.declared.Layout.{Layout}
 use Rattle.types.specs.declared.Answer.{Answer}
 use Rattle.types.specs.declared.Installed.{Installed}
 use Rattle.types.specs.declared.Machine.{Machine}
 use Rattle.types.specs.declared.Refusal.the-variants.{Taken, BadLayout, BadPolicy, BadLandings}
-use Rattle.types.specs.Names.{numberOf, answer, refusal}
+use Rattle.types.specs.Names.{mostStates, numberOf, answer, refusal}
 use Rattle.spec.specs.Layouts.{rightLayout}
-use Rattle.spec.specs.Policies.{Policy, policyOf, rightPolicy}
+use Rattle.spec.specs.Policies.{Policy, policyOf, statesRight, rightPolicy}
 use Rattle.spec.specs.Landings.{rightLandings, landingsOf}
 use Rattle.spec.specs.Machines.{fits, installAnswer, installMachine, installMemory, installOf}
+use Rattle.installer.specs.table.Tables.{tableRight}
 use Rattle.types.specs.Records.{machineAt, machineRefused}
-use Rattle.spec.proofs.Bools.{both, unless-ind}
+use Rattle.spec.proofs.Bools.{both, join, unless-ind}
 use Rattle.spec.proofs.Layouts.{LayoutFacts, layout-facts}
 use Rattle.spec.proofs.Landings.{length-landings}
 use Rattle.spec.proofs.Conditions.{fits-of, policy-facts}
+
+-- a policy of the layout's states is right under the layout as it is by itself
+module _ (l : Layout) (s q : ℕ) (t : List ℕ) where
+  pub own-states : rightLayout l ≡ true → s ≡ l .states → (r : Bool) → r ≡ tableRight (policyOf s q t []) → r ≡ rightPolicy l (policyOf s q t [])
+  unfolding rightPolicy tableRight
+  own-states h e r f =
+      let fact = layout-facts l h in
+      let known : statesRight s ≡ true = join (leb 1 s) (leb s mostStates) (le-leb 1 s (omega (arith, fact .some-states))) (le-leb s mostStates (omega (arith, fact .states))) in
+      rw (eq-eqb s (l .states) e) (rw known at f)
+
+  pub other-states : (s ≡ l .states → ⊥) → false ≡ rightPolicy l (policyOf s q t [])
+  unfolding rightPolicy
+  other-states z = rw (ne-eqb s (l .states) z)
 
 -- l and the policy that is laid into mem
 module _ (l : Layout) (s q : ℕ) (t ls mem : List ℕ) where
@@ -30,6 +45,9 @@ module _ (l : Layout) (s q : ℕ) (t ls mem : List ℕ) where
 
   -- the answer: refused 7, refused 10, refused 14, taken
   module _ (b : Bool) (e : b ≡ fits l mem) where
+    pub layout-is : b ≡ true → rightLayout l ≡ true
+    layout-is h = both (rightLayout l) (eqb (length mem) (l .size)) (sym e ∙ h) .0
+
     pub no-layout : b ≡ false → refusal BadLayout 0 ≡ installAnswer l pol mem
     unfolding installAnswer
     no-layout h = rw (← e, h)

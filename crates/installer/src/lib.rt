@@ -5,7 +5,7 @@ pub mod table_words;
 
 use crate::landings::landing_cells;
 use crate::landings::landings_right;
-use crate::table::entries_right;
+use crate::table::table_right;
 pub use crate::table_words::word_right;
 use buffers::cells::poke;
 use buffers::stores::store_bytes;
@@ -18,20 +18,21 @@ use types::PolicyNumbers;
 use types::Refusal;
 use words::memory::fits;
 ghost use mathlib.Core.Path.{_≡_};
+ghost use mathlib.Core.Bool.{true};
 ghost use mathlib.Core.List.{[]};
+ghost use Rattle.spec.specs.Layouts.{rightLayout};
 ghost use Rattle.spec.specs.Policies.{lentPolicy, rightPolicy};
 ghost use Rattle.spec.specs.Machines.{installAnswer, installOf, installMemory};
 
-// Whether a policy can be installed under a layout: the four conditions of refusal 10 (bad policy).
+// Whether a policy can be installed under a layout that is right: the four conditions of refusal 10 (bad policy).
 fn policy_right(layout: Layout, policy: PolicyNumbers, table: &[u8]) -> bool
+    requires { ⌜ rightLayout layout ≡ true ⌝ }
     ensures { λ r. ⌜ r ≡ rightPolicy layout (lentPolicy policy (now (table .entry)) []) ⌝ }
 {
-    let states = policy.states;
-    let entries = entries_right(states, table);
-    (states == layout.states)
-        & (table.len() == PolicyNumbers::EVENTS as usize * states as usize)
-        & (policy.start < states)
-        & entries
+    if policy.states == layout.states {
+        return table_right(policy, table);
+    }
+    false
 }
 
 // What installing answers. Nothing is written.

@@ -11,6 +11,7 @@ use borrow.Author.Tests.{ltb-true, eqb-true, eqb-false, leb-true, ne-eqb, eq-eqb
 use Rattle.types.specs.Names.{mostStates, events, orders, noArrow}
 use Rattle.spec.specs.Policies.{Policy, arrow, allowedFrom, allowed, stateFrom, statesRight, entryRight, entriesRight, rightPolicy}
 use Rattle.spec.proofs.Bools as bools
+use Rattle.installer.specs.table.Tables.{tableRight}
 use Rattle.policy_spec.proofs.maps.Maps.{build-at}
 use Rattle.policy_spec.specs.reachability.Reach.{nodeAfter, reachOf}
 use Rattle.policy_spec.specs.reachability.Claims.{Arrows}
@@ -32,7 +33,7 @@ entries-at s (b ∷ bs) zero e z = ⊎-elim (ltb-true b s) (λ f. absurd (z (eqb
 entries-at s (b ∷ bs) (suc i) e z = entries-at s bs i (bools.both (entryRight s b) (entriesRight s bs) e .1) z
 
 pub side-of : (p : Policy) → sideRight p ≡ true → Side p
-unfolding sideRight
+unfolding tableRight
 side-of p t =
     let m = bools.both (statesRight (p .states) && eqb (length (p .table)) (events * p .states) && ltb (p .start) (p .states)) (entriesRight (p .states) (p .table)) t in
     let q = bools.both (statesRight (p .states) && eqb (length (p .table)) (events * p .states)) (ltb (p .start) (p .states)) (m .0) in
@@ -142,7 +143,7 @@ pub pairs-exact : PairsExact
 pairs-exact a b r = nodes-exact (pairAfter a b) (startPair a b) (start-pairs a b)
 
 pub side-installs : SideInstalls
-unfolding sideRight rightPolicy
+unfolding tableRight rightPolicy
 side-installs p lay e =
     let l = eqb (length (p .table)) (events * p .states) in
     let q = ltb (p .start) (p .states) in

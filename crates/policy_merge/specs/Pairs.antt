@@ -3,11 +3,12 @@ use Prim.Native.Nat.{ℕ, _+_, _-_, _*_, _/_, _%_, min}
 use mathlib.Core.Bool.{Bool, _&&_, _||_, not, cond}
 use mathlib.Core.List.{List, [], _∷_}
 use lib.ListN.{length, getD, replicate}
-use lib.Dec.{eqb, ltb}
+use lib.Dec.{eqb}
 use Rattle.types.specs.declared.PolicyNumbers.{PolicyNumbers}
 use Rattle.types.specs.declared.Refusal.the-variants.{BadPolicy}
 use Rattle.types.specs.Names.{mostStates, events, orders, noArrow, refusal, ifTaken, first}
-use Rattle.spec.specs.Policies.{Policy, policyOf, lentPolicy, arrow, entriesRight, statesRight}
+use Rattle.spec.specs.Policies.{Policy, policyOf, lentPolicy, arrow}
+use Rattle.installer.specs.table.Tables.{tableRight}
 use Rattle.policy_spec.specs.maps.Maps.{build}
 use Rattle.policy_spec.specs.reachability.Reach.{policyFrom, madeWith, reachOf, reachTable}
 use Rattle.policy_spec.specs.declared.reachability.Made.{Made}
@@ -43,8 +44,8 @@ abbrev pub startPair : Policy → Policy → ℕ
 startPair a b = pair (a .start) (b .start)
 
 -- what is not refused of one input with 10 (bad policy): 'a state count outside 1 to 16 included'
-unfoldable pub sideRight : Policy → Bool
-sideRight p = statesRight (p .states) && eqb (length (p .table)) (events * p .states) && ltb (p .start) (p .states) && entriesRight (p .states) (p .table)
+abbrev pub sideRight : Policy → Bool
+sideRight p = tableRight p
 
 -- 'Its states are the pairs reachable from the two starts, numbered as first met'
 abbrev pub mergedPolicy : Policy → Policy → Policy

@@ -1,5 +1,6 @@
 // Request 7, 'Two policies at once': makes the policy of pairs of states. The pair of s and t is the number 16 × s + t + 1; 0 is no pair.
 use buffers::cells::index_of;
+use installer::table::table_right;
 use policy_spec::reachability::EVENTS;
 use policy_spec::reachability::MOST;
 use policy_spec::reachability::Made;
@@ -12,7 +13,7 @@ ghost use Prim.Native.Nat.{_+_, _*_, _^_, _<_, min};
 ghost use lib.ListN.{length, getD};
 ghost use Rattle.types.specs.Names.{events, noArrow};
 ghost use Rattle.policy_spec.specs.reachability.Worklists.{Explored};
-ghost use Rattle.policy_merge.specs.Pairs.{sideOf, arrowsOf, pair as pairOf, both as bothOf, pairAfter, sideRight, smaller as smallerOf, mergeMade, withCeilings, mergeOf, mergeTable};
+ghost use Rattle.policy_merge.specs.Pairs.{sideOf, arrowsOf, pair as pairOf, both as bothOf, pairAfter, smaller as smallerOf, mergeMade, withCeilings, mergeOf, mergeTable};
 
 // The mark of no arrow.
 const NO_ARROW: usize = PolicyNumbers::NO_ARROW as usize;
@@ -31,16 +32,6 @@ pub struct Merged {
     pub answer: Answer,
     pub policy: PolicyNumbers,
     pub ceilings: [u32; ORDERS],
-}
-
-// Whether a policy is not refused with 10 (bad policy).
-fn side_right(policy: PolicyNumbers, table: &[u8]) -> bool
-    ensures { λ r. ⌜ r ≡ sideRight (sideOf policy (now (table .entry))) ⌝ }
-{
-    let states = policy.states;
-    let known = installer::table_words::states_right(states);
-    let entries = installer::table::entries_right(states, table);
-    known & (table.len() == EVENTS * states as usize) & (policy.start < states) & entries
 }
 
 // The state after an event in a state, or no arrow; there is none where the table has no entry.
@@ -152,7 +143,7 @@ fn made_of(a: PolicyNumbers, left: &[u8], b: PolicyNumbers, right: &[u8], table:
     ensures made { λ r. ⌜ r ≡ mergeMade (sideOf a (now (left .entry))) (sideOf b (now (right .entry))) (length (now (table .entry))) ⌝ }
     ensures table { λ _. ⌜ now (table .exit) ≡ mergeTable (sideOf a (now (left .entry))) (sideOf b (now (right .entry))) (now (table .entry)) ⌝ }
 {
-    let ok = side_right(a, left) & side_right(b, right);
+    let ok = table_right(a, left) & table_right(b, right);
     if !ok {
         return policy_reachability::writing::refused(Refusal::BAD_POLICY);
     }
@@ -160,7 +151,7 @@ fn made_of(a: PolicyNumbers, left: &[u8], b: PolicyNumbers, right: &[u8], table:
     policy_reachability::writing::write(explore(left, right, start), table)
 }
 
-// Merges two policies, `left` the table of one and `pairs_right` that of the other: the table from the start of the one lent, the state count
+// Merges two policies, `left` the table of one and `right` that of the other: the table from the start of the one lent, the state count
 // and start, and the ceilings.
 pub fn merge(one: Side, left: &[u8], other: Side, right: &[u8], table: &mut [u8]) -> Merged
     ensures merged { λ r. ⌜ r ≡ mergeOf (sideOf (one .policy) (now (left .entry))) (one .ceilings) (sideOf (other .policy) (now (right .entry))) (other .ceilings) (length (now (table .entry))) ⌝ }

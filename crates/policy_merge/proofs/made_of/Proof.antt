@@ -10,13 +10,13 @@ returns : tie.Need-returns
 returns c =
     let second = c .before .before in
     let first = second .before in
-    bad-policy _ _ _ _ (first .side-right .ensures) (second .side-right2 .ensures) (now (first .before .before .before .before .args .table)) _ (not-true _ (c .before .if1 .taken)) (c .refused .ensures)
+    bad-policy _ _ _ _ (first .table-right .ensures) (second .table-right2 .ensures) (now (first .before .before .before .before .args .table)) _ (not-true _ (c .before .if1 .taken)) (c .refused .ensures)
 
 pair-requires : tie.Need-pair-requires
 pair-requires c κs =
     let test = c .before .before in
     let second = test .before in
-    let s = sides _ _ _ _ (second .before .side-right .ensures) (second .side-right2 .ensures) (not-false _ (test .if1 .left)) in
+    let s = sides _ _ _ _ (second .before .table-right .ensures) (second .table-right2 .ensures) (not-false _ (test .if1 .left)) in
     (omega (arith, s .0), omega (arith, s .1))
 
 explore-requires : tie.Need-explore-requires
@@ -30,7 +30,7 @@ returns-2 c =
     let test = paired .before .before .before in
     let second = test .before in
     let first = second .before in
-    makes _ _ _ _ (first .side-right .ensures) (second .side-right2 .ensures) (now (first .before .before .before .before .args .table)) _ _ _ _ (not-false _ (test .if1 .left)) (paired .pair .ensures) (explored .explore .ensures) (written .write .ensures .0) (written .write .ensures .1)
+    makes _ _ _ _ (first .table-right .ensures) (second .table-right2 .ensures) (now (first .before .before .before .before .args .table)) _ _ _ _ (not-false _ (test .if1 .left)) (paired .pair .ensures) (explored .explore .ensures) (written .write .ensures .0) (written .write .ensures .1)
 
 pub made-of-spec : {M : Type 1} → statement M
 made-of-spec =
