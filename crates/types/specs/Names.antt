@@ -40,6 +40,14 @@ mostBundles = 1024
 abbrev pub bundleLength : ℕ
 bundleLength = 4
 
+-- 'n in two bytes'
+abbrev pub countBytes : ℕ
+countBytes = 2
+
+-- 'log pairs, two cells each'
+abbrev pub pairCells : ℕ
+pairCells = 2
+
 abbrev pub mostCommands : ℕ
 mostCommands = bundleLength * mostBundles
 

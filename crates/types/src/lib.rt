@@ -3,7 +3,7 @@ ghost use mathlib.Core.Path.{_≡_};
 ghost use Rattle.types.specs.declared.Ending.the-variants.{Refused};
 ghost use Rattle.types.specs.declared.Refusal.the-variants.{Taken};
 ghost use Rattle.types.specs.Names.{numberOf, answer};
-ghost use Rattle.types.specs.Records.{layoutOf, machineAt, machineRefused, outcomeOf};
+ghost use Rattle.types.specs.Records.{layoutOf, machineOf, machineAt, machineRefused, outcomeOf};
 
 // The layout of one drum: U, SL, SH, M, P, S, B and Q, and the ceilings of events 0 to 7.
 pub struct Layout {
@@ -104,8 +104,10 @@ pub enum Instr {
 }
 
 impl Instr {
-    // The most instructions of a routine.
+    // The most instructions of a routine, and the bytes of their count.
     pub const MOST: usize = 1023;
+
+    pub const COUNT_BYTES: usize = 2;
     // The kinds; a plain one is a step higher as a command.
     pub const KIND_HALT: u64 = 0;
 
@@ -195,6 +197,8 @@ impl Command {
     pub const EVENT: u64 = 19;
 
     pub const KINDS: u64 = Command::EVENT + 1;
+    // NOP has no field: its word is its kind.
+    pub const NOP_WORD: u64 = Command::NOP;
 }
 
 // The words of one bundle.
@@ -203,8 +207,10 @@ pub struct Bundle {
 }
 
 impl Bundle {
-    // Commands of a bundle.
+    // Commands of a bundle, and how many stand behind its first.
     pub const LENGTH: usize = 4;
+
+    pub const TAIL: usize = Bundle::LENGTH - 1;
     // The most bundles of a list, and their commands.
     pub const MOST: usize = 1024;
 
@@ -221,6 +227,21 @@ pub enum Status {
     Strayed,
 }
 
+// Their numbers for a host, and their count.
+impl Status {
+    pub const RUNNING: u32 = 0;
+
+    pub const ENDED: u32 = 1;
+
+    pub const STOPPED: u32 = 2;
+
+    pub const FAULTED: u32 = 3;
+
+    pub const STRAYED: u32 = 4;
+
+    pub const COUNT: u32 = Status::STRAYED + 1;
+}
+
 // The machine's record.
 pub struct Machine {
     pub regs: [u32; Machine::REGISTERS],
@@ -229,31 +250,29 @@ pub struct Machine {
 }
 
 impl Machine {
-    // Registers in all, and the hidden one, which no guest field names.
-    pub const REGISTERS: usize = 16;
-
+    // The hidden register, which no guest field names; it is the last.
     pub const HIDDEN: usize = 15;
+
+    pub const REGISTERS: usize = Machine::HIDDEN + 1;
+
+    pub fn from_parts(regs: [u32; Machine::REGISTERS], pc: u32, status: Status) -> Machine
+        ensures { λ r. ⌜ r ≡ machineOf regs pc status ⌝ }
+    {
+        Machine { regs, pc, status }
+    }
 
     // The record that installing yields: registers 0, pc at the base, running.
     pub fn new(base: u32) -> Machine
         ensures { λ r. ⌜ r ≡ machineAt base ⌝ }
     {
-        Machine {
-            regs: [0; Machine::REGISTERS],
-            pc: base,
-            status: Status::Running,
-        }
+        Machine::from_parts([0; Machine::REGISTERS], base, Status::Running)
     }
 
     // The record that a refused installation yields.
     pub fn refused() -> Machine
         ensures { λ r. ⌜ r ≡ machineRefused ⌝ }
     {
-        Machine {
-            regs: [0; Machine::REGISTERS],
-            pc: 0,
-            status: Status::Faulted,
-        }
+        Machine::from_parts([0; Machine::REGISTERS], 0, Status::Faulted)
     }
 }
 
@@ -370,12 +389,34 @@ pub enum Ending {
     Refused,
 }
 
+// Document 01's numbers of endings, and 26 of the requests; a refused run answers Refusal::BAD_LAYOUT.
+impl Ending {
+    pub const DONE: u8 = 20;
+
+    pub const NO_ARROW: u8 = 21;
+
+    pub const FAULT: u8 = 22;
+
+    pub const LOG_FULL: u8 = 23;
+
+    pub const SILENT: u8 = 24;
+
+    pub const SPENT: u8 = 25;
+
+    pub const NO_LANDING: u8 = 26;
+}
+
 // What a run answers: its ending, the steps taken, the pairs recorded and the readings used.
 pub struct RunAnswer {
     pub ending: Ending,
     pub steps: u32,
     pub pairs: usize,
     pub used: usize,
+}
+
+impl RunAnswer {
+    // The log cells of a pair.
+    pub const PAIR_CELLS: usize = 2;
 }
 
 // A run's answer and the record that it leaves.
