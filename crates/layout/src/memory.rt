@@ -2,9 +2,7 @@
 use types::Layout;
 use types::PolicyNumbers;
 ghost use mathlib.Core.Path.{_≡_};
-ghost use mathlib.Core.Bool.{_&&_};
-ghost use lib.Dec.{eqb};
-ghost use Rattle.spec.specs.Layouts.{rightLayout, maskOf, widthOf};
+ghost use Rattle.spec.specs.Layouts.{rightLayout, fitsCells, maskOf, widthOf};
 
 // Whether a layout is right. SH < U is tested before SH − SL + 1 is formed, which could wrap otherwise.
 pub fn layout_right(l: Layout) -> bool
@@ -47,7 +45,7 @@ pub fn layout_right(l: Layout) -> bool
 
 // Whether a layout is right and a memory of so many cells has its size: what is not refused with 7 (bad layout).
 pub fn fits(l: Layout, cells: usize) -> bool
-    ensures { λ r. ⌜ r ≡ (rightLayout l && eqb cells (l .size)) ⌝ }
+    ensures { λ r. ⌜ r ≡ fitsCells l cells ⌝ }
 {
     layout_right(l) & (cells == l.size as usize)
 }

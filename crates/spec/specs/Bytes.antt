@@ -1,7 +1,7 @@
 -- The byte form of a routine: what reading and writing answer and leave.
 use Rattle.spec.specs.Prelude.{ℕ, zero, suc, _+_, _*_, _/_, _%_, min, not, cond, List, [], _∷_, _++_, length, getD, drop, ltb, eqb}
 use Rattle.spec.specs.Types.{Fields, Answer, Decoded, Word, RefusedWith, Taken, Short, Foreign, Oversize, Trailing, SmallOutput}
-use Rattle.types.specs.Names.{mostInstructions, numberOf, answer, refusal, outputOf, roomFor, first}
+use Rattle.types.specs.Names.{mostInstructions, countBytes, numberOf, answer, refusal, outputOf, roomFor, first}
 use Rattle.spec.specs.Words.{fieldsRefusal, wordRefusal, firstRefused, fieldsOf, packFields}
 
 -- 1 of a number that is not 0
@@ -83,17 +83,17 @@ countOf s = getD s 0 0 + 256 * getD s 1 0
 
 -- the words of a routine's bytes
 abbrev pub wordsIn : List ℕ → List ℕ
-wordsIn s = wordsOf (countOf s) (drop 2 s)
+wordsIn s = wordsOf (countOf s) (drop countBytes s)
 
 -- 'Reading: 1 for the count, 5, 9; per instruction map 2, 1, 3, 2, 4; then 6'; room is the output's length
 unfoldable pub readAnswer : List ℕ → ℕ → Answer
 readAnswer s room =
     first
-    ((ltb (length s) 2, refusal Short 0)
+    ((ltb (length s) countBytes, refusal Short 0)
     ∷ (ltb mostInstructions (countOf s), refusal Oversize 0)
     ∷ (ltb room (countOf s), refusal SmallOutput 0)
     ∷ [])
-    (scanOf (countOf s) 0 (drop 2 s))
+    (scanOf (countOf s) 0 (drop countBytes s))
 
 -- what the output holds after reading
 unfoldable pub readOutput : List ℕ → List ℕ → List ℕ

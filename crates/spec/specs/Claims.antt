@@ -1,7 +1,7 @@
 -- Claims about the definitions. Each is a type; its proof has its name in small letters, in proofs/.
 use Rattle.spec.specs.Prelude.{ℕ, suc, _+_, _-_, _*_, _/_, _%_, _^_, _<_, _≤_, _≡_, true, false, _⊎_, List, [], _∷_, _++_, length, getD, take, drop, ones, pos, sucℤ, _*ℤ_, _≤ℤ_, _<ℤ_, ltb}
 use Rattle.spec.specs.Types.{Layout, Instr, HALT, EVENT, Machine, Outcome, Status, Running, Ended, Stopped, Faulted, Strayed, Ending, Done, NoArrow, Fault, LogFull, Silent, Spent, NoLanding, Refused, BadLayout}
-use Rattle.types.specs.Names.{events, orders, noArrow, mostInstructions, mostBundles, bundleLength, bundleShift, landingCells, cellBits, guestRegisters, numberOf, answer, endingNumber}
+use Rattle.types.specs.Names.{events, orders, noArrow, mostInstructions, mostBundles, bundleLength, pairCells, bundleShift, landingCells, cellBits, guestRegisters, numberOf, answer, endingNumber}
 use Rattle.spec.specs.Signed.{twos, sarOf, lessOf}
 use Rattle.spec.specs.Layouts.{span, rightLayout, widthOf, maskOf, inBox, protected}
 use Rattle.spec.specs.Policies.{Policy, arrow, allowed, stateOver}
@@ -244,7 +244,7 @@ pub record ReachesBoundary (lay : Layout) (ws : List ℕ) (c : Session) (g : Run
 -- a run that is lent its memory, a free pair of the log and a reading
 pub record Resumable (lay : Layout) (g : RunInput) : Type 0 where
   pub memory : length (g .memory) ≡ lay .size
-  pub log : 2 ≤ length (g .log)
+  pub log : pairCells ≤ length (g .log)
   pub readings : 1 ≤ length (g .readings)
 
 -- a machine that runs, wherever in a bundle it is, as after a pause, and is lent enough comes to the next
@@ -286,10 +286,10 @@ Faultless r = r .number ≡ endingNumber Fault → ⊥
 pub record FrameCondition {O : Type 0} (lay : Layout) (r : Run O) : Type 0 where
   pub size : length (r .result .mem) ≡ length (r .input .memory)
   pub cells : (i : ℕ) → inBox lay i ≡ false → (i ≡ lay .cell → ⊥) → getD (r .result .mem) i 0 ≡ getD (r .input .memory) i 0
-  pub counted : 2 * r .pairs ≤ length (r .result .log)
+  pub counted : pairCells * r .pairs ≤ length (r .result .log)
   pub drawn : r .used ≤ length (r .input .readings)
   pub logSize : length (r .result .log) ≡ length (r .input .log)
-  pub logRest : (i : ℕ) → 2 * r .pairs ≤ i → getD (r .result .log) i 0 ≡ getD (r .input .log) i 0
+  pub logRest : (i : ℕ) → pairCells * r .pairs ≤ i → getD (r .result .log) i 0 ≡ getD (r .input .log) i 0
 
 -- two runs given the same readings and budget, and logs and memories of the same lengths
 pub record SameInputs (g g′ : RunInput) : Type 0 where
