@@ -16,11 +16,7 @@ pub fn machine_of(xs: [u32; RECORD]) -> Machine
 {
     let mut regs = [0u32; Machine::REGISTERS];
     let status = read_record(&xs, &mut regs);
-    Machine {
-        regs,
-        pc: xs[Machine::REGISTERS],
-        status,
-    }
+    Machine::from_parts(regs, xs[Machine::REGISTERS], status)
 }
 
 // The record after a run that left this machine.

@@ -1,5 +1,4 @@
 // Registers and status of a record, the machine's or the engine's, read from an array of numbers and stored in it.
-use crate::statuses::STATUSES;
 use crate::statuses::status_number;
 use crate::statuses::status_of;
 use buffers::stores::store_cells;
@@ -31,7 +30,7 @@ pub fn store_record(xs: &mut [u32], regs: &[u32], at: u32, status: Status)
 {
     let n = regs.len();
     let last = n + 1;
-    if xs[last] < STATUSES {
+    if xs[last] < Status::COUNT {
         store_cells(xs, 0, regs);
         xs[n] = at;
         xs[last] = status_number(status);

@@ -14,11 +14,7 @@ pub fn finish(regs: [u32; Machine::REGISTERS], at: Point, ending: Ending, steps:
 {
     let status = at.status;
     Outcome {
-        machine: Machine {
-            regs,
-            pc: at.pc,
-            status,
-        },
+        machine: Machine::from_parts(regs, at.pc, status),
         answer: RunAnswer {
             ending,
             steps,

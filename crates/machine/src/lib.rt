@@ -1,4 +1,4 @@
-// A run of the machine, with the record by value.
+// A run and a step of the machine, with the record by value.
 pub mod answers;
 pub mod run_loop;
 pub mod tiers;
@@ -26,4 +26,18 @@ pub fn run_value(
         return Outcome::refused(machine);
     }
     crate::run_loop::run_on(layout, commands, machine, memory, budget, readings, log)
+}
+
+// One step, a run of budget 1.
+pub fn step_value(
+    layout: Layout,
+    commands: &[u64],
+    machine: Machine,
+    memory: &mut [u32],
+    readings: &[u32],
+    log: &mut [u32],
+) -> Outcome
+    ensures { λ r. ⌜ runResultOf r (now (memory .exit)) (now (log .exit)) ≡ runOf layout (now (commands .entry)) machine (now (memory .entry)) 1 (now (readings .entry)) (now (log .entry)) ⌝ }
+{
+    run_value(layout, commands, machine, memory, 1, readings, log)
 }
