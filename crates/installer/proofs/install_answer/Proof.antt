@@ -5,9 +5,6 @@ use Rattle.installer.proofs.Installs.{layout-is, no-layout, no-policy, 
 use Rattle.installer.proofs.install_answer.Statement.{statement}
 use Rattle.installer.proofs.install_answer.Tie as tie
 
-policy-right-requires : tie.Need-policy-right-requires
-policy-right-requires c κs = search (layout-is, not-false, needs)
-
 pub install-answer-spec : {M : Type 1} → statement M
 install-answer-spec =
     tie.close
@@ -15,10 +12,10 @@ install-answer-spec =
     (λ c κs. search needs)
     (λ c κs. search needs)
     (λ c. c .refused .ensures ∙ search (no-layout, not-true, needs))
-    policy-right-requires
+    (λ c κs. search (layout-is, not-false, needs))
     (λ c κs. search needs)
     (λ c. c .refused2 .ensures ∙ search (no-policy, not-true, not-false, needs))
-    (λ c κs. search needs)
+    (λ c κs. search (layout-is, not-false, needs))
     (λ c κs. search needs)
     (λ c. c .refused3 .ensures ∙ search (no-landings, not-true, not-false, needs))
     (λ c κs. search needs)
