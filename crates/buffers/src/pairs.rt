@@ -1,4 +1,5 @@
 // Writes pairs to a log: an event and its value, two cells each.
+use types::RunAnswer;
 ghost use mathlib.Core.Path.{_≡_};
 ghost use Prim.Native.Nat.{_<_, _^_};
 ghost use Rattle.spec.specs.Layouts.{limited as limitedOf};
@@ -9,7 +10,7 @@ pub fn write_pair(log: &mut [u32], n: usize, e: u32, x: u32)
     requires { ⌜ n < 2 ^ 62 ⌝ }
     ensures { λ _. ⌜ now (log .exit) ≡ withPair (now (log .entry)) n e x ⌝ }
 {
-    let first = 2 * n;
+    let first = RunAnswer::PAIR_CELLS * n;
     crate::cells::poke(log, first, e);
     crate::cells::poke(log, first + 1, x);
 }

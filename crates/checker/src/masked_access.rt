@@ -40,7 +40,7 @@ pub fn is_access(l: Layout, w: u64, x: u64, y: u64, z: u64) -> bool
 {
     let masked = is_mask(l, w, x);
     if field::kind(y) == Command::LOAD {
-        return masked & is_load(y) & (z == 0);
+        return masked & is_load(y) & (z == Command::NOP_WORD);
     }
-    masked & is_store(y) & (z == 0)
+    masked & is_store(y) & (z == Command::NOP_WORD)
 }

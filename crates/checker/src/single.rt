@@ -12,18 +12,20 @@ ghost use Rattle.checker.specs.single.Single.{singleWords, plainWords, i
 
 const LENGTH: u64 = Bundle::LENGTH as u64;
 
+const NOP: u64 = Command::NOP_WORD;
+
 // HALT, and three that do nothing.
 pub fn is_halt(w: u64, x: u64, y: u64, z: u64) -> bool
     ensures { λ r. ⌜ r ≡ singleWords w x y z (command .halt) ⌝ }
 {
-    (w == Command::HALT) & (x == 0) & (y == 0) & (z == 0)
+    (w == Command::HALT) & (x == NOP) & (y == NOP) & (z == NOP)
 }
 
 // A plain command on the guest's registers, and three that do nothing.
 pub fn is_plain(w: u64, x: u64, y: u64, z: u64) -> bool
     ensures { λ r. ⌜ r ≡ plainWords w x y z ⌝ }
 {
-    is_command(w) & only_guest_registers(w) & (x == 0) & (y == 0) & (z == 0)
+    is_command(w) & only_guest_registers(w) & (x == NOP) & (y == NOP) & (z == NOP)
 }
 
 // Whether an address is that of one of n bundles.
@@ -45,8 +47,5 @@ pub fn is_goif(l: Layout, n: usize, w: u64, x: u64, y: u64, z: u64) -> bool
 {
     is_command(w)
         & only_guest_registers(w)
-        & is_bundle_address(l, n, field::v(w))
-        & (x == 0)
-        & (y == 0)
-        & (z == 0)
+        & is_bundle_address(l, n, field::v(w)) & (x == NOP) & (y == NOP) & (z == NOP)
 }

@@ -19,6 +19,7 @@ ghost use lib.Dec.{eqb};
 ghost use lib.ListN.{length, set};
 ghost use lib.Seq.{sets as stores};
 ghost use Rattle.spec.specs.Words.{badLanding};
+ghost use Rattle.types.specs.Names.{countBytes};
 ghost use Rattle.spec.specs.Bytes.{scanOf, wordsOf, countOf, readAnswer, readOutput};
 ghost use Rattle.codec_read.specs.Scans.{firstPast};
 
@@ -88,7 +89,7 @@ pub fn scan(s: &[u8], n: usize, words: &mut [u64]) -> Scanned
 
 // n in two bytes, low first.
 pub fn count(s: &[u8]) -> usize
-    requires { ⌜ 2 ≤ length (now s) ⌝ }
+    requires { ⌜ countBytes ≤ length (now s) ⌝ }
     ensures { λ r. ⌜ r ≡ countOf (now (s .entry)) ⌝ }
 {
     index_of(s[0]) + 256 * index_of(s[1])
@@ -98,7 +99,7 @@ pub fn count(s: &[u8]) -> usize
 fn read_answer(bytes: &[u8], room: usize) -> Answer
     ensures { λ r. ⌜ r ≡ readAnswer (now (bytes .entry)) room ⌝ }
 {
-    if bytes.len() < 2 {
+    if bytes.len() < Instr::COUNT_BYTES {
         return Answer::refused(Refusal::SHORT);
     }
     let n = count(bytes);
@@ -109,7 +110,7 @@ fn read_answer(bytes: &[u8], room: usize) -> Answer
         return Answer::refused(Refusal::SMALL_OUTPUT);
     }
     let mut none = [0u64; 0];
-    let read = scan(&bytes[2..], n, &mut none);
+    let read = scan(&bytes[Instr::COUNT_BYTES..], n, &mut none);
     read.answer
 }
 
@@ -123,7 +124,7 @@ pub fn read(bytes: &[u8], words: &mut [u64]) -> Answer
     let refused = a.number;
     if refused == Refusal::TAKEN {
         let n = a.place;
-        scan(&bytes[2..], n, words);
+        scan(&bytes[Instr::COUNT_BYTES..], n, words);
     }
     a
 }

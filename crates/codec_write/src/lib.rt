@@ -13,7 +13,7 @@ ghost use mathlib.Core.Path.{_≡_};
 ghost use Prim.Native.Nat.{_+_, _≤_};
 ghost use lib.ListN.{length};
 ghost use lib.Seq.{sets as stores};
-ghost use Rattle.types.specs.Names.{mostInstructions, roomFor};
+ghost use Rattle.types.specs.Names.{mostInstructions, countBytes, roomFor};
 ghost use Rattle.spec.specs.Words.{wordRefusal, firstRefused};
 ghost use Rattle.spec.specs.Bytes.{encodeOne, bytesOf, routineOf, writeAnswer, writeOutput};
 
@@ -30,7 +30,7 @@ fn measure(words: &[u64], room: usize) -> Answer
     ensures { λ r. ⌜ r ≡ firstRefused wordRefusal (now (words .entry)) 0 (roomFor room (length (routineOf (now (words .entry))))) ⌝ }
 {
     let mut i: usize = 0;
-    let mut z: usize = 2;
+    let mut z: usize = Instr::COUNT_BYTES;
     while i < words.len() {
         let w = words[i];
         let refused = word_refusal(w);
@@ -60,12 +60,12 @@ fn emit(words: &[u64], bytes: &mut [u8], at: usize)
 
 // The count and the words' bytes.
 fn encode_all(words: &[u64], bytes: &mut [u8])
-    requires { ⌜ (2 + length (bytesOf (now words)) ≤ length (now bytes)) × (length (now words) ≤ mostInstructions) ⌝ }
+    requires { ⌜ (countBytes + length (bytesOf (now words)) ≤ length (now bytes)) × (length (now words) ≤ mostInstructions) ⌝ }
     ensures { λ _. ⌜ now (bytes .exit) ≡ stores (now (bytes .entry)) 0 (routineOf (now (words .entry))) ⌝ }
 {
     bytes[0] = (words.len() % 256) as u8;
     bytes[1] = (words.len() / 256) as u8;
-    emit(words, bytes, 2);
+    emit(words, bytes, Instr::COUNT_BYTES);
 }
 
 // What writing answers.

@@ -24,13 +24,13 @@ pub fn ending_number(ending: Ending) -> u8
     ensures { λ r. ⌜ r ≡ endingNumber ending ⌝ }
 {
     match ending {
-        Ending::Done => 20,
-        Ending::NoArrow => 21,
-        Ending::Fault => 22,
-        Ending::LogFull => 23,
-        Ending::Silent => 24,
-        Ending::Spent => 25,
-        Ending::NoLanding => 26,
+        Ending::Done => Ending::DONE,
+        Ending::NoArrow => Ending::NO_ARROW,
+        Ending::Fault => Ending::FAULT,
+        Ending::LogFull => Ending::LOG_FULL,
+        Ending::Silent => Ending::SILENT,
+        Ending::Spent => Ending::SPENT,
+        Ending::NoLanding => Ending::NO_LANDING,
         Ending::Refused => Refusal::BAD_LAYOUT,
     }
 }

@@ -2,6 +2,7 @@
 use types::Effect;
 use types::Ending;
 use types::PolicyNumbers;
+use types::RunAnswer;
 use types::Status;
 ghost use mathlib.Core.Path.{_≡_};
 ghost use mathlib.Core.Bool.{cond};
@@ -34,7 +35,7 @@ pub fn look(d: usize, cell: u32, table: u32, v: u32, memory: &[u32]) -> Effect
 fn unless_log_full(free: usize, e: Effect) -> Effect
     ensures { λ r. ⌜ r ≡ ifRoom free e ⌝ }
 {
-    if free < 2 {
+    if free < RunAnswer::PAIR_CELLS {
         return Effect::Wait(Ending::LogFull);
     }
     e

@@ -12,6 +12,8 @@ ghost use Rattle.words.specs.Packing.{Packable};
 // The hidden register.
 const HIDDEN: u64 = Machine::HIDDEN as u64;
 
+const NOP: u64 = Command::NOP_WORD;
+
 // The four words of an instruction's bundle, among n.
 pub fn bundle(l: Layout, n: usize, i: Instr) -> Bundle
     requires { ⌜ Packable l n i ⌝ }
@@ -22,17 +24,17 @@ pub fn bundle(l: Layout, n: usize, i: Instr) -> Bundle
     let high = l.high as u64;
     match i {
         Instr::HALT => Bundle {
-            words: [word(Command::HALT, 0, 0, 0, 0, 0), 0, 0, 0],
+            words: [word(Command::HALT, 0, 0, 0, 0, 0), NOP, NOP, NOP],
         },
         Instr::PLAIN(k, d, a, b, v) => Bundle {
-            words: [word(k + Instr::PLAIN_STEP, d, a, b, 0, v), 0, 0, 0],
+            words: [word(k + Instr::PLAIN_STEP, d, a, b, 0, v), NOP, NOP, NOP],
         },
         Instr::LOAD(d, a) => Bundle {
             words: [
                 word(Command::ANDI, HIDDEN, a, 0, 0, high),
                 word(Command::ORI, HIDDEN, HIDDEN, 0, 0, low),
                 word(Command::LOAD, d, HIDDEN, 0, 0, 0),
-                0,
+                NOP,
             ],
         },
         Instr::STORE(a, b) => Bundle {
@@ -40,15 +42,15 @@ pub fn bundle(l: Layout, n: usize, i: Instr) -> Bundle
                 word(Command::ANDI, HIDDEN, a, 0, 0, high),
                 word(Command::ORI, HIDDEN, HIDDEN, 0, 0, low),
                 word(Command::STORE, 0, HIDDEN, b, 0, 0),
-                0,
+                NOP,
             ],
         },
         Instr::GOIF(a, b, c, v) => Bundle {
             words: [
                 word(Command::GOIF, 0, a, b, c, base + Bundle::LENGTH as u64 * v),
-                0,
-                0,
-                0,
+                NOP,
+                NOP,
+                NOP,
             ],
         },
         Instr::GOX(d, a, b, c) => Bundle {

@@ -32,7 +32,7 @@ fn landings_answer(layout: Layout, n: usize, past: usize, room: usize) -> Answer
 pub fn judge(layout: Layout, bytes: &[u8], room: usize) -> Answer
     ensures { λ r. ⌜ r ≡ translateAnswer layout (now (bytes .entry)) room ⌝ }
 {
-    if bytes.len() < 2 {
+    if bytes.len() < Instr::COUNT_BYTES {
         return Answer::refused(Refusal::SHORT);
     }
     let n = count(bytes);
@@ -40,7 +40,7 @@ pub fn judge(layout: Layout, bytes: &[u8], room: usize) -> Answer
         return Answer::refused(Refusal::OVERSIZE);
     }
     let mut none = [0u64; 0];
-    let read = scan(&bytes[2..], n, &mut none);
+    let read = scan(&bytes[Instr::COUNT_BYTES..], n, &mut none);
     let answer = read.answer;
     let refused = answer.number;
     if refused != Refusal::TAKEN {

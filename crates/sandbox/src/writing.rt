@@ -2,6 +2,7 @@
 use codec_read::count;
 use codec_read::scan;
 use rewriter::expand;
+use types::Instr;
 use types::Layout;
 use words::count::bundles;
 ghost use mathlib.Core.Path.{_≡_};
@@ -17,6 +18,6 @@ pub fn write_routine(layout: Layout, bytes: &[u8], commands: &mut [u64])
     ensures { λ _. ⌜ now (commands .exit) ≡ sets (now (commands .entry)) 0 (commandsOf layout (wordsIn (now (bytes .entry)))) ⌝ }
 {
     let k = count(bytes);
-    scan(&bytes[2..], k, commands);
+    scan(&bytes[Instr::COUNT_BYTES..], k, commands);
     expand(layout, bundles(k as u32), k, commands);
 }

@@ -3,7 +3,7 @@ use lines::print_case;
 use types::Instr;
 
 // The bytes of a routine's count; a HALT has one.
-const COUNT: usize = 2;
+const COUNT: usize = Instr::COUNT_BYTES;
 
 fn reads(name: &[u8], bytes: &[u8]) {
     let mut words = [0u64; Instr::MOST];

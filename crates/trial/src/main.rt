@@ -8,8 +8,10 @@ use types::Layout;
 use types::Machine;
 use types::PolicyNumbers;
 use types::Refusal;
+use types::RunAnswer;
 ghost use Prim.Native.Nat.{_*_, _≤_};
 ghost use lib.ListN.{length};
+ghost use Rattle.types.specs.Names.{pairCells};
 
 // The drum's cells, as a number and as a length, and its base.
 const SIZE: u32 = 1024;
@@ -18,8 +20,11 @@ const CELLS: usize = SIZE as usize;
 
 const BASE: u32 = 4096;
 
+// The mark of no arrow, as a byte of a table.
+const NO_ARROW: u8 = PolicyNumbers::NO_ARROW as u8;
+
 // The bytes of the longest routine: its count, and ten for each instruction.
-const LONGEST: usize = 2 + 10 * Instr::MOST;
+const LONGEST: usize = Instr::COUNT_BYTES + 10 * Instr::MOST;
 
 fn print_answer(number: u8) {
     print(b"answer ", number as u64);
@@ -34,11 +39,14 @@ fn print_event(event: u32, value: u32) {
 
 // The pairs at the start of a log, a line each.
 fn print_events(log: &[u32], pairs: usize)
-    requires { ⌜ 2 * pairs ≤ length (now log) ⌝ }
+    requires { ⌜ pairCells * pairs ≤ length (now log) ⌝ }
 {
     let mut i = 0;
     while i < pairs {
-        print_event(log[2 * i], log[2 * i + 1]);
+        print_event(
+            log[RunAnswer::PAIR_CELLS * i],
+            log[RunAnswer::PAIR_CELLS * i + 1],
+        );
         i += 1;
     }
 }
@@ -93,7 +101,7 @@ fn try_routine(bytes: &[u8]) {
         0,
         0,
         0,
-        255,
+        NO_ARROW,
         1,
         1,
         1,
