@@ -1,26 +1,32 @@
 -- A list of calls is a list of runs.
 use Prim.Native.Nat.{ℕ}
-use mathlib.Core.Path.{_≡_, refl, _∙_, ap, subst}
-use mathlib.Core.Bool.{Bool, true, false}
+use mathlib.Core.Path.{_≡_, refl, sym, _∙_, ap, subst}
+use mathlib.Core.Bool.{Bool, true, false, _&&_}
 use mathlib.Core.List.{List, [], _∷_, map}
+use borrow.Author.Tests.{eq-eqb}
+use lib.Dec.{eqb}
 use lib.ListN.{length}
 use Rattle.types.specs.declared.Layout.{Layout}
 use Rattle.types.specs.declared.Ending.{Ending}
 use Rattle.types.specs.declared.Effect.{Effect}
+use Rattle.types.specs.declared.Outcome.{Outcome}
 use Rattle.types.specs.Names.{registers}
+use Rattle.spec.specs.Layouts.{rightLayout}
 use Rattle.spec.specs.Policies.{Policy}
 use Rattle.spec.specs.Bundles.{checkAnswer}
-use Rattle.spec.specs.Machines.{State, startOf, fits, runOf, installAnswer, installMachine, installMemory}
+use Rattle.spec.specs.Machines.{State, startOf, fits, RunResult, runOf, installAnswer, installMachine, installMemory}
 use Rattle.types.specs.Records.{machineOf}
-use Rattle.spec.specs.Runs.{RunInput, Session, sessionOf, initialSession, runOn, afterTaken, afterRun, runAs, MemoriesPreserved, eachRun}
+use Rattle.spec.specs.Runs.{RunInput, Pairwise, Run, LowEqual, Session, sessionOf, initialSession, runOn, afterTaken, afterRun, runAs, MemoriesPreserved, HostPremise, eachRun}
+use Rattle.spec.specs.Claims.{SameInputs, SameObservations}
+use Rattle.spec.proofs.Bools.{both, join, cond-ind}
 use Rattle.spec.proofs.Loops.{Loop, keeps, machineLoop}
 use Rattle.spec.proofs.Counts.{apply-regs}
-use Rattle.spec.proofs.Conditions.{machine-of}
+use Rattle.spec.proofs.Conditions.{fits-of, machine-of}
 use Rattle.spec.proofs.Isolation.{isolation}
 use Rattle.sandbox_spec.proofs.Loading.{loads}
-use Rattle.capi_spec.specs.Numbers.{layoutFrom, machineFrom, machineTo}
+use Rattle.capi_spec.specs.Numbers.{layoutFrom, machineFrom, machineTo, runAnswerTo}
 use Rattle.capi_spec.specs.Hosts.{checkFor, installFor, loadFor, HostResult, resultTo, runFor}
-use Rattle.capi_spec.specs.Claims.{MachineRoundTrips, callsOf, runCall, Prepared, installed, loaded, HostIsolation}
+use Rattle.capi_spec.specs.Claims.{MachineRoundTrips, callsOf, runCall, Prepared, installed, loaded, HostIsolation, SameCalls, pairsPlace, HostNoninterference}
 use Rattle.capi_spec.proofs.Numbers.{comes-back, called}
 
 pub machine-round-trips : MachineRoundTrips
@@ -37,6 +43,17 @@ module _ {C R : Type 0} (numbers : C → List ℕ) (next : C → RunInput → C)
       let q = carries c g k in
       rw (ran c g k)
       (ap (λ (rs : List HostResult). left (runAs c g) ∷ rs) (ap (λ (ys : List ℕ). callsOf call ys gs) (q .0) ∙ calls-from (next c g) gs (q .1)))
+
+-- ---- two lists of runs that show the same are two lists of calls that do, the machine's or the engine's
+module _ {C O : Type 0} (next : C → RunInput → C) (runAs : C → RunInput → Run O) (left : Run O → HostResult) (p : ℕ) (lay : Layout)
+    (same : (c c′ : C) (g g′ : RunInput) → SameInputs g g′ → SameObservations lay (runAs c g) (runAs c′ g′) → SameCalls p lay (left (runAs c g)) (left (runAs c′ g′))) where
+  pub same-calls : (c c′ : C) (gs gs′ : List RunInput) → Pairwise SameInputs gs gs′ → Pairwise (SameObservations lay) (eachRun runAs next c gs) (eachRun runAs next c′ gs′)
+      → Pairwise (SameCalls p lay) (map left (eachRun runAs next c gs)) (map left (eachRun runAs next c′ gs′))
+  unfolding eachRun
+  same-calls c c′ [] [] i o = tt
+  same-calls c c′ [] (g′ ∷ gs′) i o = i
+  same-calls c c′ (g ∷ gs) [] i o = i
+  same-calls c c′ (g ∷ gs) (g′ ∷ gs′) i o = (same c c′ g g′ (i .0) (o .0), same-calls (next c g) (next c′ g′) gs gs′ (i .1) (o .1))
 
 -- ---- a loop, the machine's or the engine's, keeps the count of registers
 pub keeps-regs : {R : Type 0} (l : Loop ℕ R) (regs : R → List ℕ) → ((e : Ending) (k : ℕ) (s : State) → regs (l .ends e k s) ≡ s .regs)
@@ -87,7 +104,45 @@ host-isolation lay pol mem ws xs left gs ready lends =
     let m = installMachine l pol mem in
     let n : length (m .regs) ≡ registers = rw (machine-of l pol mem (s .taken)) in
     let first : sessionOf (machineFrom xs) left [] [] 0 ≡ initialSession l pol mem = rw (s .machine, s .memory, machine-round-trips .fromRecord m n) in
+    let premise : HostPremise l pol ws mem gs = record { passed = s .passed; installed = s .taken; preserved = subst (λ (c : Session). MemoriesPreserved l ws c gs) first lends } in
     record {
       calls = ap (λ (ys : List ℕ). callsOf (runCall lay ws) ys gs) (s .machine) ∙ calls-are lay ws (initialSession l pol mem) gs n;
-      isolated = isolation l pol ws mem gs (record { passed = s .passed; installed = s .taken; preserved = subst (λ (c : Session). MemoriesPreserved l ws c gs) first lends });
+      premise = premise;
+      isolated = isolation l pol ws mem gs premise;
     }
+
+-- ---- two lists
+
+-- a run whose memory has U cells when it is done was not refused for its length, and its memory is the one memory
+fitted : (lay : Layout) (ws : List ℕ) (c : Session) (g : RunInput) → rightLayout lay ≡ true → length (runOn lay ws c g .mem) ≡ lay .size → fits lay (g .memory) ≡ true
+unfolding runOn runOf
+fitted lay ws c g ok =
+    cond-ind (λ (r : RunResult). length (r .mem) ≡ lay .size → fits lay (g .memory) ≡ true) (fits lay (g .memory)) (λ t _. t) (λ _ e. join _ _ ok (eq-eqb (length (g .memory)) (lay .size) e))
+
+kept : (lay : Layout) (ws : List ℕ) (c : Session) (g : RunInput) → fits lay (g .memory) ≡ true → runOn lay ws c g .mem ≡ afterRun lay ws c g .memory
+unfolding afterRun afterTaken
+kept lay ws c g t = rw t
+
+same-run : (lay : Layout) (ws : List ℕ) → rightLayout lay ≡ true → (c c′ : Session) (g g′ : RunInput) → SameInputs g g′ → SameObservations lay (runAs lay ws c g) (runAs lay ws c′ g′)
+    → SameCalls pairsPlace lay (resultTo (runAs lay ws c g .result)) (resultTo (runAs lay ws c′ g′ .result))
+same-run lay ws ok c c′ g g′ i o =
+    let whole : length (runOn lay ws c g .mem) ≡ lay .size → (runOn lay ws c g .mem ≡ afterRun lay ws c g .memory) × (runOn lay ws c′ g′ .mem ≡ afterRun lay ws c′ g′ .memory) =
+    λ e. let t = fitted lay ws c g ok e in (kept lay ws c g t, kept lay ws c′ g′ (ap (λ (n : ℕ). rightLayout lay && eqb n (lay .size)) (sym (i .memory)) ∙ t)) in
+    record {
+      answer = ap (λ (x : Outcome). runAnswerTo (x .answer)) (o .outcome);
+      after = ap (λ (x : Outcome). machineTo (x .machine)) (o .outcome);
+      logged = o .logged;
+      cell = λ e. let k = whole e in rw (k .0, k .1) (o .cell);
+      box = λ e. let k = whole e in rw (k .0, k .1) (o .box);
+    }
+
+pub host-noninterference : HostNoninterference
+host-noninterference lay pol pol′ mem mem′ ws xs xs′ left left′ gs gs′ ready ready′ lends lends′ low given =
+    let l = layoutFrom lay in
+    let a = host-isolation lay pol mem ws xs left gs ready lends in
+    let b = host-isolation lay pol′ mem′ ws xs′ left′ gs′ ready′ lends′ in
+    let ok = both (rightLayout l) _ (fits-of l pol mem (a .premise .installed) .0) .0 in
+    let equal : LowEqual l (installMemory l pol mem) (installMemory l pol′ mem′) = rw (← prepared-facts ready .memory, ← prepared-facts ready′ .memory) low in
+    rw (a .calls, b .calls)
+    (same-calls (afterRun l ws) (runAs l ws) (λ r. resultTo (r .result)) pairsPlace l (same-run l ws ok) (initialSession l pol mem) (initialSession l pol′ mem′) gs gs′ given
+    (a .isolated .noninterference pol′ mem′ gs′ (b .premise) equal given))

@@ -1,7 +1,7 @@
 -- Every claim of this crate is proved.
 use Rattle.capi_spec.specs.Proved.{Proved}
 use Rattle.capi_spec.proofs.Samples.{sample-holds}
-use Rattle.capi_spec.proofs.Calls.{machine-round-trips, host-isolation}
+use Rattle.capi_spec.proofs.Calls.{machine-round-trips, host-isolation, host-noninterference}
 
 pub proved : Proved
-proved = record { machineRoundTrips = machine-round-trips; hostIsolation = host-isolation; sampleHolds = sample-holds }
+proved = record { machineRoundTrips = machine-round-trips; hostIsolation = host-isolation; hostNoninterference = host-noninterference; sampleHolds = sample-holds }

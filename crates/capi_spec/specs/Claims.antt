@@ -4,10 +4,12 @@ use mathlib.Core.Path.{_≡_}
 use mathlib.Core.Bool.{true}
 use mathlib.Core.List.{List, [], _∷_, map}
 use lib.ListN.{length, getD, take}
+use Rattle.types.specs.declared.Layout.{Layout}
 use Rattle.types.specs.Names.{registers}
+use Rattle.spec.specs.Layouts.{inBox}
 use Rattle.spec.specs.Policies.{Policy}
-use Rattle.spec.specs.Runs.{RunInput, sessionOf, MemoriesPreserved, allRuns}
-use Rattle.spec.specs.Claims.{Isolated}
+use Rattle.spec.specs.Runs.{RunInput, pairsOf, Pairwise, LowEqual, sessionOf, MemoriesPreserved, HostPremise, allRuns}
+use Rattle.spec.specs.Claims.{SameInputs, Isolated}
 use Rattle.capi_spec.specs.Numbers.{layoutFrom, trailer, statusKnown, numbersAfter, machineFrom, machineTo}
 use Rattle.capi_spec.specs.Hosts.{checkFor, installFor, HostLoaded, loadFor, HostResult, resultTo, runFor}
 
@@ -56,12 +58,42 @@ pub data Prepared (lay : List ℕ) (pol : Policy) (mem : List ℕ) : List ℕ �
       → Prepared lay pol mem (counted (loadFor lay pol bytes out mem)) (loadFor lay pol bytes out mem .machine) (loadFor lay pol bytes out mem .memory)
 
 -- from there calls of hemdroas_run, each with the layout's numbers, these commands, the record's numbers as the last call left them and a memory
--- that is, but for free cells, what the last call left: the calls are the runs of which demand 3 speaks, and it holds of them
+-- that is, but for free cells, what the last call left
+abbrev pub CallsPreserved : List ℕ → List ℕ → List ℕ → List ℕ → List RunInput → Type 0
+CallsPreserved lay ws xs left gs = MemoriesPreserved (layoutFrom lay) ws (sessionOf (machineFrom xs) left [] [] 0) gs
+
+-- the calls are the runs of which demand 3 speaks, they are on its premise, and it holds of them
 pub record CallsIsolated (lay : List ℕ) (pol : Policy) (ws xs mem : List ℕ) (gs : List RunInput) : Type 0 where
   pub calls : callsOf (runCall lay ws) xs gs ≡ map (λ r. resultTo (r .result)) (allRuns (layoutFrom lay) pol ws mem gs)
+  pub premise : HostPremise (layoutFrom lay) pol ws mem gs
   pub isolated : Isolated (layoutFrom lay) pol ws mem gs
 
 abbrev pub HostIsolation : Type 0
 HostIsolation =
     (lay : List ℕ) (pol : Policy) (mem ws xs left : List ℕ) (gs : List RunInput) →
-    Prepared lay pol mem ws xs left → MemoriesPreserved (layoutFrom lay) ws (sessionOf (machineFrom xs) left [] [] 0) gs → CallsIsolated lay pol ws xs mem gs
+    Prepared lay pol mem ws xs left → CallsPreserved lay ws xs left gs → CallsIsolated lay pol ws xs mem gs
+
+-- ---- two lists of calls
+
+-- two calls with the same answer and record, the same pairs in their logs and, in memories of U cells, the same state cell and sandbox;
+-- the answer counts its pairs at place p
+pub record SameCalls (p : ℕ) (lay : Layout) (r r′ : HostResult) : Type 0 where
+  pub answer : r .answer ≡ r′ .answer
+  pub after : r .after ≡ r′ .after
+  pub logged : pairsOf (r .log) (getD (r .answer) p 0) ≡ pairsOf (r′ .log) (getD (r′ .answer) p 0)
+  pub cell : length (r .memory) ≡ lay .size → getD (r .memory) (lay .cell) 0 ≡ getD (r′ .memory) (lay .cell) 0
+  pub box : length (r .memory) ≡ lay .size → (i : ℕ) → inBox lay i ≡ true → getD (r .memory) i 0 ≡ getD (r′ .memory) i 0
+
+-- a run's answer has its pairs third
+abbrev pub pairsPlace : ℕ
+pairsPlace = 2
+
+-- demand 3's noninterference, of two lists of calls with the same commands: both prepared, the memories low-equivalent then, each call of the one
+-- given the inputs of the other's. Free cells and what logs held before have no influence
+abbrev pub HostNoninterference : Type 0
+HostNoninterference =
+    (lay : List ℕ) (pol pol′ : Policy) (mem mem′ ws xs xs′ left left′ : List ℕ) (gs gs′ : List RunInput) →
+    Prepared lay pol mem ws xs left → Prepared lay pol′ mem′ ws xs′ left′ →
+    CallsPreserved lay ws xs left gs → CallsPreserved lay ws xs′ left′ gs′ →
+    LowEqual (layoutFrom lay) left left′ → Pairwise SameInputs gs gs′ →
+    Pairwise (SameCalls pairsPlace (layoutFrom lay)) (callsOf (runCall lay ws) xs gs) (callsOf (runCall lay ws) xs′ gs′)

@@ -1,8 +1,9 @@
 -- Every claim of this crate, a field each: its one term is `proved`, in proofs/Proved.antt.
-use Rattle.capi_spec.specs.Claims.{MachineRoundTrips, HostIsolation}
+use Rattle.capi_spec.specs.Claims.{MachineRoundTrips, HostIsolation, HostNoninterference}
 use Rattle.capi_spec.specs.Sample.{SampleHolds}
 
 pub record Proved : Type 0 where
   pub machineRoundTrips : MachineRoundTrips
   pub hostIsolation : HostIsolation
+  pub hostNoninterference : HostNoninterference
   pub sampleHolds : SampleHolds

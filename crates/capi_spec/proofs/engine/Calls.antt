@@ -3,27 +3,32 @@ use Prim.Native.Nat.{ℕ}
 use mathlib.Core.Path.{_≡_, refl, sym, _∙_, ap, subst}
 use mathlib.Core.Bool.{Bool, true, false}
 use mathlib.Core.List.{List, [], map}
+use borrow.Author.Tests.{eqb-true}
 use lib.Dec.{eqb}
 use lib.ListN.{length}
 use Rattle.types.specs.declared.Layout.{Layout}
 use Rattle.types.specs.Names.{guestRegisters}
+use Rattle.spec.specs.Layouts.{rightLayout}
 use Rattle.spec.specs.Policies.{Policy}
 use Rattle.spec.specs.Machines.{installAnswer, installMemory}
-use Rattle.spec.specs.Runs.{RunInput, eachRun, Session as MachineSession}
-use Rattle.spec.proofs.Conditions.{installs}
+use Rattle.spec.specs.Runs.{RunInput, LowEqual, eachRun, Session as MachineSession}
+use Rattle.spec.specs.Claims.{SameInputs, SameObservations}
+use Rattle.spec.proofs.Bools.{both, cond-ind}
+use Rattle.spec.proofs.Conditions.{fits-of, installs}
 use Rattle.sandbox_spec.proofs.Loading.{loads}
 use Rattle.capi_spec.specs.Numbers.{layoutFrom}
 use Rattle.capi_spec.specs.Hosts.{installFor, loadFor}
-use Rattle.capi_spec.specs.Claims.{callsOf}
+use Rattle.capi_spec.specs.Claims.{callsOf, SameCalls}
 use Rattle.capi_spec.proofs.Numbers.{comes-back, called}
 use Rattle.spec.proofs.Counts.{apply-regs}
-use Rattle.capi_spec.proofs.Calls.{calls-from, keeps-regs}
-use Rattle.engine_spec.specs.Engines.{engineOf, initialEngine, applyEffect, withMemory, withState, startOf, refusalOf, refusalBy, runOf}
-use Rattle.engine_spec.specs.Claims.{Session, sessionOf, initialSession, runOn, afterTaken, afterRun, runAs, MemoriesPreserved}
-use Rattle.engine_spec.proofs.Runs.{engineLoop}
+use Rattle.capi_spec.proofs.Calls.{calls-from, same-calls, keeps-regs}
+use Rattle.engine_spec.specs.declared.EngineOutcome.{EngineOutcome}
+use Rattle.engine_spec.specs.Engines.{RunResult, engineOf, initialEngine, applyEffect, withMemory, withState, startOf, refusalOf, refusalBy, runOf}
+use Rattle.engine_spec.specs.Claims.{Session, sessionOf, initialSession, runOn, afterTaken, afterRun, runAs, MemoriesPreserved, HostPremise}
+use Rattle.engine_spec.proofs.Runs.{engineLoop, taken-size}
 use Rattle.engine_spec.proofs.Isolation.{engine-isolation}
-use Rattle.capi_spec.specs.engine.Records.{engineTo, resultTo, engineFor}
-use Rattle.capi_spec.specs.engine.Claims.{EngineRoundTrips, engineCall, InstalledMemory, installed, loaded, HostEngineIsolation}
+use Rattle.capi_spec.specs.engine.Records.{engineTo, answerTo, resultTo, engineFor}
+use Rattle.capi_spec.specs.engine.Claims.{EngineRoundTrips, engineCall, InstalledMemory, installed, loaded, HostEngineIsolation, pairsPlace, HostEngineNoninterference}
 
 pub engine-round-trips : EngineRoundTrips
 engine-round-trips = comes-back guestRegisters engineOf (λ m. m .regs) (λ m. m .at) (λ m. m .status) (λ _. refl) (λ _ _ _. refl)
@@ -65,13 +70,51 @@ host-engine-isolation lay pol mem ws left gs laid take lends =
     let l = layoutFrom lay in
     let s = prepared-facts laid in
     let size : length left ≡ length mem = ap length (s .memory) ∙ installs l pol mem (s .taken) .size in
+    let premise : HostPremise l pol ws mem gs =
     record {
-      calls = calls-are lay ws (initialSession l pol mem) gs refl;
-      isolated =
-          engine-isolation l pol ws mem gs
-          (record {
-            taken = ap (λ (k : ℕ). refusalBy l ws k .number) (sym size) ∙ take;
-            installed = s .taken;
-            preserved = subst (λ (x : List ℕ). MemoriesPreserved l ws (sessionOf initialEngine x [] [] 0) gs) (s .memory) lends;
-          });
-    }
+      taken = ap (λ (k : ℕ). refusalBy l ws k .number) (sym size) ∙ take;
+      installed = s .taken;
+      preserved = subst (λ (x : List ℕ). MemoriesPreserved l ws (sessionOf initialEngine x [] [] 0) gs) (s .memory) lends;
+    } in
+    record { calls = calls-are lay ws (initialSession l pol mem) gs refl; premise = premise; isolated = engine-isolation l pol ws mem gs premise }
+
+-- ---- two lists
+
+-- a run whose memory has U cells when it is done was not refused for its length, and its memory is the one memory
+module _ (lay : Layout) (ws : List ℕ) (takes : refusalBy lay ws (lay .size) .number ≡ 0) where
+  fitted : (c : Session) (g : RunInput) → length (runOn lay ws c g .mem) ≡ lay .size → length (g .memory) ≡ lay .size
+  unfolding runOn runOf
+  fitted c g =
+      cond-ind (λ (r : RunResult). length (r .mem) ≡ lay .size → length (g .memory) ≡ lay .size) (eqb (refusalOf lay ws (g .memory) .number) 0)
+      (λ t _. taken-size lay ws (g .memory) (eqb-true _ _ t)) (λ _ e. e)
+
+  kept : (c : Session) (g : RunInput) → length (g .memory) ≡ lay .size → runOn lay ws c g .mem ≡ afterRun lay ws c g .memory
+  unfolding afterRun afterTaken
+  kept c g e = let z : refusalOf lay ws (g .memory) .number ≡ 0 = ap (λ (n : ℕ). refusalBy lay ws n .number) e ∙ takes in rw z
+
+  same-run : (c c′ : Session) (g g′ : RunInput) → SameInputs g g′ → SameObservations lay (runAs lay ws c g) (runAs lay ws c′ g′)
+      → SameCalls pairsPlace lay (resultTo (runAs lay ws c g .result)) (resultTo (runAs lay ws c′ g′ .result))
+  same-run c c′ g g′ i o =
+      let whole : length (runOn lay ws c g .mem) ≡ lay .size → (runOn lay ws c g .mem ≡ afterRun lay ws c g .memory) × (runOn lay ws c′ g′ .mem ≡ afterRun lay ws c′ g′ .memory) =
+      λ e. let n = fitted c g e in (kept c g n, kept c′ g′ (sym (i .memory) ∙ n)) in
+      record {
+        answer = ap answerTo (o .outcome);
+        after = ap (λ (x : EngineOutcome). engineTo (x .engine)) (o .outcome);
+        logged = o .logged;
+        cell = λ e. let k = whole e in rw (k .0, k .1) (o .cell);
+        box = λ e. let k = whole e in rw (k .0, k .1) (o .box);
+      }
+
+pub host-engine-noninterference : HostEngineNoninterference
+host-engine-noninterference lay pol pol′ mem mem′ ws left left′ gs gs′ laid laid′ take lends lends′ low given =
+    let l = layoutFrom lay in
+    let s = prepared-facts laid in
+    let s′ = prepared-facts laid′ in
+    let a = host-engine-isolation lay pol mem ws left gs laid take lends in
+    let takes : refusalBy l ws (l .size) .number ≡ 0 = ap (λ (n : ℕ). refusalBy l ws n .number) (sym (taken-size l ws left take)) ∙ take in
+    let size : length left′ ≡ l .size = ap length (s′ .memory) ∙ installs l pol′ mem′ (s′ .taken) .size ∙ eqb-true _ _ (both (rightLayout l) _ (fits-of l pol′ mem′ (s′ .taken) .0) .1) in
+    let b = host-engine-isolation lay pol′ mem′ ws left′ gs′ laid′ (ap (λ (n : ℕ). refusalBy l ws n .number) size ∙ takes) lends′ in
+    let equal : LowEqual l (installMemory l pol mem) (installMemory l pol′ mem′) = rw (← s .memory, ← s′ .memory) low in
+    rw (a .calls, b .calls)
+    (same-calls (afterRun l ws) (runAs l ws) (λ r. resultTo (r .result)) pairsPlace l (same-run l ws takes) (initialSession l pol mem) (initialSession l pol′ mem′) gs gs′ given
+    (a .isolated .noninterference pol′ mem′ gs′ (b .premise) equal given))

@@ -5,12 +5,13 @@ use mathlib.Core.List.{List, [], map}
 use lib.ListN.{replicate}
 use Rattle.types.specs.Names.{guestRegisters}
 use Rattle.spec.specs.Policies.{Policy}
-use Rattle.spec.specs.Runs.{RunInput}
+use Rattle.spec.specs.Runs.{RunInput, Pairwise, LowEqual}
+use Rattle.spec.specs.Claims.{SameInputs}
 use Rattle.capi_spec.specs.Numbers.{layoutFrom, trailer}
 use Rattle.capi_spec.specs.Hosts.{installFor, loadFor, HostResult}
-use Rattle.capi_spec.specs.Claims.{RoundTrips, callsOf, number}
+use Rattle.capi_spec.specs.Claims.{RoundTrips, callsOf, number, SameCalls}
 use Rattle.engine_spec.specs.Engines.{initialEngine, refusalOf}
-use Rattle.engine_spec.specs.Claims.{sessionOf, MemoriesPreserved, allRuns, Isolated}
+use Rattle.engine_spec.specs.Claims.{sessionOf, MemoriesPreserved, HostPremise, allRuns, Isolated}
 use Rattle.capi_spec.specs.engine.Records.{engineFrom, engineTo, resultTo, engineFor}
 
 -- the engine's record, of fifteen registers, in numbers and back
@@ -33,14 +34,31 @@ pub data InstalledMemory (lay : List ℕ) (pol : Policy) (mem : List ℕ) : List
   loaded : (bytes out : List ℕ) → number (loadFor lay pol bytes out mem .answer) ≡ 0 → InstalledMemory lay pol mem (loadFor lay pol bytes out mem .memory)
 
 -- words that the engine takes, as all that hemdroas_rewrite takes (`EngineTakes`), and calls of hemdroas_engine_run from a record of zeros, each with the
--- record's numbers as the last call left them and a memory that is, but for free cells, what the last call left: the calls are the runs of which
--- `EngineIsolation` speaks, and it holds of them
+-- record's numbers as the last call left them and a memory that is, but for free cells, what the last call left
+abbrev pub CallsPreserved : List ℕ → List ℕ → List ℕ → List RunInput → Type 0
+CallsPreserved lay ws left gs = MemoriesPreserved (layoutFrom lay) ws (sessionOf initialEngine left [] [] 0) gs
+
+-- the calls are the runs of which `EngineIsolation` speaks, they are on its premise, and it holds of them
 pub record CallsIsolated (lay : List ℕ) (pol : Policy) (ws mem : List ℕ) (gs : List RunInput) : Type 0 where
   pub calls : callsOf (engineCall lay ws) zeros gs ≡ map (λ r. resultTo (r .result)) (allRuns (layoutFrom lay) pol ws mem gs)
+  pub premise : HostPremise (layoutFrom lay) pol ws mem gs
   pub isolated : Isolated (layoutFrom lay) pol ws mem gs
 
 abbrev pub HostEngineIsolation : Type 0
 HostEngineIsolation =
     (lay : List ℕ) (pol : Policy) (mem ws left : List ℕ) (gs : List RunInput) →
     InstalledMemory lay pol mem left → refusalOf (layoutFrom lay) ws left .number ≡ 0 →
-    MemoriesPreserved (layoutFrom lay) ws (sessionOf initialEngine left [] [] 0) gs → CallsIsolated lay pol ws mem gs
+    CallsPreserved lay ws left gs → CallsIsolated lay pol ws mem gs
+
+-- an answer of the engine has its pairs fourth
+abbrev pub pairsPlace : ℕ
+pairsPlace = 3
+
+-- noninterference of two lists of calls of hemdroas_engine_run, as `HostNoninterference` has it of hemdroas_run
+abbrev pub HostEngineNoninterference : Type 0
+HostEngineNoninterference =
+    (lay : List ℕ) (pol pol′ : Policy) (mem mem′ ws left left′ : List ℕ) (gs gs′ : List RunInput) →
+    InstalledMemory lay pol mem left → InstalledMemory lay pol′ mem′ left′ → refusalOf (layoutFrom lay) ws left .number ≡ 0 →
+    CallsPreserved lay ws left gs → CallsPreserved lay ws left′ gs′ →
+    LowEqual (layoutFrom lay) left left′ → Pairwise SameInputs gs gs′ →
+    Pairwise (SameCalls pairsPlace (layoutFrom lay)) (callsOf (engineCall lay ws) zeros gs) (callsOf (engineCall lay ws) zeros gs′)
