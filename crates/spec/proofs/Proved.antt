@@ -12,7 +12,7 @@ use Rattle.spec.proofs.Isolation.{guest-rule, recorded, isolation, no-w
 use Rattle.spec.proofs.Ceilings.{ceilings}
 use Rattle.spec.proofs.Progress.{resumes, progress}
 use Rattle.spec.proofs.Pauses.{state-cell, paused-waits, pause-rule}
-use Rattle.spec.proofs.Prefixes.{runs-compose, prefix-closed}
+use Rattle.spec.proofs.Prefixes.{runs-compose, prefix-closed, every-moment}
 
 pub proved : Proved
 proved =
@@ -34,6 +34,7 @@ proved =
       runsCompose = runs-compose;
       prefixClosed = prefix-closed;
       guestRule = guest-rule;
+      everyMoment = every-moment;
       resumes = resumes;
       progress = progress;
       recorded = recorded;

@@ -13,7 +13,7 @@ use Rattle.spec.specs.Bundles.{addressOf, lastAddress, positionOf, shape
 use Rattle.spec.specs.Machines.{State, nextPc, RunResult, runResultOf, finalState, fits, runFrom, runOf, installAnswer, installMemory}
 use Rattle.types.specs.Records.{outcomeOf}
 use Rattle.spec.specs.Guests.{Pair, Guest, guestAfter, guestStart, boxOf}
-use Rattle.spec.specs.Runs.{begins, begunFrom, RunInput, Every, Pairwise, eachRun, Session, afterRun, runAs, allRuns, after, Run, recordedIn, LowEqual, MemoryPreserved, HostPremise, pairsOf, eventsOf, waitingAt, pendingAt}
+use Rattle.spec.specs.Runs.{begins, begunFrom, RunInput, Every, Pairwise, eachRun, Session, runOn, afterRun, runAs, allRuns, after, Run, recordedIn, LowEqual, MemoryPreserved, HostPremise, pairsOf, eventsOf, waitingAt, pendingAt}
 
 -- ---- masks and sizes
 
@@ -224,13 +224,28 @@ abbrev pub guestFor : Layout → Policy → List ℕ → List ℕ → Session �
 guestFor lay pol code mem c k = guestAfter lay pol (bundlesFor (length code)) (routine code) (c .consumed) (guestStart lay pol (installMemory lay pol mem)) k
 
 -- 'Guest rule (from instruction 0, registers 0) and machine are compared from installation on, on demand 3's premise, at each first command of a bundle and at every end or stop':
--- after as many instructions as the runs began bundles.
--- A list of runs may end anywhere and budgets are any, so this speaks of every moment
+-- after as many instructions as the runs began bundles. A list of runs may end anywhere and budgets are any
 abbrev pub GuestRule : Type 0
 GuestRule =
     (lay : Layout) (pol : Policy) (code mem : List ℕ) (room : ℕ) (gs : List RunInput) → rewriteAnswer lay code room .number ≡ 0 →
     let c = after lay pol (commandsOf lay code) mem gs in
     HostPremise lay pol (commandsOf lay code) mem gs → AtBoundary lay (c .machine) → Simulates lay (guestFor lay pol code mem c (c .begun)) c
+
+-- the same within a run that is given the input g, after any j of its steps: cut off there, the run is where the whole run comes and goes on from,
+-- and on the first command of a bundle, or over, the machine agrees with the guest rule
+pub record MomentLaws (lay : Layout) (pol : Policy) (code mem : List ℕ) (c : Session) (g : RunInput) (j : ℕ) : Type 0 where
+  pub comes :
+      let ws = commandsOf lay code in
+      let r = runOn lay ws c (withBudget g j) in
+      (l : ℕ) → fits lay (g .memory) ≡ true → g .budget ≡ j + suc l → runOn lay ws c g ≡ runFrom lay ws (g .readings) (suc l) (r .outcome .answer .steps) (finalState r)
+  pub agrees :
+      let d = afterRun lay (commandsOf lay code) c (withBudget g j) in
+      AtBoundary lay (d .machine) → Simulates lay (guestFor lay pol code mem d (d .begun)) d
+
+abbrev pub EveryMoment : Type 0
+EveryMoment =
+    (lay : Layout) (pol : Policy) (code mem : List ℕ) (room : ℕ) (xs ys : List RunInput) (g : RunInput) (j : ℕ) → rewriteAnswer lay code room .number ≡ 0 →
+    HostPremise lay pol (commandsOf lay code) mem (xs ++ (g ∷ ys)) → MomentLaws lay pol code mem (after lay pol (commandsOf lay code) mem xs) g j
 
 -- ---- progress: a machine that can go on reaches the next place of comparison in at most four steps
 
