@@ -1,11 +1,11 @@
 -- The order before an instruction.
 use mathlib.Core.Path.{_≡_, refl, sym, _∙_, ap}
 use mathlib.Core.Bool.{Bool, true, false}
-use mathlib.Core.Logic.{_⊎_, inl, inr, ⊎-elim}
+use mathlib.Core.Logic.{inl, inr, ⊎-elim}
 use mathlib.Core.List.{List}
-use Prim.Native.Nat.{ℕ, zero, suc, _+_, _-_, _*_, _<_, _≤_}
+use Prim.Native.Nat.{ℕ, suc, _+_, _-_, _*_, _<_, _≤_}
 use native.Mathlib.Omega.{arith}
-use borrow.Author.Tests.{lt-ltb, le-ltb, eq-eqb, ne-eqb, ltb-true}
+use borrow.Author.Tests.{lt-ltb, le-ltb, eq-eqb, ne-eqb}
 use lib.Dec.{ltb}
 use lib.ListN.{length, length-set}
 use Rattle.types.specs.declared.Layout.{Layout}
@@ -13,22 +13,22 @@ use Rattle.types.specs.declared.Instr.the-variants.{EVENT}
 use Rattle.types.specs.declared.Status.{Status}
 use Rattle.types.specs.declared.Status.the-variants.{Running, Ended, Stopped, Faulted, Strayed}
 use Rattle.types.specs.declared.Ending.{Ending}
-use Rattle.types.specs.declared.Ending.the-variants.{LogFull, Silent, Spent}
+use Rattle.types.specs.declared.Ending.the-variants.{LogFull, Silent}
 use Rattle.types.specs.declared.Effect.{Effect}
 use Rattle.types.specs.declared.Effect.the-variants.{Go, SetReg, SetCell, Order, Probe, End, Wait}
 use Rattle.types.specs.declared.Answer.{Answer}
-use Rattle.types.specs.Names.{orders, noArrow, mostInstructions, answer, orElse}
+use Rattle.types.specs.Names.{noArrow, mostInstructions, answer, orElse}
 use Rattle.spec.specs.Layouts.{rightLayout}
 use Rattle.spec.specs.Words.{refusalAt, routine, bundlesFor}
 use Rattle.spec.specs.Bundles.{baseRoomAnswer, rewriteAnswer}
 use Rattle.spec.specs.Machines.{State, applyOf, viewAt, endingOf, eventEffect}
-use Rattle.spec.proofs.Bools.{no, cases}
+use Rattle.spec.proofs.Bools.{no}
 use Rattle.spec.proofs.Loops.{over-from, wait-from, go-from, keeps}
+use Rattle.spec.proofs.Ordered.{silent-by, full-by, left-by, more-from, over-on}
 use Rattle.spec.proofs.Refusals.{refused-map, else-kept, else-none}
-use Rattle.engine_spec.specs.Engines.{checkedEvent, instrEffect, instrEffectAt, nextOf, entryAddress, entryAt, withState, applyEffect, RunResult, resultIn, finalState, runFrom, startOf, refusalBy, runOf}
+use Rattle.engine_spec.specs.Engines.{checkedEvent, instrEffect, instrEffectAt, nextOf, entryAddress, entryAt, withState, applyEffect, RunResult, finalState, runFrom, startOf, refusalBy, runOf}
 use Rattle.engine_spec.specs.Order.{withStatus, EngineOrder, EngineRefuses, EngineRewriter, EngineTakes}
 use Rattle.engine_spec.proofs.Runs.{engineLoop, taken-size}
-use Rattle.engine_spec.proofs.Prefixes.{engine-runs-compose}
 
 pub engine-refuses : EngineRefuses
 unfolding runOf
@@ -55,18 +55,10 @@ step-length lay rd (Probe v) s = move-length lay (Probe v) (s .mem)
 step-length lay rd (End t) s = move-length lay (End t) (s .mem)
 step-length lay rd (Wait w) s = move-length lay (Wait w) (s .mem)
 
--- what a run of at most j instructions leaves: a memory as long as it was; if it is no longer running, as its status says; if it is and counted j, spent
-record Left (j len : ℕ) (r : RunResult) : Type 0 where
-  size : length (r .mem) ≡ len
-  over : (r .outcome .engine .status ≡ Running → ⊥) → r ≡ resultIn (endingOf (r .outcome .engine .status)) (r .outcome .steps) (finalState r)
-  spent : r .outcome .engine .status ≡ Running → r .outcome .steps ≡ j → r ≡ resultIn Spent j (finalState r)
-
-left-of : (lay : Layout) (ws rd : List ℕ) (j : ℕ) (s : State) → Left j (length (s .mem)) (runFrom lay ws rd j 0 s)
-left-of lay ws rd j s₀ =
-    keeps (engineLoop lay ws rd) (λ n k s. (k + n ≡ j) × (length (s .mem) ≡ length (s₀ .mem))) (Left j (length (s₀ .mem)))
-    (λ n k s i o. record { size = i .1; over = λ _. refl; spent = λ r e. rw (r, e) })
-    (λ n k s i r w z. record { size = i .1; over = λ o. absurd (o r); spent = λ _ e. absurd (omega (arith, i .0)) })
-    (λ n k s i r g. (omega (arith, i .0), step-length lay rd (nextOf lay ws rd s) s ∙ i .1)) j 0 s₀ (omega arith, refl)
+run-length : (lay : Layout) (ws rd : List ℕ) (n k : ℕ) (s : State) → length (runFrom lay ws rd n k s .mem) ≡ length (s .mem)
+run-length lay ws rd n k s₀ =
+    keeps (engineLoop lay ws rd) (λ _ _ s. length (s .mem) ≡ length (s₀ .mem)) (λ r. length (r .mem) ≡ length (s₀ .mem))
+    (λ _ _ s i _. i) (λ _ _ s i _ w _. i) (λ _ _ s i _ _. step-length lay rd (nextOf lay ws rd s) s ∙ i) n k s₀ refl
 
 -- ---- a run from any state
 module _ (lay : Layout) (ws rd : List ℕ) (k : ℕ) (s : State) (size : length (s .mem) ≡ lay .size) where
@@ -102,41 +94,27 @@ module _ (lay : Layout) (ws rd : List ℕ) (k : ℕ) (s : State) (size : length 
       unfolding checkedEvent
       paused a = sends ∙ rw (lt-ltb _ _ inside, ne-eqb (entryAt lay (s .mem) v) noArrow a)
 
-silent-by : (v free left : ℕ) → orders ≤ v → left ≡ 0 → eventEffect v free left ≡ Wait Silent
-silent-by v free left o r = rw (le-ltb v orders o, eq-eqb left 0 r)
-
-full-order : (v free left : ℕ) → v < orders → free < 2 → eventEffect v free left ≡ Wait LogFull
-full-order v free left o r = rw (lt-ltb v orders o, lt-ltb free 2 r)
-
-full-by : (v free left : ℕ) → ((v < orders) ⊎ (0 < left)) → free < 2 → eventEffect v free left ≡ Wait LogFull
-full-by v free left (inl o) r = full-order v free left o r
-full-by v free left (inr o) r =
-    ⊎-elim (λ t. full-order v free left (ltb-true v orders t) r) (λ t. rw (t, ne-eqb left 0 (λ y. omega arith), lt-ltb free 2 r)) (cases (ltb v orders))
-
--- a run that is over stays so, whatever its budget
-over-on : (lay : Layout) (ws rd : List ℕ) (j n : ℕ) (first : State) → Left j (length (first .mem)) (runFrom lay ws rd j 0 first) → let s = finalState (runFrom lay ws rd j 0 first) in (s .status ≡ Running → ⊥) → runFrom lay ws rd (j + n) 0 first ≡ resultIn (endingOf (s .status)) (runFrom lay ws rd j 0 first .outcome .steps) s
-over-on lay ws rd j zero first left h = let e : j + 0 ≡ j = omega arith in ap (λ (i : ℕ). runFrom lay ws rd i 0 first) e ∙ left .over h
-over-on lay ws rd j (suc n) first left h = engine-runs-compose lay ws rd j n 0 first ∙ over-from (engineLoop lay ws rd) (suc n) _ (finalState (runFrom lay ws rd j 0 first)) h
+abbrev leaves : RunResult → ℕ × State
+leaves r = (r .outcome .steps, finalState r)
 
 pub engine-order : EngineOrder
 unfolding runOf instrEffectAt instrEffect
 engine-order lay ws m mem rd log j z =
+    let l = engineLoop lay ws rd in
     let first = startOf m mem log in
     let r = runFrom lay ws rd j 0 first in
     let k = r .outcome .steps in
     let s = finalState r in
-    let left = left-of lay ws rd j first in
-    let size : length (s .mem) ≡ lay .size = left .size ∙ taken-size lay ws mem z in
+    let size : length (s .mem) ≡ lay .size = run-length lay ws rd j 0 first ∙ taken-size lay ws mem z in
     -- the run with more: it goes on from here
-    let on : (n : ℕ) → runFrom lay ws rd (j + (n + 1)) 0 first ≡ runFrom lay ws rd (suc n) k s =
-    λ n. let e : j + (n + 1) ≡ j + suc n = omega arith in ap (λ (i : ℕ). runFrom lay ws rd i 0 first) e ∙ engine-runs-compose lay ws rd j n 0 first in
+    let on : (n : ℕ) → runFrom lay ws rd (j + (n + 1)) 0 first ≡ runFrom lay ws rd (suc n) k s = λ n. more-from l leaves (λ e k s. refl) (λ s k. refl) j n first in
     let none : j + 0 ≡ j = omega arith in
     let free = length (s .log) - 2 * s .pairs in
     let rest = length rd - s .used in
     rw (eq-eqb _ _ z)
     (record {
-      over = λ n h. over-on lay ws rd j n first left h;
-      spent = λ run e. ap (λ (i : ℕ). runFrom lay ws rd i 0 first) none ∙ left .spent run e ∙ rw (run, e);
+      over = λ n h. over-on l leaves (λ e k s. refl) (λ s k. refl) j n first h;
+      spent = λ run e. ap (λ (i : ℕ). runFrom lay ws rd i 0 first) none ∙ left-by l leaves (λ e k s. refl) (λ s k. refl) j first .spent run e ∙ rw run;
       past = λ n run l. on n ∙ ends lay ws rd k s size n Faulted run (λ e. no (cc)) (rw (le-ltb _ _ l));
       outside = λ n v run l e h. on n ∙ ends lay ws rd k s size n Faulted run (λ e. no (cc)) (faulted lay ws rd k s size v l e h);
       stops = λ n v run l e h a. on n ∙ ends lay ws rd k s size n Stopped run (λ e. no (cc)) (stopped lay ws rd k s size v l e h a);

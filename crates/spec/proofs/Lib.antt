@@ -16,6 +16,7 @@ pub mod Conditions
 pub mod Passing
 pub mod Shapes
 pub mod Endings
+pub mod Ordered
 pub mod Simulation
 pub mod Lists
 pub mod RunSimulation

@@ -8,6 +8,7 @@ use Rattle.spec.proofs.Conditions.{installs}
 use Rattle.spec.proofs.Passing.{rewrite-leaves, rewritten-passes, passed-rewrites, passed-decodes}
 use Rattle.spec.proofs.Shapes.{shapes, checks}
 use Rattle.spec.proofs.Endings.{endings}
+use Rattle.spec.proofs.Ordered.{machine-order, over-stays, ends-only-when}
 use Rattle.spec.proofs.Isolation.{guest-rule, recorded, isolation, no-wrap}
 use Rattle.spec.proofs.Ceilings.{ceilings}
 use Rattle.spec.proofs.Progress.{resumes, progress}
@@ -31,6 +32,9 @@ proved =
       checks = checks;
       passedDecodes = passed-decodes;
       endings = endings;
+      machineOrder = machine-order;
+      overStays = over-stays;
+      endsOnlyWhen = ends-only-when;
       runsCompose = runs-compose;
       prefixClosed = prefix-closed;
       guestRule = guest-rule;

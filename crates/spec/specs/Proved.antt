@@ -1,4 +1,5 @@
 -- Every claim of this crate, a field each: its one term is `proved`, in proofs/Proved.antt.
+use Rattle.spec.specs.Order.{MachineOrder, OverStays, EndsOnlyWhen}
 use Rattle.spec.specs.Claims.{Masks, Landings, Installs, Sizes, Signs, WordsRoundTrip, BytesRoundTrip, RewriteLeaves, RewrittenPasses, PassedRewrites, Shapes, Checks, PassedDecodes, Endings, RunsCompose, PrefixClosed, GuestRule, EveryMoment, Resumes, Progress, Recorded, Ceilings, Isolation, NoWrap, StateCell, PausedWaits, PauseRule}
 
 pub record Proved : Type 0 where
@@ -16,6 +17,9 @@ pub record Proved : Type 0 where
   pub checks : Checks
   pub passedDecodes : PassedDecodes
   pub endings : Endings
+  pub machineOrder : MachineOrder
+  pub overStays : OverStays
+  pub endsOnlyWhen : EndsOnlyWhen
   pub runsCompose : RunsCompose
   pub prefixClosed : PrefixClosed
   pub guestRule : GuestRule
