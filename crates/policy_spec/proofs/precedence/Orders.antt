@@ -1,8 +1,8 @@
 -- The lists that the made policy allows are those in order.
 use Prim.Native.Nat.{ℕ, zero, suc, _+_, _*_, _^_, _<_, _≤_}
-use mathlib.Core.Path.{_≡_, refl, sym, ap, _∙_}
+use mathlib.Core.Path.{_≡_, refl, sym, ap, _∙_, subst}
 use mathlib.Core.Bool.{Bool, true, false, _&&_, _||_, not}
-use mathlib.Core.List.{List}
+use mathlib.Core.List.{List, [], _∷_}
 use mathlib.Core.Logic.{_⊎_, inl, inr, ⊎-elim}
 use native.Mathlib.Omega.{arith}
 use lib.Bits.{bitOr}
@@ -11,15 +11,15 @@ use lib.ListN.{length, getD, drop}
 use lib.Pow.{pow-pos}
 use lib.Seq.{drop-cons, drop-length}
 use borrow.Author.Tests.{ltb-true, ltb-false, eqb-true, eqb-false, eq-eqb, not-true, not-false}
-use Rattle.types.specs.Names.{events}
-use Rattle.spec.specs.Policies.{allowedFrom, allowed}
+use Rattle.types.specs.Names.{events, noArrow}
+use Rattle.spec.specs.Policies.{Policy, arrow, stateFrom, allowedFrom, allowed}
 use Rattle.spec.proofs.Bools.{no, cases, both, either, join, or-left, or-right}
 use Rattle.policy_spec.specs.maps.Maps.{mapWhere, bit}
 use Rattle.policy_spec.specs.precedence.Precedence.{ValidPairs, namedIn, isNamed, namedCount, pairsIn, firstAt, secondAt, bitIndex, statesOf, firstsIn, arrowOf, blocked, advanceOf, madePolicy}
-use Rattle.policy_spec.specs.precedence.Claims.{Among, AreEvents, OrderLaws, AllowedInOrder}
+use Rattle.policy_spec.specs.precedence.Claims.{Among, AreEvents, OrderLaws, AllowedInOrder, MapLaws, StatesAreMaps}
 use Rattle.policy_spec.proofs.maps.Maps.{every-at, every-all, some-at, count-less, bit-or, bit-same, bit-other, bit-zero}
 use Rattle.policy_spec.proofs.precedence.Laws.{on-is, on-below, blocked-is}
-use Rattle.policy_spec.proofs.precedence.Policies.{fit-right, arrow-is}
+use Rattle.policy_spec.proofs.precedence.Policies.{fit-right, arrow-is, arrow-above}
 
 -- an event of the list is named
 pub is-named : (ps : List ℕ) (i : ℕ) → i < length ps → isNamed ps (getD ps i 0) ≡ true
@@ -184,6 +184,36 @@ module _ (ps es : List ℕ) (m : ℕ) (fit : ValidPairs ps m) where
       ordered = λ t i j h. in-order (length es) 0 0 (omega arith) starts t i (omega arith) h j;
       allows = λ a. in-order-allowed (length es) 0 0 (omega arith) starts (λ k h j. a k j h);
     }
+
+    -- the state to which the rest leads records all of the list
+    records-all : (d s i : ℕ) → i + d ≡ length es → SimInvariant s i → Rest s i → SimInvariant (stateFrom (madePolicy ps) s (drop i es)) (length es)
+    records-all zero s i e r t =
+        let q : i ≡ length es = omega arith in
+        let none : stateFrom (madePolicy ps) s (drop i es) ≡ s = ap (λ (n : ℕ). stateFrom (madePolicy ps) s (drop n es)) q ∙ ap (stateFrom (madePolicy ps) s) (drop-length es) in
+        rw (none, ← q) r
+    records-all (suc d) s i e r t =
+        let l : i < length es = omega arith in
+        let f = both (not (blocked ps s (getD es i 0))) _ (sym (unfolds s i l (r .state)) ∙ t) in
+        let on : stateFrom (madePolicy ps) s (drop i es) ≡ stateFrom (madePolicy ps) (arrowOf ps s (getD es i 0)) (drop (suc i) es) =
+        ap (stateFrom (madePolicy ps) s) (drop-cons es i 0 l) ∙ ap (λ (x : ℕ). stateFrom (madePolicy ps) x (drop (suc i) es)) (arrow-is ps s (getD es i 0) (r .state) (are i l)) in
+        subst (λ (x : ℕ). SimInvariant x (length es)) (sym on)
+        (records-all d (arrowOf ps s (getD es i 0)) (suc i) (omega arith) (sim-invariant-on s i r (are i l) (not-true _ (f .0))) (f .1))
+
+    map-laws : allowed (madePolicy ps) es ≡ true → MapLaws ps es
+    unfolding allowed
+    map-laws t = let r = records-all (length es) 0 0 (omega arith) starts t in record { state = r .state; recorded = r .heard; kept = r .kept }
+
+-- what a policy allows are events
+are-events : (pol : Policy) (s : ℕ) (es : List ℕ) → allowedFrom pol s es ≡ true → AreEvents es
+are-events pol s [] t i h = absurd (omega arith)
+are-events pol s (e ∷ es) t zero h =
+    ⊎-elim (λ l. ltb-true e events l)
+    (λ l. absurd (eqb-false _ _ (not-true _ (both (not (eqb (arrow pol s e) noArrow)) (allowedFrom pol (arrow pol s e) es) t .0)) (arrow-above pol s e (ltb-false e events l)))) (cases (ltb e events))
+are-events pol s (e ∷ es) t (suc i) h = are-events pol (arrow pol s e) es (both (not (eqb (arrow pol s e) noArrow)) (allowedFrom pol (arrow pol s e) es) t .1) i (omega arith)
+
+pub states-are-maps : StatesAreMaps
+unfolding allowed
+states-are-maps ps es t a = map-laws ps es (mapWhere (isNamed ps) events) (fit-right ps t) (are-events (madePolicy ps) 0 es a) a
 
 pub allowed-in-order : AllowedInOrder
 allowed-in-order ps es t are = order-laws ps es (mapWhere (isNamed ps) events) (fit-right ps t) are

@@ -1,7 +1,7 @@
 -- Every claim of this module is proved.
 use Rattle.policy_spec.specs.precedence.Proved.{Proved}
 use Rattle.policy_spec.proofs.precedence.Policies.{taken-makes, made-right}
-use Rattle.policy_spec.proofs.precedence.Orders.{allowed-in-order}
+use Rattle.policy_spec.proofs.precedence.Orders.{allowed-in-order, states-are-maps}
 use Rattle.policy_spec.proofs.precedence.Unreachable.{unreachable-allowed}
 use Rattle.policy_spec.proofs.precedence.Samples.{worked-examples}
 
@@ -11,6 +11,7 @@ proved =
       takenMakes = taken-makes;
       madeRight = made-right;
       allowedInOrder = allowed-in-order;
+      statesAreMaps = states-are-maps;
       unreachableExact = unreachable-allowed;
       workedExamples = worked-examples;
     }

@@ -6,9 +6,9 @@ use mathlib.Core.List.{List, [], _∷_}
 use lib.ListN.{length, getD, take}
 use Rattle.types.specs.declared.Layout.{Layout}
 use Rattle.types.specs.Names.{events, answer}
-use Rattle.spec.specs.Policies.{allowed, rightPolicy}
+use Rattle.spec.specs.Policies.{stateOver, allowed, rightPolicy}
 use Rattle.policy_spec.specs.maps.Maps.{bit}
-use Rattle.policy_spec.specs.precedence.Precedence.{pairsIn, firstAt, secondAt, pairsRight, statesOf, tableOf, madePolicy, unreachableEvents, makeAnswer, madeWith, makeOf, makeTable}
+use Rattle.policy_spec.specs.precedence.Precedence.{pairsIn, firstAt, secondAt, isNamed, pairsRight, bitIndex, statesOf, tableOf, madePolicy, unreachableEvents, makeAnswer, madeWith, makeOf, makeTable}
 
 -- what is handed back and left with answer 0 is the policy of which the other claims speak
 pub record Makes (ps table : List ℕ) : Type 0 where
@@ -45,6 +45,15 @@ pub record OrderLaws (ps es : List ℕ) : Type 0 where
 
 abbrev pub AllowedInOrder : Type 0
 AllowedInOrder = (ps es : List ℕ) → pairsRight ps ≡ true → AreEvents es → OrderLaws ps es
+
+-- 'A state is the map of named events already recorded: bit k stands for the k-th smallest named event': after a list of events that is allowed
+pub record MapLaws (ps es : List ℕ) : Type 0 where
+  pub state : stateOver (madePolicy ps) es < statesOf ps
+  pub recorded : (e : ℕ) → isNamed ps e ≡ true → bit (stateOver (madePolicy ps) es) (bitIndex ps e) ≡ true → Among es (length es) e
+  pub kept : (e : ℕ) → isNamed ps e ≡ true → Among es (length es) e → bit (stateOver (madePolicy ps) es) (bitIndex ps e) ≡ true
+
+abbrev pub StatesAreMaps : Type 0
+StatesAreMaps = (ps es : List ℕ) → pairsRight ps ≡ true → allowed (madePolicy ps) es ≡ true → MapLaws ps es
 
 -- no list that the policy allows holds an event
 abbrev pub Unreachable : List ℕ → ℕ → Type 0

@@ -1,9 +1,10 @@
 -- Every claim of this module, a field each: its one term is `proved`, in proofs/precedence/Proved.antt.
-use Rattle.policy_spec.specs.precedence.Claims.{TakenMakes, MadeRight, AllowedInOrder, UnreachableExact, WorkedExamples}
+use Rattle.policy_spec.specs.precedence.Claims.{TakenMakes, MadeRight, AllowedInOrder, StatesAreMaps, UnreachableExact, WorkedExamples}
 
 pub record Proved : Type 0 where
   pub takenMakes : TakenMakes
   pub madeRight : MadeRight
   pub allowedInOrder : AllowedInOrder
+  pub statesAreMaps : StatesAreMaps
   pub unreachableExact : UnreachableExact
   pub workedExamples : WorkedExamples
