@@ -1,4 +1,5 @@
 pub mod Places
 pub mod Reach
 pub mod Explore
+pub mod Samples
 pub mod Proved

@@ -1,6 +1,7 @@
 -- Every claim of this module is proved.
 use Rattle.policy_spec.specs.reachability.Proved.{Proved}
 use Rattle.policy_spec.proofs.reachability.Reach.{nodes-exact, taken-reaches, reach-right, allowed-reaches}
+use Rattle.policy_spec.proofs.reachability.Samples.{worked-examples}
 
 pub proved : Proved
 proved =
@@ -9,4 +10,5 @@ proved =
       takenReaches = taken-reaches;
       reachRight = reach-right;
       allowedReaches = allowed-reaches;
+      workedExamples = worked-examples;
     }

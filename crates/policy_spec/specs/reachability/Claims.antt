@@ -1,14 +1,14 @@
 -- Claims about the nodes reached and their policy, for every `next` with no arrow out of 0 and for events 0 to 15 only.
 use Prim.Native.Nat.{ℕ, _+_, _*_, _<_, _≤_}
 use mathlib.Core.Path.{_≡_}
-use mathlib.Core.Bool.{true, false, not}
-use mathlib.Core.List.{List}
-use lib.ListN.{length, getD, take}
+use mathlib.Core.Bool.{true, false, _&&_, not}
+use mathlib.Core.List.{List, [], _∷_, _++_}
+use lib.ListN.{length, getD, take, replicate}
 use lib.Dec.{eqb}
 use Rattle.types.specs.declared.Layout.{Layout}
-use Rattle.types.specs.Names.{mostStates, events}
+use Rattle.types.specs.Names.{mostStates, events, noArrow, first}
 use Rattle.spec.specs.Policies.{allowed, rightPolicy}
-use Rattle.policy_spec.specs.reachability.Reach.{reachedBy, nodes, statesOf, policyFrom, nodesFit, reachOf, reachTable, nodeAfter}
+use Rattle.policy_spec.specs.reachability.Reach.{reachedBy, nodes, statesOf, tableOf, policyFrom, nodesFit, reachOf, reachTable, nodeAfter}
 
 pub record Arrows (next : ℕ → ℕ → ℕ) (q : ℕ) : Type 0 where
   pub none : (e : ℕ) → next 0 e ≡ 0
@@ -48,7 +48,7 @@ NodesExact = (next : ℕ → ℕ → ℕ) (q : ℕ) → Arrows next q → Exactl
 
 -- what is handed back and left with answer 0 is that policy
 pub record Makes (next : ℕ → ℕ → ℕ) (q : ℕ) (table : List ℕ) : Type 0 where
-  pub few : nodesFit next q ≡ true
+  pub nodesFit : nodesFit next q ≡ true
   pub states : reachOf next q (length table) .policy .states ≡ policyFrom next q .states
   pub start : reachOf next q (length table) .policy .start ≡ policyFrom next q .start
   pub leaves : take (reachOf next q (length table) .answer .place) (reachTable next q table) ≡ policyFrom next q .table
@@ -63,3 +63,16 @@ ReachRight = (next : ℕ → ℕ → ℕ) (q : ℕ) (lay : Layout) → Arrows ne
 -- a list of events is allowed exactly if it leads to a node
 abbrev pub AllowedReaches : Type 0
 AllowedReaches = (next : ℕ → ℕ → ℕ) (q : ℕ) (es : List ℕ) → Arrows next q → nodesFit next q ≡ true → allowed (policyFrom next q) es ≡ not (eqb (nodeAfter next q es) 0)
+
+-- a worked sample: node 1 meets two new ones, 5 by event 0 and 3 by event 1; 5 meets 7, and 3 leads back to 1
+abbrev pub sample : ℕ → ℕ → ℕ
+sample x e = first ((eqb x 1 && eqb e 0, 5) ∷ (eqb x 1 && eqb e 1, 3) ∷ (eqb x 5 && eqb e 0, 7) ∷ (eqb x 3 && eqb e 0, 1) ∷ []) 0
+
+-- a row with arrows for events 0 and 1 only
+abbrev pub row : ℕ → ℕ → List ℕ
+row a b = a ∷ b ∷ replicate 14 noArrow
+
+-- 'numbered as first met, events taken in rising order from the lowest numbered'
+pub record WorkedExamples : Type 0 where
+  pub nodes : nodes sample 1 ≡ 1 ∷ 5 ∷ 3 ∷ 7 ∷ []
+  pub rows : tableOf sample 1 ≡ row 1 2 ++ row 3 255 ++ row 0 255 ++ row 255 255
