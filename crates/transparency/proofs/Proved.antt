@@ -1,6 +1,6 @@
 -- Every claim of this crate is proved.
 use Rattle.transparency.specs.Proved.{Proved}
-use Rattle.transparency.proofs.Transparent.{transparent, engine-transparent, transparent-paused, transparent-next, engine-transparent-next}
+use Rattle.transparency.proofs.Transparent.{transparent, engine-transparent, transparent-paused, transparent-next, transparent-step, transparent-resumed, engine-transparent-next}
 use Rattle.transparency.proofs.Samples.{sample-holds}
 
 pub proved : Proved
@@ -10,6 +10,8 @@ proved =
       engineTransparent = engine-transparent;
       transparentPaused = transparent-paused;
       transparentNext = transparent-next;
+      transparentStep = transparent-step;
+      transparentResumed = transparent-resumed;
       engineTransparentNext = engine-transparent-next;
       sampleHolds = sample-holds;
     }

@@ -1,26 +1,28 @@
 -- The sandbox does not alter a well-behaved routine: the raw run is the guest rule, and so are machine and engine.
-use Prim.Native.Nat.{ℕ, _+_, _-_, _<_, _≤_}
+use Prim.Native.Nat.{ℕ, suc, _+_, _-_, _<_, _≤_}
 use mathlib.Core.Path.{_≡_, refl, sym, _∙_, ap, subst}
 use mathlib.Core.Bool.{true}
 use mathlib.Core.Logic.{inl, inr, ⊎-elim}
-use mathlib.Core.List.{List}
+use mathlib.Core.List.{List, [], _∷_, _++_}
 use native.Mathlib.Omega.{arith}
-use borrow.Author.Tests.{eq-eqb, eqb-true}
-use lib.Dec.{eqb}
-use lib.ListN.{length, getD, drop, length-take, length-drop}
-use lib.Seq.{getD-take, getD-drop, getD-set-other}
+use borrow.Author.Tests.{eq-eqb, eqb-true, ltb-true, ltb-false}
+use lib.Dec.{eqb, ltb}
+use lib.ListN.{length, getD, take, drop, length-append, length-take, length-drop, List·getD-append}
+use lib.Seq.{getD-append-add, getD-take, getD-drop, getD-set-other}
 use Rattle.types.specs.declared.Layout.{Layout}
+use Rattle.types.specs.declared.Machine.{Machine}
 use Rattle.types.specs.declared.Status.{Status}
 use Rattle.spec.specs.Landings.{landingsOf}
 use Rattle.spec.specs.Layouts.{span, rightLayout, inBox}
 use Rattle.spec.specs.Policies.{Policy}
 use Rattle.spec.specs.Words.{routine, bundlesFor}
-use Rattle.spec.specs.Bundles.{commandsOf}
+use Rattle.spec.specs.Bundles.{positionOf, commandsOf}
 use Rattle.spec.specs.Machines.{installMemory, installAnswer}
 use Rattle.spec.specs.Guests.{Pair, Guest, guestAfter, guestStart, boxOf}
-use Rattle.spec.specs.Runs.{RunInput, after}
-use Rattle.spec.specs.Claims.{SimulatesAt, guestFor}
-use Rattle.spec.proofs.Bools.{both}
+use Rattle.spec.specs.Runs.{RunInput, Session, begins, initialSession, waitingAt, afterRun, after, HostPremise}
+use Rattle.spec.specs.Claims.{withBudget, AtBoundary, Waiting, SimulatesAt, guestFor, ReachesBoundary}
+use Rattle.spec.proofs.Bools.{no, both, cases}
+use Rattle.spec.proofs.Lists.{after-more, lends-more}
 use Rattle.spec.proofs.Facts.{InstalledFacts}
 use Rattle.spec.proofs.Conditions.{fits-of, laid-of, policy-facts, sets-beside}
 use Rattle.spec.proofs.Landings.{length-landings}
@@ -28,13 +30,13 @@ use Rattle.spec.proofs.Layouts.{LayoutFacts, layout-facts, in-box}
 use Rattle.spec.proofs.Masks.{masks}
 use Rattle.spec.proofs.Isolation.{guest-rule}
 use Rattle.spec.proofs.Pauses.{pause-rule}
-use Rattle.spec.proofs.Progress.{progress}
+use Rattle.spec.proofs.Progress.{resumes, progress}
 use Rattle.engine_spec.specs.Claims.{after as engineAfter}
 use Rattle.engine_spec.specs.Engines.{refusalBy}
-use Rattle.engine_spec.proofs.Rule.{engine-rule, same-guest}
-use Rattle.engine_spec.proofs.StepTogether.{run-counts-one}
+use Rattle.engine_spec.proofs.Rule.{engine-rule, same-guest, step-uses}
+use Rattle.engine_spec.proofs.StepTogether.{run-counts-one, machine-uses}
 use Rattle.transparency.specs.Raw.{rawStart, rawRun}
-use Rattle.transparency.specs.Claims.{Behaved, SameAsRaw, Sandboxed, MachineSameAsRaw, Transparent, EngineTransparent, TransparentPaused, TransparentNext, EngineTransparentNext}
+use Rattle.transparency.specs.Claims.{IsPrefix, Behaved, SameAsRaw, Sandboxed, MachineSameAsRaw, Transparent, EngineTransparent, TransparentPaused, TransparentNext, GoesOn, Follows, TransparentStep, TransparentResumed, EngineTransparentNext}
 use Rattle.transparency.proofs.RawSimulation.{RawSimulates, after-like}
 
 -- a cell of the sandbox, among the memory's and among the sandbox's own
@@ -124,6 +126,97 @@ pub transparent-next : TransparentNext
 transparent-next lay pol code mem raw reads room gs x s t g lg n =
     let u = transparent lay pol code mem raw reads room gs x s in
     progress lay pol (commandsOf lay code) mem gs (x .premise) s (u .ending ∙ t) g lg n
+
+-- ---- a run that goes on
+module _ (lay : Layout) (pol : Policy) (code mem raw reads : List ℕ) (room : ℕ) (gs : List RunInput) where
+  abbrev commands : List ℕ
+  commands = commandsOf lay code
+
+  abbrev now : Session
+  now = after lay pol commands mem gs
+
+  -- a guest of the routine that is given these readings
+  abbrev guestGiven : List ℕ → ℕ → Guest
+  guestGiven us j = guestAfter lay pol (bundlesFor (length code)) (routine code) us (guestStart lay pol (installMemory lay pol mem)) j
+
+  -- the readings used by one instruction more are the raw run's
+  prefix-more : (us : List ℕ) (j u : ℕ) (rd : List ℕ) → length us ≡ guestGiven us j .used → length (us ++ take u rd) ≡ guestGiven (us ++ take u rd) (suc j) .used
+      → IsPrefix us reads → getD rd 0 0 ≡ getD reads (length us) 0 → IsPrefix (us ++ take u rd) reads
+  unfolding guestAfter
+  prefix-more us j u rd before later given next i h =
+      let vs = us ++ take u rd in
+      let all = length-append us (take u rd) in
+      let same : guestGiven us j ≡ guestGiven vs j = same-guest lay pol (bundlesFor (length code)) (routine code) us vs _ j
+      (λ i m. sym (List·getD-append us (take u rd) 0 i (omega (arith, before)))) in
+      let one : length vs ≤ length us + 1 = omega (arith, later, before, ap (λ (g : Guest). g .used) same, step-uses lay pol (bundlesFor (length code)) (routine code) vs vs (guestGiven vs j)) in
+      ⊎-elim (λ t. List·getD-append us (take u rd) 0 i (ltb-true i (length us) t) ∙ given i (ltb-true i (length us) t))
+      (λ t.
+      let low = ltb-false i (length us) t in
+      let e : i ≡ length us + 0 = omega arith in
+      let some : 0 < u = omega (arith, length-take u rd) in
+      let at : length us + 0 ≡ length us = omega arith in
+      ap (λ (j : ℕ). getD vs j 0) e ∙ getD-append-add us (take u rd) 0 0 ∙ getD-take u rd 0 0 some ∙ next ∙ ap (λ (j : ℕ). getD reads j 0) (sym at ∙ sym e))
+      (cases (ltb i (length us)))
+
+  follows : (j p : ℕ) → Sandboxed lay pol code mem raw reads room gs (suc j) → SimulatesAt lay p (guestFor lay pol code mem now j) now
+      → (g : RunInput) → GoesOn lay now reads g → ReachesBoundary lay commands now g (suc j) → Follows lay code raw reads now g (suc j)
+  follows j p x a g o r =
+      let h = withBudget g (r .budget) in
+      let more : after lay pol commands mem (gs ++ (h ∷ [])) ≡ afterRun lay commands now h = after-more (afterRun lay commands) (initialSession lay pol mem) gs h in
+      let v : HostPremise lay pol commands mem (gs ++ (h ∷ [])) =
+      record {
+        passed = x .premise .passed;
+        installed = x .premise .installed;
+        preserved = lends-more (afterRun lay commands) lay (λ (c : Session). c .memory) (initialSession lay pol mem) gs h (x .premise .preserved) (o .preserved);
+      } in
+      let to : AtBoundary lay (after lay pol commands mem (gs ++ (h ∷ [])) .machine) = subst (λ (c : Session). AtBoundary lay (c .machine)) (sym more) (r .boundary) in
+      let k : after lay pol commands mem (gs ++ (h ∷ [])) .begun ≡ suc j = ap (λ (c : Session). c .begun) more ∙ r .begun in
+      let d = after lay pol commands mem (gs ++ (h ∷ [])) in
+      let u = machine-uses lay commands now h _ refl in
+      let used : d .consumed ≡ now .consumed ++ take (u .0) (g .readings) = ap (λ (c : Session). c .consumed) more ∙ u .1 in
+      let sim = guest-rule lay pol code mem room (gs ++ (h ∷ [])) (x .taken) v to in
+      let later = subst (λ (us : List ℕ). length us ≡ guestGiven us (suc j) .used) used (subst (λ (n : ℕ). length (d .consumed) ≡ guestGiven (d .consumed) n .used) k (sim .used)) in
+      let given : IsPrefix (d .consumed) reads =
+      subst (λ (us : List ℕ). IsPrefix us reads) (sym used) (prefix-more (now .consumed) j (u .0) (g .readings) (a .used) later (x .behaved .readings) (o .reading)) in
+      let all : Behaved lay pol code mem raw (d .consumed) reads (suc j) = record { box = x .behaved .box; readings = given; behaves = x .behaved .behaves } in
+      let y : Sandboxed lay pol code mem raw reads room (gs ++ (h ∷ [])) (d .begun) =
+      record { taken = x .taken; premise = v; behaved = subst (Behaved lay pol code mem raw (d .consumed) reads) (sym k) all } in
+      let met = transparent lay pol code mem raw reads room (gs ++ (h ∷ [])) y to in
+      record {
+        reaches = r;
+        same = subst (MachineSameAsRaw lay (rawRun lay code raw reads (suc j))) more (subst (λ (n : ℕ). MachineSameAsRaw lay (rawRun lay code raw reads n) d) k met);
+      }
+
+  -- by another name of the count
+  follows-at : (k j p : ℕ) → suc j ≡ k → Sandboxed lay pol code mem raw reads room gs k → SimulatesAt lay p (guestFor lay pol code mem now j) now
+      → (g : RunInput) → GoesOn lay now reads g → ReachesBoundary lay commands now g k → Follows lay code raw reads now g k
+  follows-at k j p e x a g o r =
+      subst (Follows lay code raw reads now g) e (follows j p (subst (Sandboxed lay pol code mem raw reads room gs) (sym e) x) a g o (subst (ReachesBoundary lay commands now g) (sym e) r))
+
+pub transparent-step : TransparentStep
+transparent-step lay pol code mem raw reads room gs x s t g o =
+    let c = after lay pol (commandsOf lay code) mem gs in
+    let b = x .behaved in
+    let y : Sandboxed lay pol code mem raw reads room gs (c .begun) =
+    record { taken = x .taken; premise = x .premise; behaved = record { box = b .box; readings = b .readings; behaves = λ j m. b .behaves j (omega arith) } } in
+    follows-at lay pol code mem raw reads room gs (c .begun + 1) (c .begun) 0 (omega arith) x (guest-rule lay pol code mem room gs (x .taken) (x .premise) s) g o
+    (transparent-next lay pol code mem raw reads room gs y s t g (o .preserved) (o .enough))
+
+-- on the third command no bundle begins
+begins-none : (lay : Layout) (ws : List ℕ) (m : Machine) → Waiting lay ws m → begins lay (m .pc) ≡ 0
+unfolding begins
+begins-none lay ws m w =
+    ⊎-elim (λ t. rw (eqb-true (positionOf lay (m .pc)) 2 t)) (λ f. let none : waitingAt lay ws m ≡ [] = rw f in let e = w .third in no (cc)) (cases (eqb (positionOf lay (m .pc)) 2))
+
+pub transparent-resumed : TransparentResumed
+transparent-resumed lay pol code mem raw reads room gs x w g o =
+    let ws = commandsOf lay code in
+    let c = after lay pol ws mem gs in
+    let q = pause-rule lay pol code mem room gs (x .taken) (x .premise) w in
+    let e : suc (c .begun - 1) ≡ c .begun = omega (arith, q .begun) in
+    let none : c .begun + begins lay (c .machine .pc) ≡ c .begun = omega (arith, begins-none lay ws (c .machine) w) in
+    follows-at lay pol code mem raw reads room gs (c .begun) (c .begun - 1) 2 e x (q .simulates) g o
+    (subst (ReachesBoundary lay ws c g) none (resumes lay pol ws mem gs (x .premise) (w .running) g (o .preserved) (o .enough)))
 
 pub engine-transparent : EngineTransparent
 engine-transparent lay pol code mem raw reads gs v b =

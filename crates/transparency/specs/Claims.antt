@@ -13,7 +13,7 @@ use Rattle.spec.specs.Policies.{Policy}
 use Rattle.spec.specs.Words.{routine, bundlesFor}
 use Rattle.spec.specs.Bundles.{rewriteAnswer, commandsOf}
 use Rattle.spec.specs.Guests.{Pair}
-use Rattle.spec.specs.Runs.{RunInput, Session, MemoryPreserved, HostPremise, after}
+use Rattle.spec.specs.Runs.{RunInput, Session, afterRun, MemoryPreserved, HostPremise, after}
 use Rattle.spec.specs.Claims.{AtBoundary, Waiting, ReachesBoundary, withBudget, Resumable}
 use Rattle.engine_spec.specs.Claims.{HostPremise as EnginePremise, after as engineAfter, afterRun as engineRun}
 use Rattle.transparency.specs.Raw.{Raw, rawStart, rawRun, BehavesFor}
@@ -71,14 +71,40 @@ TransparentPaused =
     Sandboxed lay pol code mem raw reads room gs (c .begun - 1) → Waiting lay (commandsOf lay code) (c .machine) → MachineSameAsRaw lay (rawRun lay code raw reads (c .begun - 1)) c
 
 -- 'A pause is no instruction, and a run that can go on follows it': where the raw run is not over, the sandboxed one, lent its memory,
--- two log cells and a reading, comes to the next place of comparison in at most four steps, one bundle on; from a pause by `Resumes`,
--- with the bundle that it had begun
+-- two log cells and a reading, comes to the next place of comparison in at most four steps, one bundle on
 abbrev pub TransparentNext : Type 0
 TransparentNext =
     (lay : Layout) (pol : Policy) (code mem raw reads : List ℕ) (room : ℕ) (gs : List RunInput) →
     let c = after lay pol (commandsOf lay code) mem gs in
     Sandboxed lay pol code mem raw reads room gs (c .begun) → AtBoundary lay (c .machine) → rawRun lay code raw reads (c .begun) .status ≡ Running →
     (g : RunInput) → MemoryPreserved lay (c .memory) g → Resumable lay g → ReachesBoundary lay (commandsOf lay code) c g (c .begun + 1)
+
+-- a run that can go on: lent the one memory, two log cells and a reading, which is the next one of the raw run
+pub record GoesOn (lay : Layout) (c : Session) (reads : List ℕ) (g : RunInput) : Type 0 where
+  pub preserved : MemoryPreserved lay (c .memory) g
+  pub enough : Resumable lay g
+  pub reading : getD (g .readings) 0 0 ≡ getD reads (length (c .consumed)) 0
+
+-- it comes to the next place of comparison in at most four steps, with k bundles begun, and is there as the raw run after k instructions
+pub record Follows (lay : Layout) (code raw reads : List ℕ) (c : Session) (g : RunInput) (k : ℕ) : Type 0 where
+  pub reaches : ReachesBoundary lay (commandsOf lay code) c g k
+  pub same : MachineSameAsRaw lay (rawRun lay code raw reads k) (afterRun lay (commandsOf lay code) c (withBudget g (reaches .budget)))
+
+-- so it follows the next instruction of the raw run, if that behaves too; from a place of comparison
+abbrev pub TransparentStep : Type 0
+TransparentStep =
+    (lay : Layout) (pol : Policy) (code mem raw reads : List ℕ) (room : ℕ) (gs : List RunInput) →
+    let c = after lay pol (commandsOf lay code) mem gs in
+    Sandboxed lay pol code mem raw reads room gs (c .begun + 1) → AtBoundary lay (c .machine) → rawRun lay code raw reads (c .begun) .status ≡ Running →
+    (g : RunInput) → GoesOn lay c reads g → Follows lay code raw reads c g (c .begun + 1)
+
+-- and from a pause, with the bundle that it had begun
+abbrev pub TransparentResumed : Type 0
+TransparentResumed =
+    (lay : Layout) (pol : Policy) (code mem raw reads : List ℕ) (room : ℕ) (gs : List RunInput) →
+    let c = after lay pol (commandsOf lay code) mem gs in
+    Sandboxed lay pol code mem raw reads room gs (c .begun) → Waiting lay (commandsOf lay code) (c .machine) →
+    (g : RunInput) → GoesOn lay c reads g → Follows lay code raw reads c g (c .begun)
 
 -- ---- the engine
 

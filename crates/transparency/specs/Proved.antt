@@ -1,5 +1,5 @@
 -- Every claim of this crate, a field each: its one term is `proved`, in proofs/Proved.antt.
-use Rattle.transparency.specs.Claims.{Transparent, EngineTransparent, TransparentPaused, TransparentNext, EngineTransparentNext}
+use Rattle.transparency.specs.Claims.{Transparent, EngineTransparent, TransparentPaused, TransparentNext, TransparentStep, TransparentResumed, EngineTransparentNext}
 use Rattle.transparency.specs.Sample.{SampleHolds}
 
 pub record Proved : Type 0 where
@@ -7,5 +7,7 @@ pub record Proved : Type 0 where
   pub engineTransparent : EngineTransparent
   pub transparentPaused : TransparentPaused
   pub transparentNext : TransparentNext
+  pub transparentStep : TransparentStep
+  pub transparentResumed : TransparentResumed
   pub engineTransparentNext : EngineTransparentNext
   pub sampleHolds : SampleHolds

@@ -14,7 +14,7 @@ use Rattle.spec.specs.Claims.{Waiting}
 use Rattle.samples.specs.Sample.{layout}
 use Rattle.engine_spec.specs.Claims.{HostPremise as EnginePremise, after as engineAfter}
 use Rattle.transparency.specs.Raw.{Raw, rawRun}
-use Rattle.transparency.specs.Claims.{Behaved, Sandboxed}
+use Rattle.transparency.specs.Claims.{Behaved, Sandboxed, GoesOn}
 
 -- the policy of `samples`, with instruction 6 as the one landing
 abbrev pub policy : Policy
@@ -46,8 +46,12 @@ rawAt k = rawRun layout code memory readings k
 abbrev pub pausedRun : RunInput
 pausedRun = record { memory = installMemory layout policy memory; budget = 1000; readings = readings; log = replicate 2 0 }
 
+-- and it can go on
+abbrev pub resumedRun : RunInput
+resumedRun = record { memory = after layout policy commands memory (pausedRun ∷ []) .memory; budget = 1000; readings = readings; log = replicate 2 0 }
+
 -- the premises of Transparent can be met: the sandboxed run comes to its end after eight bundles, and the raw one after eight instructions;
--- so can those of TransparentPaused, with the seventh bundle begun, and of EngineTransparent
+-- so can those of TransparentPaused and TransparentResumed, with the seventh bundle begun, and of EngineTransparent
 pub record SampleHolds : Type 0 where
   pub sandboxed : Sandboxed layout policy code memory memory readings 64 (run ∷ []) 8
   pub begun : after layout policy commands memory (run ∷ []) .begun ≡ 8
@@ -57,6 +61,8 @@ pub record SampleHolds : Type 0 where
   pub pausedSandboxed : Sandboxed layout policy code memory memory readings 64 (pausedRun ∷ []) 6
   pub pausedBegun : after layout policy commands memory (pausedRun ∷ []) .begun ≡ 7
   pub waiting : Waiting layout commands (after layout policy commands memory (pausedRun ∷ []) .machine)
+  pub resumedSandboxed : Sandboxed layout policy code memory memory readings 64 (pausedRun ∷ []) 7
+  pub goesOn : GoesOn layout (after layout policy commands memory (pausedRun ∷ [])) readings resumedRun
   pub enginePremise : EnginePremise layout policy code memory (run ∷ [])
   pub engineBehaved : Behaved layout policy code memory memory (engineAfter layout policy code memory (run ∷ []) .consumed) readings 8
   pub counted : engineAfter layout policy code memory (run ∷ []) .counted ≡ 8

@@ -2,8 +2,8 @@
 use mathlib.Core.Path.{refl}
 use Rattle.policy_spec.specs.maps.Maps.{build}
 use Rattle.policy_spec.specs.reachability.Reach.{insert, reachedBy, tableOf}
-use Rattle.policy_spec.specs.reachability.Claims.{Worked}
+use Rattle.policy_spec.specs.reachability.Claims.{WorkedExamples}
 
-pub worked : Worked
+pub worked-examples : WorkedExamples
 unfolding build insert reachedBy tableOf
-worked = record { nodes = refl; rows = refl }
+worked-examples = record { nodes = refl; rows = refl }
