@@ -47,5 +47,8 @@ pub fn is_goif(l: Layout, n: usize, w: u64, x: u64, y: u64, z: u64) -> bool
 {
     is_command(w)
         & only_guest_registers(w)
-        & is_bundle_address(l, n, field::v(w)) & (x == NOP) & (y == NOP) & (z == NOP)
+        & is_bundle_address(l, n, field::v(w))
+        & (x == NOP)
+        & (y == NOP)
+        & (z == NOP)
 }

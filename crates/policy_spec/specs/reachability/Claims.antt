@@ -48,7 +48,7 @@ NodesExact = (next : ℕ → ℕ → ℕ) (q : ℕ) → Arrows next q → Exactl
 
 -- what is handed back and left with answer 0 is that policy
 pub record Makes (next : ℕ → ℕ → ℕ) (q : ℕ) (table : List ℕ) : Type 0 where
-  pub nodesFit : nodesFit next q ≡ true
+  pub few : nodesFit next q ≡ true
   pub states : reachOf next q (length table) .policy .states ≡ policyFrom next q .states
   pub start : reachOf next q (length table) .policy .start ≡ policyFrom next q .start
   pub leaves : take (reachOf next q (length table) .answer .place) (reachTable next q table) ≡ policyFrom next q .table
