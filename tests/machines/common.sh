@@ -31,14 +31,15 @@ asks() { # TARGET
         awk '$7 == "UND" && $8 != "" && $8 != "_GLOBAL_OFFSET_TABLE_" { print $8 }' | LC_ALL=C sort -u | paste -sd ' '
 }
 
-# Bytes of code and constants, or of the whole module for wasm32.
-flash() { # TARGET
+# Bytes of code and constants.
+code_bytes() { # FILE
     local sum=0 size
-    if [ -f $portable/"$1"/hemdroas.wasm ]; then
-        wc -c <$portable/"$1"/hemdroas.wasm
-        return
-    fi
-    for size in $(readelf -SW $portable/"$1"/libhemdroas.a 2>/dev/null | sed 's/^ *\[ *[0-9]*\] *//' |
+    for size in $(readelf -SW "$1" 2>/dev/null | sed 's/^ *\[ *[0-9]*\] *//' |
         awk '$2 == "PROGBITS" && $7 ~ /A/ && $1 !~ /^\.(eh_frame|ARM\.ex)/ { print $5 }'); do sum=$((sum + 16#$size)); done
     echo $sum
+}
+
+# The same of a target's library, or the whole module for wasm32.
+flash() { # TARGET
+    if [ -f $portable/"$1"/hemdroas.wasm ]; then wc -c <$portable/"$1"/hemdroas.wasm; else code_bytes $portable/"$1"/libhemdroas.a; fi
 }
