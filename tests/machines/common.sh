@@ -1,3 +1,4 @@
+# shellcheck shell=bash
 # What tests/machines/run and tools/run-everywhere share. Sourced by bash, at the top of the repository.
 here=tests/machines
 portable=target/portable

@@ -51,17 +51,7 @@ enum { LANDINGS_LISTED = sizeof landings / sizeof landings[0] };
 
 /* ---- the drum */
 
-static struct hemdroas_layout layout = {
-    .cells = CELLS,
-    .low = LOW,
-    .high = HIGH,
-    .state_cell = STATE_CELL,
-    .table = TABLE,
-    .states = STATES,
-    .base = 0,
-    .landings = LANDINGS,
-    .ceilings = HEMDROAS_NO_CEILINGS,
-};
+static struct hemdroas_layout layout = {CELLS, LOW, HIGH, STATE_CELL, TABLE, STATES, 0, LANDINGS, HEMDROAS_NO_CEILINGS};
 static uint32_t memory[CELLS];
 static uint8_t table[HEMDROAS_EVENTS * STATES];
 static uint8_t bytes[BYTES];
