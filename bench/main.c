@@ -4,8 +4,8 @@
  */
 #include "bench.h"
 
-typedef void Run(const struct hemdroas_layout *, const uint64_t *, size_t, struct hemdroas_machine *, uint32_t *, size_t, uint32_t,
-                 const uint32_t *, size_t, uint32_t *, size_t, struct hemdroas_run_answer *);
+typedef void Run(const struct hemdroas_layout *, const uint64_t *, uint64_t, struct hemdroas_machine *, uint32_t *, uint64_t, uint32_t,
+                 const uint32_t *, uint64_t, uint32_t *, uint64_t, struct hemdroas_run_answer *);
 Run run_O2, run_O3, run_bundles;
 enum { KINDS = 4 };
 static Run *const RUNS[KINDS] = {hemdroas_run, run_O2, run_O3, run_bundles};
