@@ -192,9 +192,14 @@ struct hemdroas_policy {
     uint32_t ceilings[HEMDROAS_ORDERS]; /* as a layout's */
 };
 
-/* Taken (0): place counts the words, bytes or commands written, and is 0 for the
- * checks and install. Refused: place is the instruction at fault (1 to 4, 8 and
- * forward's 18) or the bundle (11 and check_forward's 18), else 0. */
+/* If taken (0), place counts the words, bytes or commands written; for the checks
+ * and install it is 0. If refused, it is
+ * - the instruction at fault, for short weight (1), foreign matter (2), unknown
+ *   variety (3), off grade (4), bad landing (8) and hemdroas_forward's not
+ *   forward (18);
+ * - the bundle at fault, for bad bundle (11) and hemdroas_check_forward's not
+ *   forward (18);
+ * - else 0. */
 struct hemdroas_answer {
     uint32_t number; /* enum hemdroas_refusal */
     uint32_t place;
