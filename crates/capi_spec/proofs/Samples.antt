@@ -1,4 +1,4 @@
--- The premise of HostIsolation can be met, and the definitions compute.
+-- The premises of HostIsolation and HostNoninterference can be met, and the definitions compute.
 use Prim.Native.Nat.{ℕ}
 use mathlib.Core.Path.{_≡_, refl, sym, _∙_, ap}
 use mathlib.Core.Bool.{false, _||_}
@@ -21,7 +21,7 @@ use Rattle.spec.proofs.Bools.{no}
 use Rattle.capi_spec.specs.Numbers.{layoutFrom}
 use Rattle.capi_spec.specs.Hosts.{checkFor, installFor, loadFor, runFor}
 use Rattle.capi_spec.specs.Claims.{callsOf, installed, loaded}
-use Rattle.capi_spec.specs.Sample.{layout, bytes, left, SampleHolds}
+use Rattle.capi_spec.specs.Sample.{layout, bytes, lot, left, SampleHolds}
 
 -- a store to a free cell
 pub free-set : (mem : List ℕ) (i x : ℕ) → (inBox (layoutFrom layout) i || protected (layoutFrom layout) i) ≡ false → LowEqual (layoutFrom layout) (set mem i x) mem
@@ -33,8 +33,12 @@ sample-holds =
     record {
       loaded = refl;
       ready = loaded bytes (replicate 40 0) refl;
-      preserved = (λ l i s. refl, (λ l. absurd (let z : _≡_ {A = ℕ} 0 128 = l in omega arith), (λ l. free-set left 8 5 refl, tt)));
-      answers = refl;
-      again = installed _ refl refl;
-      ended = refl;
+      preserved = λ x. (λ l. free-set (lot .memory) 9 x refl, (λ l. absurd (let z : _≡_ {A = ℕ} 0 128 = l in omega arith), (λ l. free-set (left x) 8 x refl, tt)));
+      alike = λ x y. (
+        record { readings = refl; budget = refl; log = refl; memory = refl },
+        (record { readings = refl; budget = refl; log = refl; memory = refl }, (record { readings = refl; budget = refl; log = refl; memory = refl }, tt)),
+      );
+      answers = λ x. refl;
+      again = λ x. installed _ refl refl;
+      ended = λ x. refl;
     }

@@ -1,15 +1,16 @@
--- A sample that satisfies HostIsolation's premise: document 01's routine is loaded on a small drum, run in two calls with a refused
--- one between, and run again under another policy.
+-- A sample that satisfies the premises of HostIsolation and HostNoninterference: document 01's routine is loaded on a small drum, run in
+-- two calls with a refused one between, and run again under another policy.
 use Prim.Native.Nat.{ℕ}
 use mathlib.Core.Path.{_≡_}
 use mathlib.Core.List.{List, [], _∷_, _++_, map}
 use lib.ListN.{set, replicate}
 use Rattle.types.specs.Names.{orders, topWord}
 use Rattle.spec.specs.Policies.{Policy, policyOf}
-use Rattle.spec.specs.Runs.{RunInput, Session, sessionOf, afterRun, MemoriesPreserved}
+use Rattle.spec.specs.Runs.{RunInput, Pairwise, Session, sessionOf, afterRun}
+use Rattle.spec.specs.Claims.{SameInputs}
 use Rattle.capi_spec.specs.Numbers.{layoutFrom, machineFrom}
 use Rattle.capi_spec.specs.Hosts.{HostInstalled, installFor, HostLoaded, loadFor}
-use Rattle.capi_spec.specs.Claims.{callsOf, runCall, counted, Prepared}
+use Rattle.capi_spec.specs.Claims.{callsOf, runCall, counted, Prepared, CallsPreserved}
 
 -- U 128, SL 96, SH 127, M 0, P 16, S 2, B 32, Q 64, no limits
 abbrev pub layout : List ℕ
@@ -32,27 +33,30 @@ lot = loadFor layout policy bytes (replicate 40 0) (replicate 128 0)
 abbrev pub runInput : List ℕ → ℕ → RunInput
 runInput mem budget = record { memory = mem; budget = budget; readings = []; log = replicate 8 0 }
 
--- the session before the first call; six steps; a memory too short; a thousand steps, before which the host wrote to the free cell 8
+-- the session before the first call; six steps, before which the host wrote x to the free cell 9; a memory too short; a thousand steps, before which
+-- it wrote x to the free cell 8
 abbrev pub firstSession : Session
 firstSession = sessionOf (machineFrom (lot .machine)) (lot .memory) [] [] 0
 
-abbrev pub firstCall : RunInput
-firstCall = runInput (lot .memory) 6
+abbrev pub firstCall : ℕ → RunInput
+firstCall x = runInput (set (lot .memory) 9 x) 6
 
-abbrev pub left : List ℕ
-left = afterRun (layoutFrom layout) (counted lot) firstSession firstCall .memory
+abbrev pub left : ℕ → List ℕ
+left x = afterRun (layoutFrom layout) (counted lot) firstSession (firstCall x) .memory
 
-abbrev pub calls : List RunInput
-calls = firstCall ∷ runInput [] 6 ∷ runInput (set left 8 5) 1000 ∷ []
+abbrev pub calls : ℕ → List RunInput
+calls x = firstCall x ∷ runInput [] 6 ∷ runInput (set (left x) 8 x) 1000 ∷ []
 
 -- the next lot: the other policy installed in what the first call left
-abbrev pub next : HostInstalled
-next = installFor layout other left
+abbrev pub next : ℕ → HostInstalled
+next x = installFor layout other (left x)
 
+-- whatever x the host writes; so two lists with x and y are on the premise of HostNoninterference
 pub record SampleHolds : Type 0 where
   pub loaded : lot .answer ≡ 0 ∷ 32 ∷ []
   pub ready : Prepared layout policy (replicate 128 0) (counted lot) (lot .machine) (lot .memory)
-  pub preserved : MemoriesPreserved (layoutFrom layout) (counted lot) firstSession calls
-  pub answers : map (λ r. r .answer) (callsOf (runCall layout (counted lot)) (lot .machine) calls) ≡ (25 ∷ 6 ∷ 0 ∷ 0 ∷ []) ∷ (7 ∷ 0 ∷ 0 ∷ 0 ∷ []) ∷ (21 ∷ 8 ∷ 2 ∷ 0 ∷ []) ∷ []
-  pub again : Prepared layout other left (counted lot) (next .machine) (next .memory)
-  pub ended : map (λ r. r .answer) (callsOf (runCall layout (counted lot)) (next .machine) (runInput (next .memory) 1000 ∷ [])) ≡ (20 ∷ 17 ∷ 3 ∷ 0 ∷ []) ∷ []
+  pub preserved : (x : ℕ) → CallsPreserved layout (counted lot) (lot .machine) (lot .memory) (calls x)
+  pub alike : (x y : ℕ) → Pairwise SameInputs (calls x) (calls y)
+  pub answers : (x : ℕ) → map (λ r. r .answer) (callsOf (runCall layout (counted lot)) (lot .machine) (calls x)) ≡ (25 ∷ 6 ∷ 0 ∷ 0 ∷ []) ∷ (7 ∷ 0 ∷ 0 ∷ 0 ∷ []) ∷ (21 ∷ 8 ∷ 2 ∷ 0 ∷ []) ∷ []
+  pub again : (x : ℕ) → Prepared layout other (left x) (counted lot) (next x .machine) (next x .memory)
+  pub ended : (x : ℕ) → map (λ r. r .answer) (callsOf (runCall layout (counted lot)) (next x .machine) (runInput (next x .memory) 1000 ∷ [])) ≡ (20 ∷ 17 ∷ 3 ∷ 0 ∷ []) ∷ []

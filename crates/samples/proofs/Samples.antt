@@ -37,7 +37,10 @@ premise-with x =
     record {
       passed = passed;
       installed = refl;
-      preserved = (λ l i s. refl, (λ l. absurd (let z : _≡_ {A = ℕ} 0 1024 = l in omega arith), (λ l. free-set (left x) 600 x refl, tt)));
+      preserved = (
+        λ l. free-set (installMemory layout policy (memory x)) 650 x refl,
+        (λ l. absurd (let z : _≡_ {A = ℕ} 0 1024 = l in omega arith), (λ l. free-set (left x) 600 x refl, tt)),
+      );
     }
 
 installed-with : (x : ℕ) → installMemory layout policy (memory x) ≡ set (installMemory layout policy (memory 0)) 700 x

@@ -45,9 +45,9 @@ memory x = set (replicate 1024 0) 700 x
 abbrev pub runInput : List ℕ → ℕ → ℕ → RunInput
 runInput mem budget old = record { memory = mem; budget = budget; readings = 1800 ∷ 1950 ∷ 2100 ∷ []; log = replicate 64 old }
 
--- six steps; a memory too short; a thousand steps, before which the host wrote x to the free cell 600
+-- six steps, before which the host wrote x to the free cell 650; a memory too short; a thousand steps, before which it wrote x to the free cell 600
 abbrev pub firstRun : ℕ → RunInput
-firstRun x = runInput (installMemory layout policy (memory x)) 6 x
+firstRun x = runInput (set (installMemory layout policy (memory x)) 650 x) 6 x
 
 abbrev pub left : ℕ → List ℕ
 left x = afterRun layout commands (initialSession layout policy (memory x)) (firstRun x) .memory

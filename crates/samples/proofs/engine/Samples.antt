@@ -1,5 +1,5 @@
 -- The premises of the claims can be met, and the definitions compute.
-use mathlib.Core.Path.{_≡_, refl, ap}
+use mathlib.Core.Path.{_≡_, refl, _∙_, ap}
 use mathlib.Core.Logic.{inl}
 use mathlib.Core.List.{List, [], _∷_}
 use Prim.Native.Nat.{ℕ, _<_}
@@ -28,7 +28,10 @@ premise-with x y =
     record {
       taken = refl;
       installed = refl;
-      preserved = (λ l. machine-holds .matches y x, (λ l. absurd (let z : _≡_ {A = ℕ} 0 1024 = l in omega arith), (λ l. free-set (left y) 600 y refl, tt)));
+      preserved = (
+        λ l i s. free-set (installMemory layout policy (memory y)) 650 y refl i s ∙ machine-holds .matches y x i s,
+        (λ l. absurd (let z : _≡_ {A = ℕ} 0 1024 = l in omega arith), (λ l. free-set (left y) 600 y refl, tt)),
+      );
     }
 
 nothing-used : (x y : ℕ) → after layout policy code (memory x) (runs y) .consumed ≡ []

@@ -16,9 +16,9 @@ use Rattle.engine_spec.specs.declared.EngineOutcome.{EngineOutcome}
 use Rattle.engine_spec.specs.Engines.{refusalOf}
 use Rattle.engine_spec.specs.Claims.{initialSession, runOn, afterRun, after, HostPremise, PairedRuns, PausedBy, allRuns}
 
--- two instructions; a memory too short; a thousand, before which the host wrote x to the free cell 600
+-- two instructions, before which the host wrote x to the free cell 650; a memory too short; a thousand, before which it wrote x to the free cell 600
 abbrev pub firstRun : ℕ → RunInput
-firstRun x = runInput (installMemory layout policy (memory x)) 2 x
+firstRun x = runInput (set (installMemory layout policy (memory x)) 650 x) 2 x
 
 abbrev pub left : ℕ → List ℕ
 left x = afterRun layout code (initialSession layout policy (memory x)) (firstRun x) .memory
