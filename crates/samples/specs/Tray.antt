@@ -1,4 +1,4 @@
--- Document 01's sample tray: its cases marked *, as rows of one table.
+-- Document 01's sample tray: its cases marked *, as [1] leaves them, and [6]'s r14 and r15 in bytes, as rows of one table.
 use Prim.Native.Nat.{ℕ, _+_, _-_, _^_}
 use mathlib.Core.Path.{_≡_}
 use mathlib.Core.Bool.{Bool, true, false, _&&_, Bool·beq}
@@ -99,6 +99,9 @@ rows =
     ∷ writes (packOf (guest .set) 1 0 0 0 200) (0x23 ∷ 0x01 ∷ 0x01 ∷ 0xC8 ∷ 0x00 ∷ 0x00 ∷ 0x00 ∷ [])
     ∷ writes (packOf (guest .set) 0 0 0 0 0) (0x01 ∷ 0x01 ∷ [])
     ∷ reads (1 ∷ 0 ∷ 0x23 ∷ 0x01 ∷ 0x01 ∷ 0x00 ∷ 0x00 ∷ 0x00 ∷ 0x00 ∷ []) 2 0
+    ∷ writes (packOf (guest .set) 14 0 0 0 200) (0x23 ∷ 0x01 ∷ 0x0E ∷ 0xC8 ∷ 0x00 ∷ 0x00 ∷ 0x00 ∷ [])
+    ∷ reads (1 ∷ 0 ∷ 0x23 ∷ 0x01 ∷ 0x0E ∷ 0xC8 ∷ 0x00 ∷ 0x00 ∷ 0x00 ∷ []) 0 1
+    ∷ reads (1 ∷ 0 ∷ 0x23 ∷ 0x01 ∷ 0x0F ∷ 0xC8 ∷ 0x00 ∷ 0x00 ∷ 0x00 ∷ []) 4 0
     ∷ sizes 0 1
     ∷ rewrites (smallLayout 32) [] 4 0 4
     ∷ sizes 255 256
