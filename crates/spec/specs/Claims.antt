@@ -231,8 +231,8 @@ GuestRule =
     let c = after lay pol (commandsOf lay code) mem gs in
     HostPremise lay pol (commandsOf lay code) mem gs → AtBoundary lay (c .machine) → Simulates lay (guestFor lay pol code mem c (c .begun)) c
 
--- the same within a run that is given the input g, after any j of its steps: cut off there, the run is where the whole run comes and goes on from,
--- and on the first command of a bundle, or over, the machine agrees with the guest rule
+-- every moment: a run cut off after any j of its steps. The whole run comes to where the cut one ends, and goes on from there (`comes`).
+-- There, on the first command of a bundle or over, machine and guest rule agree (`agrees`)
 pub record MomentLaws (lay : Layout) (pol : Policy) (code mem : List ℕ) (c : Session) (g : RunInput) (j : ℕ) : Type 0 where
   pub comes :
       let ws = commandsOf lay code in
