@@ -167,7 +167,7 @@ module _ (lay : Layout) (ws rd : List ℕ) (s : State) (size : length (s .mem) �
       let i = entryFrom (lay .table) (lay .cell) (s .mem) v in
       cond-ind Reason (ltb (lay .cell) (length (s .mem)))
       (λ _. cond-ind Reason (ltb i (length (s .mem))) (λ _. tt) (past _ q i (or-right (eqb i (lay .cell)) _ (head-used i [])))) (past _ q (lay .cell) (head-used (lay .cell) (i ∷ [])))
-  reasons (StopIf d) q = cond-ind Reason (eqb (registerAt s d) noArrow) (λ t. record { d = d; command = q; noArrow = eqb-true _ _ t }) (λ _. tt)
+  reasons (StopIf d) q = cond-ind Reason (eqb (registerAt s d) noArrow) (λ t. record { d = d; command = q; value = eqb-true _ _ t }) (λ _. tt)
   reasons (Keep d) q = cond-ind Reason (ltb (lay .cell) (length (s .mem))) (λ _. tt) (past _ q (lay .cell) (head-used (lay .cell) []))
   reasons (Event v) q =
       let full : ((v < orders) ⊎ (s .used < length rd)) → ltb (seen .free) 2 ≡ true → WaitsAt lay ws rd s LogFull =
@@ -222,7 +222,7 @@ module _ (lay : Layout) (ws rd : List ℕ) (s : State) (size : length (s .mem) �
   unfolding effectOf
   ends-by Running e = absurd e
   ends-by Ended e = ap does e
-  ends-by Stopped e = ap does (e .command) ∙ rw (eq-eqb _ _ (e .noArrow))
+  ends-by Stopped e = ap does (e .command) ∙ rw (eq-eqb _ _ (e .value))
   ends-by Faulted e = faults e
   ends-by Strayed e = ap does (e .command) ∙ rw (e .taken, e .noLanding)
 
@@ -302,7 +302,7 @@ module _ (lay : Layout) (ws rd : List ℕ) (m : Machine) (budget : ℕ) where
   ended : (s : State) (t : Status) → EndsAt lay ws s t → Why (atStatus s t) t
   ended s Running e = tt
   ended s Ended e = inr e
-  ended s Stopped e = inr (record { d = e .d; command = e .command; noArrow = e .noArrow })
+  ended s Stopped e = inr (record { d = e .d; command = e .command; value = e .value })
   ended s Faulted e = inr (still-faults lay ws s Faulted e)
   ended s Strayed e = inr (record { d = e .d; a = e .a; b = e .b; c = e .c; command = e .command; taken = e .taken; noLanding = e .noLanding })
 
