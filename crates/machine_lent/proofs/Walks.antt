@@ -1,4 +1,4 @@
--- What the two walks share: a run's arguments and their machine values, and what its contract is about.
+-- What the walks share: the arguments of a run and of a step, their machine values, and what the contracts are about.
 use Prim.Native.Nat.{ℕ}
 use mathlib.Core.List.{[], _∷_, List}
 use lib.ListN.{length}
@@ -46,3 +46,23 @@ module _ (y : Layout) (cs ms : RefT (List ℕ)) (n : ℕ) (rs gs : RefT (List �
   -- what the definition is applied to
   abbrev pub ran : Machine → RunResult
   ran h = runOf y (cs .now) h (ms .now) n (rs .now) (gs .now)
+
+-- the same of a step, which has no budget
+abbrev pub StepArg : Type 0 → Type 0
+StepArg D = Layout × (RefT (List ℕ) × (D × (RefT (List ℕ) × (RefT (List ℕ) × (RefT (List ℕ) × Unit {0})))))
+
+abbrev pub StepVals : Type 0
+StepVals = List Val × (List Val × (List Val × (List Val × (List Val × (List Val × Unit {0})))))
+
+abbrev pub StepLast : Type 0 → Type 0
+StepLast D = Unit {0} × (Unit {0} × (D × (List ℕ × (Unit {0} × (List ℕ × Unit {0})))))
+
+module _ (y : Layout) (cs ms rs gs : RefT (List ℕ)) where
+  abbrev pub step-args : {D : Type 0} → D → StepArg D
+  step-args d = (y, (cs, (d, (ms, (rs, (gs, tt))))))
+
+  abbrev pub step-vals : Val → StepVals
+  step-vals v = (lay y ∷ [], (sl cs ∷ [], (v ∷ [], (sl ms ∷ [], (sl rs ∷ [], (sl gs ∷ [], tt))))))
+
+  abbrev pub stepped : Machine → RunResult
+  stepped h = runOf y (cs .now) h (ms .now) 1 (rs .now) (gs .now)
