@@ -3,6 +3,7 @@ use Rattle.engine_spec.specs.Proved.{Proved}
 use Rattle.engine_spec.proofs.Rule.{engine-rule, engine-machine, engine-paused}
 use Rattle.engine_spec.proofs.StepTogether.{engine-next, engine-endings}
 use Rattle.engine_spec.proofs.Isolation.{engine-reaches, engine-recorded, engine-ceilings, engine-isolation, engine-cell}
+use Rattle.engine_spec.proofs.Continues.{entries-agree, continue-endings, reached-faults, entries-mix}
 use Rattle.engine_spec.proofs.Prefixes.{engine-runs-compose, engine-prefix-closed}
 use Rattle.engine_spec.proofs.Paused.{engine-pauses}
 use Rattle.engine_spec.proofs.Waits.{engine-waits}
@@ -29,4 +30,8 @@ proved =
       engineCeilings = engine-ceilings;
       engineIsolation = engine-isolation;
       engineCell = engine-cell;
+      entriesAgree = entries-agree;
+      continueEndings = continue-endings;
+      reachedFaults = reached-faults;
+      entriesMix = entries-mix;
     }
