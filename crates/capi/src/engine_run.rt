@@ -12,7 +12,7 @@ ghost use Prim.Native.Nat.{_<_, _^_};
 ghost use Rattle.types.specs.Names.{guestRegisters};
 ghost use Rattle.capi_spec.specs.Numbers.{numbersAfter};
 ghost use Rattle.capi_spec.specs.Hosts.{hostResult};
-ghost use Rattle.capi_spec.specs.engine.Records.{engineFrom, engineTo, engineFor};
+ghost use Rattle.capi_spec.specs.engine.Records.{engineFrom, engineTo, engineFor, continueFor};
 
 // How many numbers a record and an answer have.
 pub const RECORD: usize = Engine::REGISTERS + TRAILER;
@@ -72,6 +72,28 @@ pub extern "C" fn hemdroas_engine_run(
     let given = *engine;
     let m = engine_of(given);
     let out = engine::run(lay, words, m, memory, budget, readings, log);
+    *engine = record_after(out.engine, given);
+    *answer = answer_of(out.answer, out.steps, out.pairs, out.used);
+}
+
+// Goes on with words that were judged before: each is judged as it is reached, and one that is no instruction faults.
+#[no_mangle]
+pub extern "C" fn hemdroas_engine_continue(
+    layout: &[u32; LAYOUT],
+    words: &[u64],
+    engine: &mut [u32; RECORD],
+    memory: &mut [u32],
+    budget: u32,
+    readings: &[u32],
+    log: &mut [u32],
+    answer: &mut [u32; ANSWER],
+)
+    ensures { λ _. ⌜ hostResult (now (answer .exit)) (now (engine .exit)) (now (memory .exit)) (now (log .exit)) ≡ continueFor (now (layout .entry)) (now (words .entry)) (now (engine .entry)) (now (memory .entry)) budget (now (readings .entry)) (now (log .entry)) ⌝ }
+{
+    let lay = layout_of(layout);
+    let given = *engine;
+    let m = engine_of(given);
+    let out = engine::resume(lay, words, m, memory, budget, readings, log);
     *engine = record_after(out.engine, given);
     *answer = answer_of(out.answer, out.steps, out.pairs, out.used);
 }

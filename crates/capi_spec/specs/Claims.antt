@@ -33,7 +33,7 @@ MachineRoundTrips = RoundTrips registers (λ m. m .regs) machineFrom machineTo
 -- ---- a list of calls
 
 -- what calls leave, the first given these numbers of a record, each other as the last call left them
-unfoldable pub callsOf : (List ℕ → RunInput → HostResult) → List ℕ → List RunInput → List HostResult
+unfoldable pub callsOf : {G : Type 0} → (List ℕ → G → HostResult) → List ℕ → List G → List HostResult
 callsOf call xs [] = []
 callsOf call xs (g ∷ gs) = call xs g ∷ callsOf call (call xs g .after) gs
 

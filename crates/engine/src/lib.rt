@@ -18,7 +18,8 @@ ghost use Rattle.types.specs.declared.Status.the-variants.{Running};
 ghost use Rattle.types.specs.Names.{mostInstructions};
 ghost use Rattle.spec.specs.Words.{bundlesFor};
 ghost use Rattle.spec.specs.Machines.{stateOf, runResultOf};
-ghost use Rattle.engine_spec.specs.Engines.{engineOf, ValidWords, ValidatedWords, outcomeOf, endAnswer, runFrom, startOf, runOf};
+ghost use Rattle.engine_spec.specs.Engines.{engineOf, outcomeOf, endAnswer, startOf, runOf};
+ghost use Rattle.engine_spec.specs.Continues.{KnownWords, JudgedWords, continueFrom, continueOf};
 
 // ---- what a run answers
 
@@ -49,10 +50,11 @@ fn finish(regs: [u32; Engine::REGISTERS], at: Point, ending: Ending, steps: u32)
     }
 }
 
-// A run of an engine that is running, on words that were validated.
+// A run of an engine that is running; the first `judged` words are known to be instructions.
 fn run_running(
     layout: Layout,
     words: &[u64],
+    judged: usize,
     top: u32,
     engine: Engine,
     memory: &mut [u32],
@@ -60,13 +62,14 @@ fn run_running(
     readings: &[u32],
     log: &mut [u32],
 ) -> EngineOutcome
-    requires { ⌜ ValidatedWords (now words) top ⌝ }
-    ensures { λ r. ⌜ runResultOf r (now (memory .exit)) (now (log .exit)) ≡ runFrom layout (now (words .entry)) (now (readings .entry)) budget 0 (stateOf (engine .regs) (engine .at) Running (now (memory .entry)) (now (log .entry)) 0 0) ⌝ }
+    requires { ⌜ JudgedWords (now words) judged top ⌝ }
+    ensures { λ r. ⌜ runResultOf r (now (memory .exit)) (now (log .exit)) ≡ continueFrom layout (now (words .entry)) (now (readings .entry)) budget 0 (stateOf (engine .regs) (engine .at) Running (now (memory .entry)) (now (log .entry)) 0 0) ⌝ }
 {
     let mut regs = engine.regs;
     let loop_exit = run_loop(
         layout,
         words,
+        judged,
         top,
         &mut regs,
         engine.at,
@@ -89,31 +92,39 @@ fn last_index(n: usize) -> u32
     (count - 1) as u32
 }
 
-// A run of an engine in any status, on words that were validated.
+// What a run answers that changes nothing.
+fn unchanged(engine: Engine, answer: Answer) -> EngineOutcome
+    ensures { λ r. ⌜ r ≡ outcomeOf engine answer 0 0 0 ⌝ }
+{
+    EngineOutcome {
+        engine,
+        answer,
+        steps: 0,
+        pairs: 0,
+        used: 0,
+    }
+}
+
+// A run of an engine in any status; the first `judged` words are known to be instructions.
 fn run_on(
     layout: Layout,
     words: &[u64],
+    judged: usize,
     engine: Engine,
     memory: &mut [u32],
     budget: u32,
     readings: &[u32],
     log: &mut [u32],
 ) -> EngineOutcome
-    requires { ⌜ ValidWords (now words) ⌝ }
-    ensures { λ r. ⌜ runResultOf r (now (memory .exit)) (now (log .exit)) ≡ runFrom layout (now (words .entry)) (now (readings .entry)) budget 0 (startOf engine (now (memory .entry)) (now (log .entry))) ⌝ }
+    requires { ⌜ KnownWords (now words) judged ⌝ }
+    ensures { λ r. ⌜ runResultOf r (now (memory .exit)) (now (log .exit)) ≡ continueFrom layout (now (words .entry)) (now (readings .entry)) budget 0 (startOf engine (now (memory .entry)) (now (log .entry))) ⌝ }
 {
     let status = engine.status;
     if let Status::Running = status {
         let top = last_index(words.len());
-        return run_running(layout, words, top, engine, memory, budget, readings, log);
+        return run_running(layout, words, judged, top, engine, memory, budget, readings, log);
     }
-    EngineOutcome {
-        engine,
-        answer: end_answer(machine_step::endings::ending_of(status)),
-        steps: 0,
-        pairs: 0,
-        used: 0,
-    }
+    unchanged(engine, end_answer(machine_step::endings::ending_of(status)))
 }
 
 // A run, the record by value. Before any instruction it is refused with 7 (bad layout), 5 (oversize), or per word with 3, 2, 4 or 8 and its place; then nothing changes.
@@ -131,13 +142,28 @@ pub fn run(
     let answer = crate::refusal::run_refusal(layout, words, memory.len());
     let refused = answer.number;
     if refused == Refusal::TAKEN {
-        return run_on(layout, words, engine, memory, budget, readings, log);
+        return run_on(layout, words, words.len(), engine, memory, budget, readings, log);
     }
-    EngineOutcome {
-        engine,
-        answer,
-        steps: 0,
-        pairs: 0,
-        used: 0,
+    unchanged(engine, answer)
+}
+
+// The second entry, for words that were judged before: it is refused with 7 (bad layout) and 5 (oversize), and each word is judged as it is reached. One
+// that is no instruction faults with 22, so that any words may be given.
+pub fn resume(
+    layout: Layout,
+    words: &[u64],
+    engine: Engine,
+    memory: &mut [u32],
+    budget: u32,
+    readings: &[u32],
+    log: &mut [u32],
+) -> EngineOutcome
+    ensures { λ r. ⌜ runResultOf r (now (memory .exit)) (now (log .exit)) ≡ continueOf layout (now (words .entry)) engine (now (memory .entry)) budget (now (readings .entry)) (now (log .entry)) ⌝ }
+{
+    let answer = crate::refusal::continue_refusal(layout, words, memory.len());
+    let refused = answer.number;
+    if refused == Refusal::TAKEN {
+        return run_on(layout, words, 0, engine, memory, budget, readings, log);
     }
+    unchanged(engine, answer)
 }

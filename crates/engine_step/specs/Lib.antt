@@ -1,1 +1,1 @@
-pub mod fields
+pub mod fetch

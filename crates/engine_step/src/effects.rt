@@ -1,5 +1,6 @@
 // Decides what the instruction at the index would do; changes nothing.
 use crate::events::checked_event;
+use crate::fetch::fetch;
 use crate::fields::a_value;
 use crate::fields::address;
 use crate::fields::b_value;
@@ -16,13 +17,13 @@ use words::alu;
 use words::field;
 ghost use mathlib.Core.Path.{_≡_};
 ghost use Prim.Native.Nat.{_+_};
-ghost use Rattle.spec.specs.Words.{instrOf, bundlesFor};
+ghost use Rattle.spec.specs.Words.{bundlesFor};
 ghost use Rattle.spec.specs.Machines.{viewOf};
-ghost use Rattle.engine_step.specs.fields.GuestFields.{GuestFields};
-ghost use Rattle.engine_spec.specs.Engines.{ValidatedWords, instrEffect, instrEffectAt};
+ghost use Rattle.engine_step.specs.fetch.Fetched.{FetchedFields, fetchedEffect};
+ghost use Rattle.engine_spec.specs.Continues.{JudgedWords, reachedEffect};
 
-// What the word of an instruction would do, n of them in all. Single numbers, no range: so the match becomes one jump; and each arm takes
-// only the fields that it uses, so that none is taken before the jump.
+// What a fetched word would do, n of them in all. Every number of four bits has its arm, so the match becomes one jump without a test;
+// and each arm takes only the fields that it uses, so that none is taken before the jump.
 fn instruction_effect(
     layout: Layout,
     w: u64,
@@ -34,10 +35,10 @@ fn instruction_effect(
     free: usize,
     left: usize,
 ) -> Effect
-    requires { ⌜ GuestFields w × (top + 1 ≡ bundlesFor n) ⌝ }
-    ensures { λ r. ⌜ r ≡ instrEffect layout (bundlesFor n) (instrOf w) (viewOf (now (regs .entry)) at (now (memory .entry)) (layout .cell) (layout .table) (layout .base) (layout .landings) free left) ⌝ }
+    requires { ⌜ FetchedFields w × (top + 1 ≡ bundlesFor n) ⌝ }
+    ensures { λ r. ⌜ r ≡ fetchedEffect layout (bundlesFor n) w (viewOf (now (regs .entry)) at (now (memory .entry)) (layout .cell) (layout .table) (layout .base) (layout .landings) free left) ⌝ }
 {
-    match w % field::BYTE {
+    match w % field::FOUR_BITS {
         Instr::KIND_HALT => Effect::End(Status::Ended),
         Instr::KIND_SET => Effect::SetReg(d_field(w), v_field(w)),
         Instr::KIND_MOVE => Effect::SetReg(d_field(w), a_value(w, regs)),
@@ -72,14 +73,16 @@ fn instruction_effect(
             layout.landings,
             memory,
         ),
-        _ => checked_event(layout, v_field(w), regs, at, memory, free, left),
+        Instr::KIND_EVENT => checked_event(layout, v_field(w), regs, at, memory, free, left),
+        _ => Effect::End(Status::Faulted),
     }
 }
 
-// What the instruction at the index would do: those past the words are HALT, and past N there is none.
+// What the word at the index would do, where the first `judged` words are known to be instructions and each other is judged as it is reached.
 pub fn next_effect(
     layout: Layout,
     words: &[u64],
+    judged: usize,
     top: u32,
     regs: &[u32; Engine::REGISTERS],
     at: u32,
@@ -87,25 +90,9 @@ pub fn next_effect(
     free: usize,
     left: usize,
 ) -> Effect
-    requires { ⌜ ValidatedWords (now words) top ⌝ }
-    ensures { λ r. ⌜ r ≡ instrEffectAt layout (now (words .entry)) (viewOf (now (regs .entry)) at (now (memory .entry)) (layout .cell) (layout .table) (layout .base) (layout .landings) free left) ⌝ }
+    requires { ⌜ JudgedWords (now words) judged top ⌝ }
+    ensures { λ r. ⌜ r ≡ reachedEffect layout (now (words .entry)) (viewOf (now (regs .entry)) at (now (memory .entry)) (layout .cell) (layout .table) (layout .base) (layout .landings) free left) ⌝ }
 {
-    let i = at as usize;
-    if i < words.len() {
-        return instruction_effect(
-            layout,
-            words[i],
-            words.len(),
-            top,
-            regs,
-            at,
-            memory,
-            free,
-            left,
-        );
-    }
-    if at <= top {
-        return Effect::End(Status::Ended);
-    }
-    Effect::End(Status::Faulted)
+    let w = fetch(words, judged, top, at);
+    instruction_effect(layout, w, words.len(), top, regs, at, memory, free, left)
 }

@@ -6,7 +6,7 @@ ghost use mathlib.Core.Path.{_≡_};
 ghost use lib.ListN.{getD};
 ghost use Rattle.spec.specs.Layouts.{maskOf};
 ghost use Rattle.spec.specs.Words.{dOf, aOf, bOf, vOf};
-ghost use Rattle.engine_step.specs.fields.GuestFields.{GuestFields};
+ghost use Rattle.engine_step.specs.fetch.Fetched.{FetchedFields};
 
 pub fn d_field(w: u64) -> usize
     ensures { λ r. ⌜ r ≡ dOf w ⌝ }
@@ -21,14 +21,14 @@ pub fn v_field(w: u64) -> u32
 }
 
 pub fn a_value(w: u64, regs: &[u32; Engine::REGISTERS]) -> u32
-    requires { ⌜ GuestFields w ⌝ }
+    requires { ⌜ FetchedFields w ⌝ }
     ensures { λ r. ⌜ r ≡ getD (now (regs .entry)) (aOf w) 0 ⌝ }
 {
     regs[((w >> field::AT_A) % field::FOUR_BITS) as usize]
 }
 
 pub fn b_value(w: u64, regs: &[u32; Engine::REGISTERS]) -> u32
-    requires { ⌜ GuestFields w ⌝ }
+    requires { ⌜ FetchedFields w ⌝ }
     ensures { λ r. ⌜ r ≡ getD (now (regs .entry)) (bOf w) 0 ⌝ }
 {
     regs[((w >> field::AT_B) % field::FOUR_BITS) as usize]
@@ -36,7 +36,7 @@ pub fn b_value(w: u64, regs: &[u32; Engine::REGISTERS]) -> u32
 
 // The cell of a LOAD or a STORE.
 pub fn address(w: u64, low: u32, high: u32, regs: &[u32; Engine::REGISTERS]) -> usize
-    requires { ⌜ GuestFields w ⌝ }
+    requires { ⌜ FetchedFields w ⌝ }
     ensures { λ r. ⌜ r ≡ maskOf low high (getD (now (regs .entry)) (aOf w) 0) ⌝ }
 {
     memory::mask(a_value(w, regs), low, high) as usize

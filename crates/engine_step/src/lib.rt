@@ -2,6 +2,7 @@
 pub mod apply;
 pub mod effects;
 pub mod events;
+pub mod fetch;
 pub mod fields;
 pub mod jumps;
 pub mod record;

@@ -2,14 +2,16 @@
 use Prim.Native.Nat.{ℕ}
 use mathlib.Core.Path.{_≡_, refl, sym, _∙_, ap, subst}
 use mathlib.Core.Bool.{Bool, true, false}
-use mathlib.Core.List.{List, [], map}
+use mathlib.Core.List.{List, [], map, _∷_}
 use borrow.Author.Tests.{eqb-true}
 use lib.Dec.{eqb}
 use lib.ListN.{length}
 use Rattle.types.specs.declared.Layout.{Layout}
-use Rattle.types.specs.Names.{guestRegisters}
+use Rattle.types.specs.Names.{guestRegisters, numberOf, answer}
 use Rattle.spec.specs.Layouts.{rightLayout}
+use Rattle.types.specs.declared.Refusal.the-variants.{Taken}
 use Rattle.spec.specs.Policies.{Policy}
+use Rattle.spec.specs.Words.{refusalAt, firstRefused}
 use Rattle.spec.specs.Machines.{installAnswer, installMemory}
 use Rattle.spec.specs.Runs.{RunInput, LowEqual, eachRun, Session as MachineSession}
 use Rattle.spec.specs.Claims.{SameInputs, SameObservations}
@@ -17,7 +19,7 @@ use Rattle.spec.proofs.Bools.{both, cond-ind}
 use Rattle.spec.proofs.Conditions.{fits-of, installs}
 use Rattle.sandbox_spec.proofs.Loading.{loads}
 use Rattle.capi_spec.specs.Numbers.{layoutFrom}
-use Rattle.capi_spec.specs.Hosts.{installFor, loadFor}
+use Rattle.capi_spec.specs.Hosts.{installFor, loadFor, HostResult}
 use Rattle.capi_spec.specs.Claims.{callsOf, SameCalls}
 use Rattle.capi_spec.proofs.Numbers.{comes-back, called}
 use Rattle.spec.proofs.Counts.{apply-regs}
@@ -26,9 +28,11 @@ use Rattle.engine_spec.specs.declared.EngineOutcome.{EngineOutcome}
 use Rattle.engine_spec.specs.Engines.{RunResult, engineOf, initialEngine, applyEffect, withMemory, withState, startOf, refusalOf, refusalBy, runOf}
 use Rattle.engine_spec.specs.Claims.{Session, sessionOf, initialSession, runOn, afterTaken, afterRun, runAs, MemoriesPreserved, HostPremise}
 use Rattle.engine_spec.proofs.Runs.{engineLoop, taken-size}
+use Rattle.engine_spec.specs.Continues.{Entry, judgesAll, judgesReached, Call, inputsOf}
 use Rattle.engine_spec.proofs.Isolation.{engine-isolation}
-use Rattle.capi_spec.specs.engine.Records.{engineTo, answerTo, resultTo, engineFor}
-use Rattle.capi_spec.specs.engine.Claims.{EngineRoundTrips, engineCall, InstalledMemory, installed, loaded, HostEngineIsolation, pairsPlace, HostEngineNoninterference}
+use Rattle.capi_spec.specs.engine.Records.{engineTo, answerTo, resultTo, engineFor, engineFrom, continueFor}
+use Rattle.capi_spec.specs.engine.Claims.{EngineRoundTrips, engineCall, InstalledMemory, installed, loaded, HostEngineIsolation, pairsPlace, HostEngineNoninterference, zeros, entryFor, entryCall, HostEntriesMix}
+use Rattle.engine_spec.proofs.Continues.{entries-agree, words-taken, preserved-as-runs}
 
 pub engine-round-trips : EngineRoundTrips
 engine-round-trips = comes-back guestRegisters engineOf (λ m. m .regs) (λ m. m .at) (λ m. m .status) (λ _. refl) (λ _ _ _. refl)
@@ -118,3 +122,23 @@ host-engine-noninterference lay pol pol′ mem mem′ ws left left′ gs gs′ l
     rw (a .calls, b .calls)
     (same-calls (afterRun l ws) (runAs l ws) (λ r. resultTo (r .result)) pairsPlace l (same-run l ws takes) (initialSession l pol mem) (initialSession l pol′ mem′) gs gs′ given
     (a .isolated .noninterference pol′ mem′ gs′ (b .premise) equal given))
+
+-- ---- calls of both functions are calls of the first
+module _ (lay ws : List ℕ) (e : firstRefused (refusalAt (length ws)) ws 0 (answer (numberOf Taken) 0) .number ≡ 0) where
+  same-entry : (n : Entry) (xs mem : List ℕ) (budget : ℕ) (rd log : List ℕ) → entryFor n lay ws xs mem budget rd log ≡ engineFor lay ws xs mem budget rd log
+  unfolding entryFor engineFor continueFor
+  same-entry judgesAll xs mem budget rd log = refl
+  same-entry judgesReached xs mem budget rd log = rw (entries-agree (layoutFrom lay) ws (engineFrom xs) mem budget rd log e)
+
+  same-entries : (ys : List ℕ) (xs : List Call) → callsOf (entryCall lay ws) ys xs ≡ callsOf (engineCall lay ws) ys (inputsOf xs)
+  unfolding callsOf
+  same-entries ys [] = refl
+  same-entries ys (x ∷ xs) =
+      let g = x .input in
+      rw (same-entry (x .entry) ys (g .memory) (g .budget) (g .readings) (g .log)) (ap (λ (rs : List HostResult). engineCall lay ws ys g ∷ rs) (same-entries (engineCall lay ws ys g .after) xs))
+
+pub host-entries-mix : HostEntriesMix
+host-entries-mix lay pol mem ws left xs laid take lends =
+    let e = words-taken (layoutFrom lay) ws left take in
+    let r = host-engine-isolation lay pol mem ws left (inputsOf xs) laid take (preserved-as-runs (layoutFrom lay) ws e _ xs lends) in
+    record { calls = same-entries lay ws e zeros xs ∙ r .calls; premise = r .premise; isolated = r .isolated }

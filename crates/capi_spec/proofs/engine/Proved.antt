@@ -1,7 +1,7 @@
 -- Every claim of this module is proved.
 use Rattle.capi_spec.specs.engine.Proved.{Proved}
-use Rattle.capi_spec.proofs.engine.Calls.{engine-round-trips, host-engine-isolation, host-engine-noninterference}
+use Rattle.capi_spec.proofs.engine.Calls.{engine-round-trips, host-engine-isolation, host-engine-noninterference, host-entries-mix}
 use Rattle.capi_spec.proofs.engine.Samples.{sample-holds}
 
 pub proved : Proved
-proved = record { engineRoundTrips = engine-round-trips; hostEngineIsolation = host-engine-isolation; hostEngineNoninterference = host-engine-noninterference; sampleHolds = sample-holds }
+proved = record { engineRoundTrips = engine-round-trips; hostEngineIsolation = host-engine-isolation; hostEngineNoninterference = host-engine-noninterference; hostEntriesMix = host-entries-mix; sampleHolds = sample-holds }

@@ -1,4 +1,4 @@
--- Claims about calls of `hemdroas_engine_run`: the record survives the round trip through numbers, and calls are isolated.
+-- Claims about calls of `hemdroas_engine_run` and `hemdroas_engine_continue`: the record survives the round trip through numbers, and calls are isolated.
 use Prim.Native.Nat.{ℕ, _+_}
 use mathlib.Core.Path.{_≡_}
 use mathlib.Core.List.{List, [], map}
@@ -12,7 +12,8 @@ use Rattle.capi_spec.specs.Hosts.{installFor, loadFor, HostResult}
 use Rattle.capi_spec.specs.Claims.{RoundTrips, callsOf, number, SameCalls}
 use Rattle.engine_spec.specs.Engines.{initialEngine, refusalOf}
 use Rattle.engine_spec.specs.Claims.{sessionOf, MemoriesPreserved, HostPremise, allRuns, Isolated}
-use Rattle.capi_spec.specs.engine.Records.{engineFrom, engineTo, resultTo, engineFor}
+use Rattle.capi_spec.specs.engine.Records.{engineFrom, engineTo, resultTo, engineFor, continueFor}
+use Rattle.engine_spec.specs.Continues.{Entry, judgesAll, judgesReached, Call, EntriesPreserved, inputsOf}
 
 -- the engine's record, of fifteen registers, in numbers and back
 abbrev pub EngineRoundTrips : Type 0
@@ -62,3 +63,25 @@ HostEngineNoninterference =
     CallsPreserved lay ws left gs → CallsPreserved lay ws left′ gs′ →
     LowEqual (layoutFrom lay) left left′ → Pairwise SameInputs gs gs′ →
     Pairwise (SameCalls pairsPlace (layoutFrom lay)) (callsOf (engineCall lay ws) zeros gs) (callsOf (engineCall lay ws) zeros gs′)
+
+-- ---- lists of calls of both functions
+
+-- a call of hemdroas_engine_run or hemdroas_engine_continue
+unfoldable pub entryFor : Entry → List ℕ → List ℕ → List ℕ → List ℕ → ℕ → List ℕ → List ℕ → HostResult
+entryFor judgesAll lay ws xs mem budget rd log = engineFor lay ws xs mem budget rd log
+entryFor judgesReached lay ws xs mem budget rd log = continueFor lay ws xs mem budget rd log
+
+abbrev pub entryCall : List ℕ → List ℕ → List ℕ → Call → HostResult
+entryCall lay ws xs x = let g = x .input in entryFor (x .entry) lay ws xs (g .memory) (g .budget) (g .readings) (g .log)
+
+-- the same of a list that mixes both, in any order: whichever function each call is of, the calls are the runs of which `EngineIsolation` speaks
+pub record MixedCallsIsolated (lay : List ℕ) (pol : Policy) (ws mem : List ℕ) (xs : List Call) : Type 0 where
+  pub calls : callsOf (entryCall lay ws) zeros xs ≡ map (λ r. resultTo (r .result)) (allRuns (layoutFrom lay) pol ws mem (inputsOf xs))
+  pub premise : HostPremise (layoutFrom lay) pol ws mem (inputsOf xs)
+  pub isolated : Isolated (layoutFrom lay) pol ws mem (inputsOf xs)
+
+abbrev pub HostEntriesMix : Type 0
+HostEntriesMix =
+    (lay : List ℕ) (pol : Policy) (mem ws left : List ℕ) (xs : List Call) →
+    InstalledMemory lay pol mem left → refusalOf (layoutFrom lay) ws left .number ≡ 0 →
+    EntriesPreserved (layoutFrom lay) ws (sessionOf initialEngine left [] [] 0) xs → MixedCallsIsolated lay pol ws mem xs

@@ -1,9 +1,10 @@
 -- Every claim of this module, a field each: its one term is `proved`, in proofs/engine/Proved.antt.
-use Rattle.capi_spec.specs.engine.Claims.{EngineRoundTrips, HostEngineIsolation, HostEngineNoninterference}
+use Rattle.capi_spec.specs.engine.Claims.{EngineRoundTrips, HostEngineIsolation, HostEngineNoninterference, HostEntriesMix}
 use Rattle.capi_spec.specs.engine.Sample.{SampleHolds}
 
 pub record Proved : Type 0 where
   pub engineRoundTrips : EngineRoundTrips
   pub hostEngineIsolation : HostEngineIsolation
   pub hostEngineNoninterference : HostEngineNoninterference
+  pub hostEntriesMix : HostEntriesMix
   pub sampleHolds : SampleHolds

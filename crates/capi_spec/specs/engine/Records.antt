@@ -7,6 +7,7 @@ use Rattle.capi_spec.specs.Hosts.{HostResult, hostResult, hostAfter}
 use Rattle.engine_spec.specs.declared.Engine.{Engine}
 use Rattle.engine_spec.specs.declared.EngineOutcome.{EngineOutcome}
 use Rattle.engine_spec.specs.Engines.{engineOf, RunResult, runOf}
+use Rattle.engine_spec.specs.Continues.{continueOf}
 
 -- a record as its registers, index and status
 abbrev pub engineFrom : List ℕ → Engine
@@ -26,3 +27,7 @@ resultTo r = hostResult (answerTo (r .outcome)) (engineTo (r .outcome .engine)) 
 -- hemdroas_engine_run: the answer, the record after it, memory, the log
 unfoldable pub engineFor : List ℕ → List ℕ → List ℕ → List ℕ → ℕ → List ℕ → List ℕ → HostResult
 engineFor lay ws xs mem budget rd log = hostAfter guestRegisters xs (resultTo (runOf (layoutFrom lay) ws (engineFrom xs) mem budget rd log))
+
+-- hemdroas_engine_continue: the same by the second entry
+unfoldable pub continueFor : List ℕ → List ℕ → List ℕ → List ℕ → ℕ → List ℕ → List ℕ → HostResult
+continueFor lay ws xs mem budget rd log = hostAfter guestRegisters xs (resultTo (continueOf (layoutFrom lay) ws (engineFrom xs) mem budget rd log))
