@@ -1,5 +1,8 @@
 // Decides what the instruction at the index would do; changes nothing.
 use crate::events::checked_event;
+use crate::fetch::NO_INSTRUCTION;
+use crate::fetch::UNUSED_KIND;
+use crate::fetch::UNUSED_KIND_TOO;
 use crate::fetch::fetch;
 use crate::fields::a_value;
 use crate::fields::address;
@@ -74,6 +77,9 @@ fn instruction_effect(
             memory,
         ),
         Instr::KIND_EVENT => checked_event(layout, v_field(w), regs, at, memory, free, left),
+        UNUSED_KIND => Effect::End(Status::Faulted),
+        UNUSED_KIND_TOO => Effect::End(Status::Faulted),
+        NO_INSTRUCTION => Effect::End(Status::Faulted),
         _ => Effect::End(Status::Faulted),
     }
 }

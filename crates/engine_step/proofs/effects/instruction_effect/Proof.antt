@@ -1,7 +1,8 @@
 use Rattle.words.proofs.Laws.{past}
 use Rattle.engine_step.proofs.effects.Laws.{arm, of-no-kind}
 use Rattle.engine_spec.specs.Engines.{instrEffect}
-use Rattle.types.specs.Names.{guest, topKind}
+use Rattle.engine_step.specs.fetch.Fetched.{noInstruction}
+use Rattle.types.specs.Names.{guest}
 use Rattle.spec.specs.Commands.{plainOf}
 use native.Mathlib.Omega.{arith}
 use mathlib.Core.Path.{refl}
@@ -69,4 +70,7 @@ instruction-effect-spec =
     (λ c. arm _ _ _ (guest .goif) _ _ (c .before .before .before .before .before .before .pre .0) (c .before .before .before .before .match .keys11) (omega arith) (rw (c .branch .ensures, c .before .v-field3 .ensures, c .before .before .b-value6 .ensures, c .before .before .before .a-value7 .ensures)))
     (λ c. arm _ _ _ (guest .gox) _ _ (c .before .before .before .before .before .before .before .pre .0) (c .before .before .before .before .before .match .keys12) (omega arith) (rw (c .jump .ensures, c .before .before .d-field9 .ensures, c .before .before .before .b-value7 .ensures, c .before .before .before .before .a-value8 .ensures)))
     (λ c. arm _ _ _ (guest .event) _ _ (c .before .before .before .before .pre .0) (c .before .before .match .keys13) (omega arith) (rw (c .checked-event .ensures, c .before .v-field4 .ensures)))
-    (λ c. of-no-kind _ _ _ _ (c .before .before .pre .0) (past Unit _ 0 (topKind + 1) zero-le (c .match .rest))))
+    (λ c. of-no-kind _ _ _ _ (c .before .before .pre .0) (omega (arith, c .match .keys14)))
+    (λ c. of-no-kind _ _ _ _ (c .before .before .pre .0) (omega (arith, c .match .keys15)))
+    (λ c. of-no-kind _ _ _ _ (c .before .before .pre .0) (omega (arith, c .match .keys16)))
+    (λ c. of-no-kind _ _ _ _ (c .before .before .pre .0) (omega (arith, past Unit _ 0 (noInstruction + 1) zero-le (c .match .rest)))))
