@@ -351,6 +351,19 @@ void hemdroas_engine_run(const struct hemdroas_layout *layout, const uint64_t *w
                          const uint32_t *readings, uint64_t r, uint32_t *log, uint64_t g,
                          struct hemdroas_engine_answer *answer);
 
+/* Goes on with words that hemdroas_engine_run took before, without judging all
+ * of them again: a slice costs what it does, however long the routine. Where
+ * hemdroas_engine_run would take the words, both answer and leave the same, so
+ * the two may be mixed freely.
+ *
+ * Each word is judged as it is reached, and one that is no instruction faults
+ * (22), so other words are safe too. Refused as bad layout (7), then as oversize
+ * (5). */
+void hemdroas_engine_continue(const struct hemdroas_layout *layout, const uint64_t *words, uint64_t n,
+                              struct hemdroas_engine *engine, uint32_t *memory, uint64_t cells, uint32_t budget,
+                              const uint32_t *readings, uint64_t r, uint32_t *log, uint64_t g,
+                              struct hemdroas_engine_answer *answer);
+
 /* ---- making policies */
 
 /* Makes the policy of n / 2 pairs of events, pairs[2 * i] before

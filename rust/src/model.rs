@@ -33,7 +33,7 @@ pub use bytes::{read, write};
 pub use check::check;
 pub use commands::Command;
 pub use determinise::determinise;
-pub use engine::engine;
+pub use engine::{engine, engine_continue};
 pub use forward::{check_forward, forward, most_steps};
 pub use guest::Guest;
 pub use install::{install, word_right};

@@ -18,7 +18,7 @@ mod routines;
 mod run;
 
 pub use determinise::determinise;
-pub use engine::{engine, engine_record};
+pub use engine::{engine, engine_continue, engine_continue_record, engine_record};
 pub use forward::{check_forward, forward};
 pub use install::{install, install_record, load, load_record, word_right};
 pub use merge::merge;

@@ -128,7 +128,7 @@ pub fn judge(word: u64) -> Result<Instr, Refusal> {
 }
 
 /// 'Per word 3, 2, 4, 8': '8: GOIF v above n.'
-fn judge_in_routine(word: u64, n: usize) -> Result<Instr, Refusal> {
+pub fn judge_in_routine(word: u64, n: usize) -> Result<Instr, Refusal> {
     let instr = judge(word)?;
     match instr {
         Instr::GoIf { v, .. } if v as usize > n => Err(Refusal::BadLanding),

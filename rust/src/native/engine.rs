@@ -8,6 +8,9 @@ extern "C" {
     fn hemdroas_engine_run(layout: *const LayoutArray, words: *const u64, n: u64, engine: *mut [u32; EngineRecord::LENGTH],
                            memory: *mut u32, cells: u64, budget: u32, readings: *const u32, r: u64,
                            log: *mut u32, g: u64, answer: *mut [u32; 5]);
+    fn hemdroas_engine_continue(layout: *const LayoutArray, words: *const u64, n: u64, engine: *mut [u32; EngineRecord::LENGTH],
+                                memory: *mut u32, cells: u64, budget: u32, readings: *const u32, r: u64,
+                                log: *mut u32, g: u64, answer: *mut [u32; 5]);
 }
 
 fn engine_answer([number, place, instructions, pairs, readings]: [u32; 5]) -> EngineAnswer {
@@ -24,6 +27,49 @@ fn engine_answer([number, place, instructions, pairs, readings]: [u32; 5]) -> En
         pairs,
         readings,
     }
+}
+
+/// Which function of the library a call takes.
+#[derive(Clone, Copy)]
+enum Entry {
+    /// `hemdroas_engine_run`
+    Run,
+    /// `hemdroas_engine_continue`
+    Continue,
+}
+
+/// What a call is lent beside layout and words.
+struct Lent<'a> {
+    record: &'a mut EngineRecord,
+    memory: &'a mut [u32],
+    readings: &'a [u32],
+    log: &'a mut [u32],
+}
+
+fn call(entry: Entry, layout: &Layout, words: &[u64], budget: u32, lent: Lent) -> EngineAnswer {
+    let function = match entry {
+        Entry::Run => hemdroas_engine_run,
+        Entry::Continue => hemdroas_engine_continue,
+    };
+    let mut five = [0; 5];
+    // SAFETY: every slice is live and has the length given; record, memory, log and `five` are borrowed for this call alone.
+    unsafe {
+        function(
+            &layout.to_array(),
+            words.as_ptr(),
+            length(words),
+            &mut lent.record.0,
+            lent.memory.as_mut_ptr(),
+            length(lent.memory),
+            budget,
+            lent.readings.as_ptr(),
+            length(lent.readings),
+            lent.log.as_mut_ptr(),
+            length(lent.log),
+            &mut five,
+        );
+    }
+    engine_answer(five)
 }
 
 /// Runs a routine's words as they are written, until they end, pause or have
@@ -54,23 +100,48 @@ pub fn engine_record(
     readings: &[u32],
     log: &mut [u32],
 ) -> EngineAnswer {
-    let mut five = [0; 5];
-    // SAFETY: every slice is live and has the length given; record, memory, log and `five` are borrowed for this call alone.
-    unsafe {
-        hemdroas_engine_run(
-            &layout.to_array(),
-            words.as_ptr(),
-            length(words),
-            &mut record.0,
-            memory.as_mut_ptr(),
-            length(memory),
-            budget,
-            readings.as_ptr(),
-            length(readings),
-            log.as_mut_ptr(),
-            length(log),
-            &mut five,
-        );
-    }
-    engine_answer(five)
+    let lent = Lent {
+        record,
+        memory,
+        readings,
+        log,
+    };
+    call(Entry::Run, layout, words, budget, lent)
+}
+
+/// Goes on with words that [`engine`] took before, without judging all of them
+/// again: each is judged as it is reached, and one that is no instruction
+/// faults.
+pub fn engine_continue(
+    layout: &Layout,
+    words: &[u64],
+    engine: &mut Engine,
+    memory: &mut [u32],
+    budget: u32,
+    readings: &[u32],
+    log: &mut [u32],
+) -> EngineAnswer {
+    let mut record = engine.to_record();
+    let answer = engine_continue_record(layout, words, &mut record, memory, budget, readings, log);
+    *engine = record.to_engine();
+    answer
+}
+
+/// [`engine_continue`] on a record of the C interface, as [`engine_record`].
+pub fn engine_continue_record(
+    layout: &Layout,
+    words: &[u64],
+    record: &mut EngineRecord,
+    memory: &mut [u32],
+    budget: u32,
+    readings: &[u32],
+    log: &mut [u32],
+) -> EngineAnswer {
+    let lent = Lent {
+        record,
+        memory,
+        readings,
+        log,
+    };
+    call(Entry::Continue, layout, words, budget, lent)
 }

@@ -10,10 +10,15 @@ use crate::common::{cases, Rng, Tally};
 use crate::run::{some_budget, some_log, some_readings};
 use hemdroas::model::{self, bundles, Instr};
 use hemdroas::names::{EVENTS, GUEST_REGISTERS, NO_ARROW, ORDERS};
-use hemdroas::{native, Answer, Ending, Engine, EngineAnswer, EngineRecord, Layout, Status};
+use hemdroas::{
+    native, Answer, Ending, Engine, EngineAnswer, EngineRecord, Layout, Refusal, Status,
+};
 
 /// Refusals 2, 3, 4, 5, 7 and 8, and every ending.
 const NUMBERS: [u32; 13] = [2, 3, 4, 5, 7, 8, 20, 21, 22, 23, 24, 25, 26];
+
+/// Of the second entry refusals 5 and 7 alone, and every ending.
+const CONTINUE_NUMBERS: [u32; 9] = [5, 7, 20, 21, 22, 23, 24, 25, 26];
 
 /// With a status above all, if it is not refused: it counts as faulted.
 const ABOVE: (&str, &[u32]) = ("engine with a status above 4", &[22]);
@@ -24,6 +29,57 @@ pub struct Lent {
     pub record: EngineRecord,
     pub memory: Vec<u32>,
     pub log: Vec<u32>,
+}
+
+/// The second entry beside its model on what a run was lent; and, where judging
+/// takes the words, beside what that run answered and left.
+fn continues(
+    tally: &mut Tally,
+    layout: &Layout,
+    words: &[u64],
+    lent: &Lent,
+    (budget, readings): (u32, &[u32]),
+    ran: (EngineAnswer, &Lent),
+) {
+    let mut left = lent.clone();
+    let (memory, log) = (&mut left.memory, &mut left.log);
+    let answer = left
+        .record
+        .run(|engine| model::engine_continue(layout, words, engine, memory, budget, readings, log));
+
+    let mut theirs = lent.clone();
+    let Lent {
+        record,
+        memory,
+        log,
+    } = &mut theirs;
+    let given =
+        native::engine_continue_record(layout, words, record, memory, budget, readings, log);
+    let input = || format!("{words:x?} from {lent:?} under {layout:?}, {budget}, {readings:?}");
+    assert_eq!(given, answer, "going on with {}", input());
+    assert_eq!(theirs, left, "what was lent to {}", input());
+
+    match ran.0.came {
+        Err((
+            Refusal::UnknownKind | Refusal::Foreign | Refusal::OffRange | Refusal::BadLanding,
+            _,
+        )) => {
+            let faulted = answer.came == Ok(Ending::Fault) && answer.instructions > 0;
+            let what = if faulted {
+                "22 for a word that is no instruction"
+            } else {
+                "a word that is no instruction, not reached"
+            };
+            tally.note(what, 1);
+        }
+        _ => assert_eq!(
+            (&answer, &left),
+            (&ran.0, ran.1),
+            "both entries, {}",
+            input()
+        ),
+    }
+    tally.count("continue", answer.number());
 }
 
 pub fn engine(
@@ -63,6 +119,14 @@ pub fn engine(
     tally.add("instructions", u64::from(answer.instructions));
     tally.add("pairs", u64::from(answer.pairs));
     tally.add("readings", u64::from(answer.readings));
+    continues(
+        tally,
+        layout,
+        words,
+        lent,
+        (budget, readings),
+        (answer, &left),
+    );
     *lent = left;
     answer
 }
@@ -254,7 +318,7 @@ fn running_as_written() {
     each_index(&mut tally, &mut rng);
     each_ceiling(&mut tally, &mut rng);
     routines(&mut tally, &mut rng);
-    tally.conclude(&[("engine", &NUMBERS), ABOVE]);
+    tally.conclude(&[("engine", &NUMBERS), ABOVE, ("continue", &CONTINUE_NUMBERS)]);
 }
 
 /// 'It and the machine, from the same installation, given the same readings in
