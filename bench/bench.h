@@ -35,4 +35,7 @@ static double median(double *x, int n) {
     return x[n / 2];
 }
 
+/* The calls of a round of slices. */
+enum { SLICES = 2000 };
+
 #endif

@@ -1,15 +1,16 @@
 /*
- * ns an instruction of the proved engine, of engine.c and of engine.rs, and of
- * the proved machine on the same routine, one beside the other in one run,
- * medians of interleaved rounds. Every round also compares what they leave.
+ * ns an instruction of the proved engine, of engine.c, and of the proved machine
+ * on the same routine, one beside the other in one run, medians of interleaved
+ * rounds. Every round also compares what they leave. Then ns a call of slices
+ * of one instruction, at two lengths of the routine.
  */
 #include "bench.h"
 
 typedef void Run(const struct hemdroas_layout *, const uint64_t *, uint64_t, struct hemdroas_engine *, uint32_t *, uint64_t, uint32_t,
                  const uint32_t *, uint64_t, uint32_t *, uint64_t, struct hemdroas_engine_answer *);
-Run engine_O2, engine_O3, engine_rust;
-enum { KINDS = 4 };
-static Run *const RUNS[KINDS] = {hemdroas_engine_run, engine_O2, engine_O3, engine_rust};
+Run engine_c;
+enum { KINDS = 2 };
+static Run *const RUNS[KINDS] = {hemdroas_engine_run, engine_c};
 
 enum { WORDS = 16, COMMANDS = 128 };
 
@@ -18,15 +19,14 @@ static size_t length;
 static struct hemdroas_engine record[KINDS];
 static struct hemdroas_engine_answer answer[KINDS];
 static uint32_t memory[KINDS + 1][U], logs[KINDS + 1][LOG], readings[READINGS];
-static double times[KINDS + 1][MOST_ROUNDS], ratios[KINDS][MOST_ROUNDS];
+static double times[KINDS + 1][MOST_ROUNDS], ratios[MOST_ROUNDS];
 
 static void same(const char *name, size_t cells) {
-    for (int i = 1; i < KINDS; i++)
-        if (memcmp(&record[0], &record[i], sizeof record[0]) || memcmp(&answer[0], &answer[i], sizeof answer[0])
-            || memcmp(memory[0], memory[i], sizeof memory[0]) || memcmp(logs[0], logs[i], cells * sizeof logs[0][0])) {
-            printf("%s: the proved engine and engine %d differ\n", name, i);
-            exit(1);
-        }
+    if (memcmp(&record[0], &record[1], sizeof record[0]) || memcmp(&answer[0], &answer[1], sizeof answer[0])
+        || memcmp(memory[0], memory[1], sizeof memory[0]) || memcmp(logs[0], logs[1], cells * sizeof logs[0][0])) {
+        printf("%s: the proved engine and the C engine differ\n", name);
+        exit(1);
+    }
 }
 
 /* All cells 0, but every instruction is a landing: in state 0 every event leads to state 0. */
@@ -65,12 +65,11 @@ static void measure(const char *name, int turn, size_t cells, size_t count, int 
         }
         same(name, cells);
         times[KINDS][q] = machine(name, cells, count);
-        for (int i = 1; i < KINDS; i++) ratios[i][q] = times[0][q] / times[i][q];
+        ratios[q] = times[0][q] / times[1][q];
     }
     double proved = median(times[0], rounds), by_machine = median(times[KINDS], rounds);
-    printf("%-8s %8u instructions, ending %u | ns each: proved %.2f, gcc -O2 %.2f, -O3 %.2f, rustc %.2f | ratio %.2f, %.2f, %.2f | a turn %.1f ns, the machine %.1f\n",
-           name, answer[0].instructions, answer[0].ending, proved, median(times[1], rounds), median(times[2], rounds), median(times[3], rounds),
-           median(ratios[1], rounds), median(ratios[2], rounds), median(ratios[3], rounds), turn * proved, turn * by_machine);
+    printf("%-8s %8u instructions, ending %u | ns each: proved %.2f, C %.2f | ratio %.2f | a turn %.1f ns, the machine %.1f\n",
+           name, answer[0].instructions, answer[0].ending, proved, median(times[1], rounds), median(ratios, rounds), turn * proved, turn * by_machine);
 }
 
 /* r1 counts from 0 to 100,000 by r2 = 1; the turn starts at instruction 3 and ends with the jump at `last`; HALT follows. */
@@ -80,6 +79,28 @@ static void counted(int last) {
     code[0] = word(1, 2, 0, 0, 0, 1), code[1] = word(1, 3, 0, 0, 0, 100000), code[2] = word(1, 6, 0, 0, 0, 3 + 16 * 7);
     code[last - 1] = word(3, 1, 1, 2, 0, 0);
     code[last] = word(10, 0, 1, 3, 2, 3);
+}
+
+/* Calls of one instruction each, of a routine of n words that adds and jumps back: judged at each call, and as they are reached. */
+static double slice(Run *run, uint64_t n, int rounds) {
+    static uint64_t adds[HEMDROAS_MOST_WORDS];
+    for (uint64_t i = 0; i < n; i++) adds[i] = i + 1 < n ? word(3, 1, 1, 2, 0, 0) : word(10, 0, 0, 0, 0, 0);
+    fresh(0);
+    record[0] = (struct hemdroas_engine){0};
+    for (int q = 0; q < rounds; q++) {
+        double t = now();
+        for (int k = 0; k < SLICES; k++) run(&layout, adds, n, &record[0], memory[0], U, 1, readings, 0, logs[0], 0, &answer[0]);
+        times[0][q] = (now() - t) / SLICES;
+        if (answer[0].ending != HEMDROAS_ENDING_SPENT) printf("a slice was not spent\n"), exit(1);
+    }
+    return median(times[0], rounds);
+}
+
+static void slices(int rounds) {
+    static const uint64_t LENGTHS[] = {10, HEMDROAS_MOST_WORDS};
+    for (int i = 0; i < 2; i++)
+        printf("slices   budget 1, %4u words | ns a call: engine_run %.1f, engine_continue %.1f\n", (unsigned)LENGTHS[i],
+               slice(hemdroas_engine_run, LENGTHS[i], rounds < 11 ? rounds : 11), slice(hemdroas_engine_continue, LENGTHS[i], rounds));
 }
 
 int main(int argc, char **argv) {
@@ -101,5 +122,7 @@ int main(int argc, char **argv) {
     counted(4);
     code[4] = word(11, 6, 1, 3, 2, 0);
     measure("gox", 2, 64, 0, rounds);
+
+    slices(rounds);
     return 0;
 }

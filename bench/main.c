@@ -6,10 +6,9 @@
 
 typedef void Run(const struct hemdroas_layout *, const uint64_t *, uint64_t, struct hemdroas_machine *, uint32_t *, uint64_t, uint32_t,
                  const uint32_t *, uint64_t, uint32_t *, uint64_t, struct hemdroas_run_answer *);
-Run run_O2, run_O3, run_bundles;
-enum { KINDS = 4 };
-static Run *const RUNS[KINDS] = {hemdroas_run, run_O2, run_O3, run_bundles};
-static const char *const NAMES[KINDS] = {"the proved machine", "C, gcc -O2", "C, gcc -O3", "C by bundles"};
+Run run_c;
+enum { KINDS = 2 };
+static Run *const RUNS[KINDS] = {hemdroas_run, run_c};
 
 enum { BUNDLES = 16, TURNS = 100000 };
 /* where a turn's bundles start: 1 in a list that no checker passes, whose first bundle has the SETs; 4 in one that passes */
@@ -20,15 +19,14 @@ static uint64_t code[4 * BUNDLES];
 static struct hemdroas_machine machine[KINDS];
 static struct hemdroas_run_answer answer[KINDS];
 static uint32_t memory[KINDS][U], records[KINDS][LOG], readings[READINGS];
-static double times[KINDS][MOST_ROUNDS], ratios[KINDS][MOST_ROUNDS];
+static double times[KINDS][MOST_ROUNDS], ratios[MOST_ROUNDS];
 
 static void same(const char *name, size_t cells) {
-    for (int i = 1; i < KINDS; i++)
-        if (memcmp(&machine[0], &machine[i], sizeof machine[0]) || memcmp(&answer[0], &answer[i], sizeof answer[0])
-            || memcmp(memory[0], memory[i], sizeof memory[0]) || memcmp(records[0], records[i], cells * sizeof records[0][0])) {
-            printf("%s: %s and %s differ\n", name, NAMES[0], NAMES[i]);
-            exit(1);
-        }
+    if (memcmp(&machine[0], &machine[1], sizeof machine[0]) || memcmp(&answer[0], &answer[1], sizeof answer[0])
+        || memcmp(memory[0], memory[1], sizeof memory[0]) || memcmp(records[0], records[1], cells * sizeof records[0][0])) {
+        printf("%s: the proved machine and the C machine differ\n", name);
+        exit(1);
+    }
 }
 
 /* All cells 0, but every instruction is a landing: in state 0 every event leads to state 0. */
@@ -48,11 +46,27 @@ static void measure(const char *name, size_t cells, size_t count, int rounds) {
             times[j][q] = (now() - t) / (double)answer[j].steps;
         }
         same(name, cells);
-        for (int i = 1; i < KINDS; i++) ratios[i][q] = times[0][q] / times[i][q];
+        ratios[q] = times[0][q] / times[1][q];
     }
-    printf("%-8s %8u steps, ending %u | ns/step: proved %.2f, gcc -O2 %.2f, gcc -O3 %.2f, C by bundles %.2f | ratio to -O2 %.2f, to -O3 %.2f, to C by bundles %.2f\n",
-           name, answer[0].steps, answer[0].ending, median(times[0], rounds), median(times[1], rounds), median(times[2], rounds),
-           median(times[3], rounds), median(ratios[1], rounds), median(ratios[2], rounds), median(ratios[3], rounds));
+    printf("%-8s %8u steps, ending %u | ns a step: proved %.2f, C %.2f | ratio %.2f\n", name, answer[0].steps, answer[0].ending,
+           median(times[0], rounds), median(times[1], rounds), median(ratios, rounds));
+}
+
+/* Runs of four commands each, from where the last one came: ns a call. */
+static void slices(int rounds) {
+    for (int q = 0; q < rounds; q++) {
+        for (int i = 0; i < KINDS; i++) {
+            int j = (i + q) % KINDS;
+            fresh(j);
+            double t = now();
+            for (int k = 0; k < SLICES; k++)
+                RUNS[j](&layout, code, 4 * BUNDLES, &machine[j], memory[j], U, 4, readings, 0, records[j], 0, &answer[j]);
+            times[j][q] = (now() - t) / SLICES;
+        }
+        same("slices", 0);
+        ratios[q] = times[0][q] / times[1][q];
+    }
+    printf("slices   budget 4 | ns a call: proved %.1f, C %.1f | ratio %.2f\n", median(times[0], rounds), median(times[1], rounds), median(ratios, rounds));
 }
 
 /* the SET at i: in the first bundle, or a bundle of its own */
@@ -116,6 +130,7 @@ int main(int argc, char **argv) {
         }
         printf(first > 1 ? "a list that passes:\n" : "a list that does not pass:\n");
         measure("arith", 64, 0, rounds);
+        if (first > 1) slices(rounds);
 
         /* an order and a reading in each turn */
         counted(4);

@@ -1,24 +1,42 @@
 #!/usr/bin/env bash
-# ns a step of the proved machine beside the same rules in C, by single steps and by bundles, then ns an instruction of
-# the proved engine beside the same engine in C and Rust, and the machine; and, where lua5.4 is installed, the machine's
-# turn beside the same in Lua; then the stack that each call takes and how its cost grows: bench/run.sh [ROUNDS]. It fails
-# where they differ. With BUILT=1 the library is taken as it stands.
+# ns a step of the proved machine beside the same rules in C, and ns an instruction of the proved engine beside the same
+# engine in C and the machine; ns a call of slices of both. Then the machine's turn beside the same in Lua 5.4, in LuaJIT
+# without its compiler and in wasm-interp, where they are installed; the stack that each call takes, and how its cost
+# grows: bench/run.sh [ROUNDS]. It fails where they differ. With BUILT=1 the library is taken as it stands.
 set -euo pipefail
 cd "$(dirname "$0")/.."
 [ -n "${BUILT:-}" ] || rt staticlib capi > /dev/null
-mkdir -p target/bench
-for o in O2 O3; do gcc -$o -DRUN=run_$o -c bench/machine.c -o target/bench/machine_$o.o; done
-gcc -O2 -DRUN=run_bundles -DBUNDLES -c bench/machine.c -o target/bench/machine_bundles.o
-gcc -O2 -Wall -Wextra -Iinclude bench/main.c target/bench/machine_O2.o target/bench/machine_O3.o target/bench/machine_bundles.o \
-    target/staticlib/libcapi.a -o target/bench/bench
-for o in O2 O3; do gcc -$o -DRUN=engine_$o -c bench/engine.c -o target/bench/engine_$o.o; done
-rustc -O -C panic=abort bench/engine.rs -o target/bench/libengine_rust.a
-gcc -O2 -Wall -Wextra -Iinclude bench/engines.c target/bench/engine_O2.o target/bench/engine_O3.o target/bench/libengine_rust.a \
-    target/staticlib/libcapi.a -lpthread -ldl -lm -o target/bench/engines
-for m in stack growth; do gcc -O2 -Wall -Wextra -Wl,-z,now -Iinclude bench/$m.c target/staticlib/libcapi.a -o target/bench/$m; done
-target/bench/bench "$@"
-target/bench/engines "$@"
-if command -v lua5.4 > /dev/null; then lua5.4 bench/turn.lua target/bench/bench
-else echo "lua5.4 is not installed: skipped"; fi
-target/bench/stack
-target/bench/growth
+made=target/bench
+mkdir -p $made
+for peer in machine engine; do gcc -O2 -Wall -Wextra -c bench/$peer.c -o $made/$peer.o; done
+gcc -O2 -Wall -Wextra -Iinclude bench/main.c $made/machine.o target/staticlib/libcapi.a -o $made/bench
+gcc -O2 -Wall -Wextra -Iinclude bench/engines.c $made/engine.o target/staticlib/libcapi.a -o $made/engines
+for m in stack growth; do gcc -O2 -Wall -Wextra -Wl,-z,now -Iinclude bench/$m.c target/staticlib/libcapi.a -o $made/$m; done
+
+# the least ns of some rounds of a command
+least() {
+    local i t best=
+    for ((i = 0; i < 9; i++)); do
+        t=$(date +%s%N)
+        "$@" > /dev/null
+        t=$(($(date +%s%N) - t))
+        [ -n "$best" ] && [ "$best" -le "$t" ] || best=$t
+    done
+    echo "$best"
+}
+# the turns in wasm-interp, less its start
+turns_in_wasm() {
+    local module=$made/turn.wasm turns=100000 started
+    wat2wasm bench/turn.wat -o $module
+    started=$(least wasm-interp $module)
+    echo "wasm     $((($(least wasm-interp $module --run-all-exports) - started) / turns)) ns a turn in wasm-interp, the least of 9 rounds"
+}
+installed() { command -v "$1" > /dev/null || { echo "$1 is not installed: skipped" && false; }; }
+
+$made/bench "$@"
+$made/engines "$@"
+if installed lua5.4; then lua5.4 bench/turn.lua $made/bench; fi
+if installed luajit; then luajit -joff bench/turn.lua $made/bench; fi
+if installed wat2wasm && installed wasm-interp; then turns_in_wasm; fi
+$made/stack
+$made/growth
