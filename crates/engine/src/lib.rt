@@ -14,11 +14,12 @@ use types::Status;
 use words::count;
 ghost use mathlib.Core.Path.{_≡_};
 ghost use Prim.Native.Nat.{_+_, _≤_};
+ghost use lib.ListN.{length};
 ghost use Rattle.types.specs.declared.Status.the-variants.{Running};
 ghost use Rattle.types.specs.Names.{mostInstructions};
 ghost use Rattle.spec.specs.Words.{bundlesFor};
 ghost use Rattle.spec.specs.Machines.{stateOf, runResultOf};
-ghost use Rattle.engine_spec.specs.Engines.{engineOf, outcomeOf, endAnswer, startOf, runOf};
+ghost use Rattle.engine_spec.specs.Engines.{engineOf, Holds, outcomeOf, endAnswer, startOf, runOf};
 ghost use Rattle.engine_spec.specs.Continues.{KnownWords, JudgedWords, continueFrom, continueOf};
 
 // ---- what a run answers
@@ -62,12 +63,14 @@ fn run_running(
     readings: &[u32],
     log: &mut [u32],
 ) -> EngineOutcome
-    requires { ⌜ JudgedWords (now words) judged top ⌝ }
+    requires { ⌜ JudgedWords (now words) judged top × Holds layout (length (now memory)) ⌝ }
     ensures { λ r. ⌜ runResultOf r (now (memory .exit)) (now (log .exit)) ≡ continueFrom layout (now (words .entry)) (now (readings .entry)) budget 0 (stateOf (engine .regs) (engine .at) Running (now (memory .entry)) (now (log .entry)) 0 0) ⌝ }
 {
     let mut regs = engine.regs;
+    let ceilings = layout.ceilings;
     let loop_exit = run_loop(
         layout,
+        &ceilings,
         words,
         judged,
         top,
@@ -116,7 +119,7 @@ fn run_on(
     readings: &[u32],
     log: &mut [u32],
 ) -> EngineOutcome
-    requires { ⌜ KnownWords (now words) judged ⌝ }
+    requires { ⌜ KnownWords (now words) judged × Holds layout (length (now memory)) ⌝ }
     ensures { λ r. ⌜ runResultOf r (now (memory .exit)) (now (log .exit)) ≡ continueFrom layout (now (words .entry)) (now (readings .entry)) budget 0 (startOf engine (now (memory .entry)) (now (log .entry))) ⌝ }
 {
     let status = engine.status;

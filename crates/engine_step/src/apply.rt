@@ -1,4 +1,6 @@
 // Applies an effect to the engine's registers, memory and log.
+use crate::known_cells::read_cell;
+use crate::known_cells::set_cell;
 use engine_spec::Engine;
 use machine_step::program_point::Point;
 use machine_step::program_point::ended;
@@ -9,12 +11,13 @@ use machine_step::program_point::probed;
 use machine_step::program_point::read;
 use types::Effect;
 use types::Layout;
+use types::PolicyNumbers;
 ghost use mathlib.Core.Path.{_≡_};
 ghost use Prim.Native.Nat.{_<_, _^_};
 ghost use lib.ListN.{length, getD, set};
 ghost use Rattle.types.specs.Names.{guestRegisters};
 ghost use Rattle.spec.specs.Machines.{withPair};
-ghost use Rattle.engine_spec.specs.Engines.{RegInRange, entryAt, applyEffect};
+ghost use Rattle.engine_spec.specs.Engines.{entryAddress, entryAt, InRange, applyEffect};
 ghost use Rattle.machine_step.specs.program_point.Points.{stateAt};
 
 // A register set.
@@ -27,10 +30,11 @@ fn set_register(regs: &mut [u32; Engine::REGISTERS], i: usize, x: u32)
 
 // The state cell moves with event v.
 fn move_state(layout: Layout, v: u32, memory: &mut [u32])
+    requires { ⌜ (layout .cell < length (now memory)) × (entryAddress layout (now memory) v < length (now memory)) ⌝ }
     ensures { λ _. ⌜ now (memory .exit) ≡ set (now (memory .entry)) (layout .cell) (entryAt layout (now (memory .entry)) v) ⌝ }
 {
-    let x = buffers::cells::peek(memory, crate::events::entry(layout, v, memory));
-    buffers::cells::poke(memory, layout.cell as usize, x);
+    let x = read_cell(memory, crate::events::entry(layout, v, memory));
+    set_cell(memory, layout.cell as usize, x);
 }
 
 // A reading into register 0 and the log.
@@ -42,17 +46,18 @@ fn probe(v: u32, regs: &mut [u32; Engine::REGISTERS], at: Point, readings: &[u32
     set_register(regs, 0, x);
 }
 
-// The state after an effect. Words that were validated set no register that there is not, so none is tested here.
+// The state after an effect. It is in range, so no register and no cell is tested here. The layout's ceilings are lent, so that no event copies them.
 pub fn apply(
     e: Effect,
     layout: Layout,
+    ceilings: &[u32; PolicyNumbers::ORDERS as usize],
     regs: &mut [u32; Engine::REGISTERS],
     at: Point,
     memory: &mut [u32],
     readings: &[u32],
     log: &mut [u32],
 ) -> Point
-    requires { ⌜ RegInRange e × (at .pairs < 2 ^ 62) × (at .used < 2 ^ 63) × (length (now regs) ≡ guestRegisters) ⌝ }
+    requires { ⌜ InRange layout (now memory) e × (layout .cell < length (now memory)) × (now ceilings ≡ layout .ceilings) × (at .pairs < 2 ^ 62) × (at .used < 2 ^ 63) × (length (now regs) ≡ guestRegisters) ⌝ }
     ensures { λ r. ⌜ stateAt (now (regs .exit)) r (now (memory .exit)) (now (log .exit)) ≡ applyEffect layout (now (readings .entry)) e (stateAt (now (regs .entry)) at (now (memory .entry)) (now (log .entry))) ⌝ }
 {
     let next = next_pc(at);
@@ -63,12 +68,12 @@ pub fn apply(
             next
         }
         Effect::SetCell(i, x) => {
-            buffers::cells::poke(memory, i, x);
+            set_cell(memory, i, x);
             next
         }
         Effect::Order(v) => {
             move_state(layout, v, memory);
-            buffers::pairs::order(&layout.ceilings, v, regs[0], log, at.pairs);
+            buffers::pairs::order(ceilings, v, regs[0], log, at.pairs);
             ordered(at)
         }
         Effect::Probe(v) => {

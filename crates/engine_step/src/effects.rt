@@ -11,6 +11,7 @@ use crate::fields::d_field;
 use crate::fields::v_field;
 use crate::jumps::branch;
 use crate::jumps::jump;
+use crate::known_cells::read_cell;
 use engine_spec::Engine;
 use types::Effect;
 use types::Instr;
@@ -19,10 +20,13 @@ use types::Status;
 use words::alu;
 use words::field;
 ghost use mathlib.Core.Path.{_≡_};
-ghost use Prim.Native.Nat.{_+_};
+ghost use Prim.Native.Nat.{_+_, _≤_};
+ghost use lib.ListN.{length};
+ghost use Rattle.types.specs.Names.{mostInstructions};
 ghost use Rattle.spec.specs.Words.{bundlesFor};
 ghost use Rattle.spec.specs.Machines.{viewOf};
 ghost use Rattle.engine_step.specs.fetch.Fetched.{FetchedFields, fetchedEffect};
+ghost use Rattle.engine_spec.specs.Engines.{Holds};
 ghost use Rattle.engine_spec.specs.Continues.{JudgedWords, reachedEffect};
 
 // What a fetched word would do, n of them in all. Every number of four bits has its arm, so the match becomes one jump without a test;
@@ -38,7 +42,7 @@ fn instruction_effect(
     free: usize,
     left: usize,
 ) -> Effect
-    requires { ⌜ FetchedFields w × (top + 1 ≡ bundlesFor n) ⌝ }
+    requires { ⌜ FetchedFields w × (top + 1 ≡ bundlesFor n) × (n ≤ mostInstructions) × Holds layout (length (now memory)) ⌝ }
     ensures { λ r. ⌜ r ≡ fetchedEffect layout (bundlesFor n) w (viewOf (now (regs .entry)) at (now (memory .entry)) (layout .cell) (layout .table) (layout .base) (layout .landings) free left) ⌝ }
 {
     match w % field::FOUR_BITS {
@@ -52,7 +56,7 @@ fn instruction_effect(
         Instr::KIND_SAR => Effect::SetReg(d_field(w), alu::sar(a_value(w, regs), v_field(w))),
         Instr::KIND_LOAD => Effect::SetReg(
             d_field(w),
-            buffers::cells::peek(memory, address(w, layout.low, layout.high, regs)),
+            read_cell(memory, address(w, layout.low, layout.high, regs)),
         ),
         Instr::KIND_STORE => Effect::SetCell(
             address(w, layout.low, layout.high, regs),
@@ -96,7 +100,7 @@ pub fn next_effect(
     free: usize,
     left: usize,
 ) -> Effect
-    requires { ⌜ JudgedWords (now words) judged top ⌝ }
+    requires { ⌜ JudgedWords (now words) judged top × Holds layout (length (now memory)) ⌝ }
     ensures { λ r. ⌜ r ≡ reachedEffect layout (now (words .entry)) (viewOf (now (regs .entry)) at (now (memory .entry)) (layout .cell) (layout .table) (layout .base) (layout .landings) free left) ⌝ }
 {
     let w = fetch(words, judged, top, at);

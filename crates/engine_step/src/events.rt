@@ -1,21 +1,23 @@
 // Decides what an event would do in the engine.
+use crate::known_cells::read_cell;
 use engine_spec::Engine;
 use types::Effect;
 use types::Layout;
 use types::PolicyNumbers;
 use types::Status;
 ghost use mathlib.Core.Path.{_≡_};
-ghost use Prim.Native.Nat.{_+_, _*_};
-ghost use lib.ListN.{getD};
+ghost use Prim.Native.Nat.{_+_, _*_, _<_};
+ghost use lib.ListN.{length, getD};
 ghost use Rattle.types.specs.Names.{events};
 ghost use Rattle.spec.specs.Machines.{viewOf};
 ghost use Rattle.engine_spec.specs.Engines.{checkedEvent};
 
 // The address of the policy's entry for event v in the present state, summed without wrap.
 pub fn entry(layout: Layout, v: u32, memory: &[u32]) -> usize
+    requires { ⌜ layout .cell < length (now memory) ⌝ }
     ensures { λ r. ⌜ r ≡ layout .table + events * getD (now (memory .entry)) (layout .cell) 0 + v ⌝ }
 {
-    let state = buffers::cells::peek(memory, layout.cell as usize);
+    let state = read_cell(memory, layout.cell as usize);
     layout.table as usize + PolicyNumbers::EVENTS as usize * (state as usize) + v as usize
 }
 
@@ -29,13 +31,14 @@ pub fn checked_event(
     free: usize,
     left: usize,
 ) -> Effect
+    requires { ⌜ layout .cell < length (now memory) ⌝ }
     ensures { λ r. ⌜ r ≡ checkedEvent v (viewOf (now (regs .entry)) at (now (memory .entry)) (layout .cell) (layout .table) (layout .base) (layout .landings) free left) ⌝ }
 {
     let i = entry(layout, v, memory);
     if i >= memory.len() {
         return Effect::End(Status::Faulted);
     }
-    if buffers::cells::peek(memory, i) == PolicyNumbers::NO_ARROW {
+    if read_cell(memory, i) == PolicyNumbers::NO_ARROW {
         return Effect::End(Status::Stopped);
     }
     machine_step::events::event(v, free, left)

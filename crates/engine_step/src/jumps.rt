@@ -1,11 +1,14 @@
 // Decides what GOIF and GOX would do in the engine.
+use crate::known_cells::read_cell;
 use types::Effect;
 use types::Layout;
 use types::Status;
 use words::alu;
 ghost use mathlib.Core.Path.{_≡_};
 ghost use mathlib.Core.Bool.{cond};
-ghost use Prim.Native.Nat.{_+_};
+ghost use Prim.Native.Nat.{_+_, _<_, _≤_};
+ghost use lib.ListN.{length};
+ghost use Rattle.types.specs.Names.{landingCells, mostInstructions, mostBundles};
 ghost use Rattle.types.specs.declared.Effect.the-variants.{Go};
 ghost use Rattle.spec.specs.Landings.{marked};
 ghost use Rattle.spec.specs.Words.{bundlesFor};
@@ -25,15 +28,16 @@ pub fn branch(c: u64, x: u32, y: u32, to: u32, at: u32) -> Effect
 
 // Whether the bit of instruction j stands in the landing cells.
 fn has_landing(j: u32, landings: u32, memory: &[u32]) -> bool
+    requires { ⌜ (j < mostBundles) × (landings + landingCells ≤ length (now memory)) ⌝ }
     ensures { λ r. ⌜ r ≡ marked (now (memory .entry)) landings j ⌝ }
 {
-    let bits = buffers::cells::peek(memory, landings as usize + (j / Layout::CELL_BITS) as usize);
+    let bits = read_cell(memory, landings as usize + (j / Layout::CELL_BITS) as usize);
     (bits >> (j % Layout::CELL_BITS)) % 2 == 1
 }
 
 // A GOX that is taken, among the N of n words: N is a power of two, so rd modulo N is the bits below it. It goes to a landing, or stops.
 fn jump_to_landing(n: usize, top: u32, to: u32, landings: u32, memory: &[u32]) -> Effect
-    requires { ⌜ top + 1 ≡ bundlesFor n ⌝ }
+    requires { ⌜ (top + 1 ≡ bundlesFor n) × (n ≤ mostInstructions) × (landings + landingCells ≤ length (now memory)) ⌝ }
     ensures { λ r. ⌜ r ≡ indirectEffect (now (memory .entry)) landings (bundlesFor n) to ⌝ }
 {
     let j = to & top;
@@ -55,7 +59,7 @@ pub fn jump(
     landings: u32,
     memory: &[u32],
 ) -> Effect
-    requires { ⌜ top + 1 ≡ bundlesFor n ⌝ }
+    requires { ⌜ (top + 1 ≡ bundlesFor n) × (n ≤ mostInstructions) × (landings + landingCells ≤ length (now memory)) ⌝ }
     ensures { λ r. ⌜ r ≡ cond (holdsOf c x y) (indirectEffect (now (memory .entry)) landings (bundlesFor n) to) (Go (nextPc at)) ⌝ }
 {
     if alu::holds(c, x, y) {

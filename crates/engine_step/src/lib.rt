@@ -5,4 +5,5 @@ pub mod events;
 pub mod fetch;
 pub mod fields;
 pub mod jumps;
+pub mod known_cells;
 pub mod record;

@@ -1,5 +1,5 @@
 use borrow.Author.Needs.{needs}
-use Rattle.engine_step.proofs.apply.Laws.{set-in, goes, puts, stores, orders, probes, ends, waits}
+use Rattle.engine_step.proofs.apply.Laws.{set-in, stored-in, ordered-in, probed-in, goes, puts, stores, orders, probes, ends, waits}
 use Rattle.engine_step.proofs.apply.apply.Statement.{statement}
 use Rattle.engine_step.proofs.apply.apply.Tie as tie
 
@@ -13,16 +13,16 @@ apply-spec =
     (λ c. search needs)
     (λ c κs. search (set-in, needs))
     (λ c. search needs)
-    (λ c κs. search needs)
+    (λ c κs. search (stored-in, needs))
     (λ c. search needs)
-    (λ c κs. search needs)
+    (λ c κs. search (ordered-in, needs))
     (λ c. search needs)
-    (λ c κs. search needs)
-    (λ c κs. search needs)
+    (λ c κs. search (probed-in, needs))
+    (λ c κs. search (probed-in, needs))
     (λ c. search needs)
-    (λ c κs. search needs)
-    (λ c κs. search needs)
-    (λ c κs. search needs)
+    (λ c κs. search (probed-in, needs))
+    (λ c κs. search (probed-in, needs))
+    (λ c κs. search (probed-in, needs))
     (λ c. search needs)
     (λ c κs. search needs)
     (λ c. search needs)
