@@ -125,7 +125,17 @@ fn run_on(
     let status = engine.status;
     if let Status::Running = status {
         let top = last_index(words.len());
-        return run_running(layout, words, judged, top, engine, memory, budget, readings, log);
+        return run_running(
+            layout,
+            words,
+            judged,
+            top,
+            engine,
+            memory,
+            budget,
+            readings,
+            log,
+        );
     }
     unchanged(engine, end_answer(machine_step::endings::ending_of(status)))
 }
@@ -145,7 +155,16 @@ pub fn run(
     let answer = crate::refusal::run_refusal(layout, words, memory.len());
     let refused = answer.number;
     if refused == Refusal::TAKEN {
-        return run_on(layout, words, words.len(), engine, memory, budget, readings, log);
+        return run_on(
+            layout,
+            words,
+            words.len(),
+            engine,
+            memory,
+            budget,
+            readings,
+            log,
+        );
     }
     unchanged(engine, answer)
 }
