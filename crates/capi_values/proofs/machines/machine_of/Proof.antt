@@ -1,9 +1,15 @@
+use mathlib.Core.Path.{_∙_}
 use Rattle.types.specs.Names.{registers}
 use Rattle.types.specs.Records.{machineOf}
 use Rattle.capi_spec.proofs.Numbers.{record-read}
 use borrow.Author.Needs.{needs}
 use Rattle.capi_values.proofs.machines.machine_of.Statement.{statement}
 use Rattle.capi_values.proofs.machines.machine_of.Tie as tie
+
+returns : tie.Need-returns
+returns c =
+    let read = c .before .before in
+    c .from-parts .ensures ∙ record-read registers (read .before .before .before .args .t1) _ machineOf _ (read .read-record .ensures .0) (read .read-record .ensures .1)
 
 pub machine-of-spec : {M : Type 1} → statement M
 machine-of-spec =
@@ -13,6 +19,5 @@ machine-of-spec =
     (λ c. search needs)
     (λ c κs. search needs)
     (λ c. search needs)
-    (λ c.
-    let r = c .before in
-    record-read registers (r .before .before .before .args .t1) _ machineOf _ (r .read-record .ensures .0) (r .read-record .ensures .1)))
+    (λ c κs. search needs)
+    returns)
