@@ -8,6 +8,9 @@ ghost use lib.Count.{ones};
 ghost use Rattle.types.specs.Names.{events};
 ghost use Rattle.policy_spec.specs.precedence.Precedence.{ValidPairs, pairsIn, statesOf, firstsIn, arrowOf};
 
+// The events of a pair.
+pub const PAIR: usize = 2;
+
 // The bit of an event in a state: how many named events are smaller.
 fn bit_index(names: usize, e: usize) -> usize
     requires { ⌜ e < events ⌝ }
@@ -23,10 +26,10 @@ fn firsts_recorded(names: usize, pairs: &[u8], s: usize, e: usize) -> bool
 {
     let mut ok = true;
     let mut i: usize = 0;
-    while i < pairs.len() / 2 {
+    while i < pairs.len() / PAIR {
         ok = ok
-            & ((index_of(pairs[2 * i + 1]) != e)
-                | policy_bits::has_bit(s, bit_index(names, index_of(pairs[2 * i]))));
+            & ((index_of(pairs[PAIR * i + 1]) != e)
+                | policy_bits::has_bit(s, bit_index(names, index_of(pairs[PAIR * i]))));
         i += 1;
     }
     ok

@@ -2,6 +2,7 @@
 pub mod arrows;
 pub mod unreachable;
 
+use crate::arrows::PAIR;
 use crate::arrows::arrow;
 use crate::unreachable::blocked_events;
 use crate::unreachable::fixpoint;
@@ -72,7 +73,9 @@ fn pairs_right(names: usize, pairs: &[u8]) -> bool
     requires { ⌜ names ≡ mapWhere (isNamed (now pairs)) events ⌝ }
     ensures { λ r. ⌜ r ≡ pairsRight (now (pairs .entry)) ⌝ }
 {
-    events_known(pairs) & (pairs.len() % 2 == 0) & (usize::count_ones(names) as usize <= MOST_NAMED)
+    events_known(pairs)
+        & (pairs.len() % PAIR == 0)
+        & (usize::count_ones(names) as usize <= MOST_NAMED)
 }
 
 // How many maps of the named events there are.
