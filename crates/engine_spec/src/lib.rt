@@ -1,5 +1,6 @@
 // Request 5: the types of the engine, which runs guest words directly; its definitions and claims are in specs/.
 use types::Answer;
+use types::Machine;
 use types::Status;
 
 // The engine's record: the guest's registers, the index of the next instruction, the status.
@@ -10,7 +11,8 @@ pub struct Engine {
 }
 
 impl Engine {
-    pub const REGISTERS: usize = 15;
+    // The guest's registers, all below the hidden one.
+    pub const REGISTERS: usize = Machine::HIDDEN;
 }
 
 // What a run of the engine answers and the record that it leaves: a refusal's number and place, or the ending's number;

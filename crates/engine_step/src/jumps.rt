@@ -4,6 +4,7 @@ use types::Effect;
 use types::Layout;
 use types::Status;
 use words::alu;
+use words::memory::mask;
 ghost use mathlib.Core.Path.{_≡_};
 ghost use mathlib.Core.Bool.{cond};
 ghost use Prim.Native.Nat.{_+_, _<_, _≤_};
@@ -35,12 +36,12 @@ fn has_landing(j: u32, landings: u32, memory: &[u32]) -> bool
     (bits >> (j % Layout::CELL_BITS)) % 2 == 1
 }
 
-// A GOX that is taken, among the N of n words: N is a power of two, so rd modulo N is the bits below it. It goes to a landing, or stops.
+// A GOX that is taken, among the N of n words: N is a power of two, so rd modulo N is the mask of 0 to N − 1. It goes to a landing, or stops.
 fn jump_to_landing(n: usize, top: u32, to: u32, landings: u32, memory: &[u32]) -> Effect
     requires { ⌜ (top + 1 ≡ bundlesFor n) × (n ≤ mostInstructions) × (landings + landingCells ≤ length (now memory)) ⌝ }
     ensures { λ r. ⌜ r ≡ indirectEffect (now (memory .entry)) landings (bundlesFor n) to ⌝ }
 {
-    let j = to & top;
+    let j = mask(to, 0, top);
     if has_landing(j, landings, memory) {
         return Effect::Go(j);
     }

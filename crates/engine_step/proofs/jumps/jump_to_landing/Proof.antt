@@ -7,6 +7,7 @@ pub jump-to-landing-spec : {M : Type 1} → statement M
 jump-to-landing-spec =
     tie.close
     (tie.spec
+    (λ c κs. search needs)
     (λ c κs. search (land-below, needs))
     (λ c. search (land-goes, needs))
     (λ c. search (land-strays, needs)))
