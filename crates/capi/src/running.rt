@@ -6,8 +6,32 @@ use capi_values::layouts::layout_of;
 use capi_values::machines::RECORD;
 use capi_values::machines::machine_of;
 use capi_values::machines::record_after;
+use types::Layout;
+use types::Machine;
+use types::Outcome;
 ghost use mathlib.Core.Path.{_≡_};
+ghost use Rattle.spec.specs.Machines.{Ran, runOf};
 ghost use Rattle.capi_spec.specs.Hosts.{hostResult, runFor, hostPreviewed, previewFor};
+
+// A run of a record made of a host's numbers: it stands in a local, which is lent.
+fn lend(
+    layout: Layout,
+    commands: &[u64],
+    machine: Machine,
+    memory: &mut [u32],
+    budget: u32,
+    readings: &[u32],
+    log: &mut [u32],
+) -> Outcome
+    ensures { λ r. ⌜ Ran r (now (memory .exit)) (now (log .exit)) (runOf layout (now (commands .entry)) machine (now (memory .entry)) budget (now (readings .entry)) (now (log .entry))) ⌝ }
+{
+    let mut lent = machine;
+    let answer = sandbox::run(layout, commands, &mut lent, memory, budget, readings, log);
+    Outcome {
+        machine: lent,
+        answer: answer,
+    }
+}
 
 // Runs a record; one that is refused comes back as it was.
 #[no_mangle]
@@ -26,7 +50,7 @@ pub extern "C" fn hemdroas_run(
     let lay = layout_of(layout);
     let given = *machine;
     let m = machine_of(given);
-    let out = sandbox::run(lay, commands, m, memory, budget, readings, log);
+    let out = lend(lay, commands, m, memory, budget, readings, log);
     *machine = record_after(out.machine, given);
     *answer = run_answer_of(out.answer);
 }

@@ -6,24 +6,40 @@ use mir.Syntax.{w32}
 use mir.Val.{Val, vint}
 use denote.Ref.{RefT}
 use denote.Slice.{sliceVal}
+use denote.Laws.{Is}
 use denote.Struct.Laws as LL
 use Rattle.types.specs.declared.Layout.{Layout}
 use Rattle.types.specs.declared.Machine.{Machine}
+use Rattle.types.specs.declared.Outcome.{Outcome}
 use Rattle.spec.specs.Machines.{RunResult, runOf}
 use Rattle.types.proofs.Layout as L
 use Rattle.types.proofs.Layout.Laws as L′
 use Rattle.types.proofs.Machine as T
 use Rattle.types.proofs.Machine.Laws as T′
+use Rattle.types.proofs.RunAnswer as N
+use Rattle.types.proofs.RunAnswer.Laws as N′
+use Rattle.types.proofs.Outcome as O
+use Rattle.types.proofs.Outcome.Laws as O′
 
--- machine values: of a layout, a record and a slice
+-- machine values: of a layout, a record, an outcome's answer and a slice
 abbrev pub lay : Layout → Val
 lay = LL.val L.the-type L′.the-laws
 
 abbrev pub mach : Machine → Val
 mach = LL.val T.the-type T′.the-laws
 
+abbrev pub ans : Outcome → Val
+ans r = LL.val N.the-type N′.the-laws (r .answer)
+
 abbrev pub sl : RefT (List ℕ) → Val
 sl x = sliceVal (x .ptr) (length (x .now))
+
+-- what whoever holds an outcome knows of its two fields
+pub machine-is : (r : Outcome) (vs : List Val) → Is O.the-row r vs → Is T.the-row (r .machine) (mach (r .machine) ∷ [])
+machine-is r vs is = LL.owed O.the-type O′.the-laws r vs is .0
+
+pub answer-is : (r : Outcome) (vs : List Val) → Is O.the-row r vs → Is N.the-row (r .answer) (ans r ∷ [])
+answer-is r vs is = LL.owed O.the-type O′.the-laws r vs is .1 .0
 
 -- the arguments of a run, its record by value or lent
 abbrev pub Arg : Type 0 → Type 0

@@ -2,7 +2,6 @@
 // Their proofs follow the compiled code by hand, so they have a crate of their own.
 use types::Layout;
 use types::Machine;
-use types::Outcome;
 use types::RunAnswer;
 ghost use Rattle.spec.specs.Machines.{Ran, runOf};
 ghost use Rattle.machine_lent.specs.Lent.{asOutcome};
@@ -38,24 +37,4 @@ pub fn step(
     let out = machine::step_value(layout, commands, *machine, memory, readings, log);
     *machine = out.machine;
     out.answer
-}
-
-// Runs a record by value: it stands in a local, is lent to the run and handed back.
-pub fn run_by_value(
-    layout: Layout,
-    commands: &[u64],
-    machine: Machine,
-    memory: &mut [u32],
-    budget: u32,
-    readings: &[u32],
-    log: &mut [u32],
-) -> Outcome
-    ensures { λ r. ⌜ Ran r (now (memory .exit)) (now (log .exit)) (runOf layout (now (commands .entry)) machine (now (memory .entry)) budget (now (readings .entry)) (now (log .entry))) ⌝ }
-{
-    let mut lent = machine;
-    let answer = run(layout, commands, &mut lent, memory, budget, readings, log);
-    Outcome {
-        machine: lent,
-        answer: answer,
-    }
 }

@@ -45,8 +45,7 @@ use denote.Signature.{plain}
 use Rattle.types.specs.declared.Layout.{Layout}
 use Rattle.types.specs.declared.Machine.{Machine}
 use Rattle.types.specs.declared.Outcome.{Outcome}
-use Rattle.spec.specs.Machines.{RunResult, runResultOf}
-use Rattle.spec.proofs.Endings.{ran as promised}
+use Rattle.spec.specs.Machines.{RunResult, Ran}
 use Rattle.types.proofs.Layout as L
 use Rattle.types.proofs.Layout.Laws as L′
 use Rattle.types.proofs.Machine as T
@@ -55,7 +54,7 @@ use Rattle.types.proofs.RunAnswer as N
 use Rattle.types.proofs.RunAnswer.Laws as N′
 use Rattle.types.proofs.Outcome as O
 use Rattle.types.proofs.Outcome.Laws as O′
-use Rattle.machine_lent.proofs.Walks.{lay, mach, sl, StepArg, StepVals, StepLast, step-args, step-vals, stepped}
+use Rattle.machine_lent.proofs.Walks.{lay, mach, ans, sl, machine-is, answer-is, StepArg, StepVals, StepLast, step-args, step-vals, stepped}
 use Rattle.machine.proofs.step_value as step-value
 use Rattle.machine.proofs.step_value.Symbol as step-value-def
 use Rattle.machine.proofs.step_value.Symbol.{name as #machine·step-value}
@@ -80,19 +79,9 @@ stayed = (
   ),
 )
 
-abbrev ans : Outcome → Val
-ans r = LL.val N.the-type N′.the-laws (r .answer)
-
 -- the contract that the proof cites
 abbrev Value : {M : Type 1} (𝓤 : URA M) (H : Heap 𝓤) (A : Atoms 𝓤) (at-mem : Memory → SProp 𝓤) (rn : Routine → Fun 𝓤) → Contract 𝓤
 Value 𝓤 H A at-mem rn = tripleOf 𝓤 H A step-value.signature (step-value.spec 𝓤 H A at-mem rn)
-
--- what whoever holds an outcome knows of its two fields
-machine-is : (r : Outcome) (vs : List Val) → Is O.the-row r vs → Is T.the-row (r .machine) (mach (r .machine) ∷ [])
-machine-is r vs is = LL.owed O.the-type O′.the-laws r vs is .0
-
-answer-is : (r : Outcome) (vs : List Val) → Is O.the-row r vs → Is N.the-row (r .answer) (ans r ∷ [])
-answer-is r vs is = LL.owed O.the-type O′.the-laws r vs is .1 .0
 
 module _ {M : Type 1} (𝓤 : URA M) (H : Heap 𝓤) (A : Atoms 𝓤) (W : Given 𝓤 H A) (at-mem : Memory → SProp 𝓤) (rn : Routine → Fun 𝓤) (κs : Lfts 5) (qs : Shares 5)
     (y : Layout) (cs : RefT (List ℕ)) (x : RefT Machine) (ms rs gs : RefT (List ℕ)) (y-is : Is L.the-row y (lay y ∷ [])) where
@@ -149,12 +138,12 @@ module _ {M : Type 1} (𝓤 : URA M) (H : Heap 𝓤) (A : Atoms 𝓤) (W : Given
   abbrev after : RunResult
   after = stepped y cs ms rs gs h
 
-  exits : (r : Outcome) (vs : List Val) (zs ws : List ℕ) → Is O.the-row r vs → runResultOf r zs ws ≡ after → length zs ≡ length (ms .now) → length ws ≡ length (gs .now)
+  exits : (r : Outcome) (vs : List Val) (zs ws : List ℕ) → Is O.the-row r vs → Ran r zs ws after → length zs ≡ length (ms .now) → length ws ≡ length (gs .now)
       → ent 𝓤 (⋆ 𝓤 H A (‵ (fobs (x .name) (T.the-row .coded .code (r .machine))) ∷ ‵ (fbor (κs .1 .0) (Body (mem T.the-row) b o (x .name))) ∷ ‵ (flft (κs .1 .0) (qs .1 .0)) ∷ Toks ∷ ‵ Cs ∷ ‵ (finally u32 (ms .name) zs) ∷ ‵ Rs ∷ ‵ (finally u32 (gs .name) ws) ∷ [])) (Post (ans r))
   exits r vs zs ws is e l l′ =
       qed W (‵ (fobs (x .name) (T.the-row .coded .code (r .machine))) ∷ ‵ (fbor (κs .1 .0) (Body (mem T.the-row) b o (x .name))) ∷ ‵ (flft (κs .1 .0) (qs .1 .0)) ∷ Toks ∷ ‵ Cs ∷ ‵ (finally u32 (ms .name) zs) ∷ ‵ Rs ∷ ‵ (finally u32 (gs .name) ws) ∷ []) ∵
       suffices ! _ (ends-at 𝓤 H A step.ended stayed (step.clauses 𝓤 H A at-mem rn) W ((κs, qs, tt, a, given (vptr b o)), tt) (ans r) (r .answer) (tt, (tt, (r .machine, (zs, (tt, (ws, tt)))))) (tt, (tt, (tt, (l, (tt, (l′, tt))))))) $
-      says ! (promised r zs ws after e) $
+      says ! e $
       -- the tokens; then what is had of the parameters, from the last to the first; then the result
       move ! (3 ∷ []) $ split ! $ move ! (4 ∷ 1 ∷ []) $ join ! $ move ! (1 ∷ 0 ∷ []) $ join ! $ frame ! $
       nothing ! $ move ! (6 ∷ 0 ∷ []) $ fjoin ! $ move ! (5 ∷ 0 ∷ []) $ fjoin ! $ move ! (4 ∷ 0 ∷ []) $ fjoin ! $
@@ -192,8 +181,8 @@ module _ {M : Type 1} (𝓤 : URA M) (H : Heap 𝓤) (A : Atoms 𝓤) (W : Given
         (and-then ! (load ! (from ! (stop !)) (look ! 20 refl)) (and-then ! (load ! (from ! (stop !)) (look ! 6 refl)) (no-more !))))))) (λ w.
         use1 W (later (some (λ (r : Outcome). (Toks ⊛ ‵ (O.the-row .own r (w ∷ []))) ⊛ raw (ensured 𝓤 H A step-value.ended (step-value.clauses 𝓤 H A at-mem rn) κs′ a′ tt r)))) (id⊢ 𝓤 _) $ await ! tt $ pick ! (λ r.
         -- what `step_value` ensures, at some last lists
-        split ! $ move ! (1 ∷ []) $ use1 W (some (λ (zs : StepLast (Unit {0})). ‵ (lasts step-value.ended κs′ a′ zs) ⊛ raw (fact 𝓤 (runResultOf r (zs .1 .1 .1 .0) (zs .1 .1 .1 .1 .1 .0) ≡ after)))) (id⊢ 𝓤 _) $ pick ! (λ zs.
-        split ! $ move ! (1 ∷ []) $ heard ! (runResultOf r (zs .1 .1 .1 .0) (zs .1 .1 .1 .1 .1 .0) ≡ after) (λ e.
+        split ! $ move ! (1 ∷ []) $ use1 W (some (λ (zs : StepLast (Unit {0})). ‵ (lasts step-value.ended κs′ a′ zs) ⊛ raw (fact 𝓤 (Ran r (zs .1 .1 .1 .0) (zs .1 .1 .1 .1 .1 .0) after)))) (id⊢ 𝓤 _) $ pick ! (λ zs.
+        split ! $ move ! (1 ∷ []) $ heard ! (Ran r (zs .1 .1 .1 .0) (zs .1 .1 .1 .1 .1 .0) after) (λ e.
         fsplit ! $ drop ! $ fsplit ! $ drop ! $ fsplit ! $ drop ! $ fsplit ! $ fsplit ! $ move ! (1 ∷ []) $ feqL ! (λ l. move ! (1 ∷ []) $ fsplit ! $ drop ! $ fsplit ! $ fsplit ! $ move ! (1 ∷ []) $ feqL ! (λ l′.
         -- [log's last list; …; memory's last list; the tokens and the result; …]
         move ! (3 ∷ []) $ split ! $ move ! (1 ∷ []) $ peeks ! O.the-row (Is O.the-row) (shows 𝓤 H A O.the-row) r (w ∷ []) (λ is.

@@ -14,7 +14,7 @@ hemdroas-preview-spec =
     (λ c κs.
     let v = c .before .before .before .before .before in
     let s = v .before .before .before .before .before .before .before .before .before .before .before in
-    preview-counts _ _ _ _ _ _ _ _ _ _ _ (v .preview .ensures .0) (s .fits .budget .fits))
+    preview-counts _ _ _ _ _ _ _ _ _ _ _ (v .preview .ensures .0 .result) (s .fits .budget .fits))
     (λ c. search needs)
     (λ c. search needs)
     (λ c. search (looked, needs)))

@@ -14,7 +14,7 @@ hemdroas-run-spec =
     (λ c κs.
     let v = c .before .before .before .before .before in
     let s = v .before .before .before .before .before .before .before .before .before .before in
-    counts _ _ _ _ _ _ _ _ _ _ (v .run .ensures) (s .fits .budget .fits))
+    counts _ _ _ _ _ _ _ _ _ _ (v .lend .ensures .result) (s .fits .budget .fits))
     (λ c. search needs)
     (λ c. search needs)
     (λ c. search (left, needs)))

@@ -1,4 +1,4 @@
--- `run_by_value` meets its contract: a walk of its MIR, by hand. The record stands in a local, which is lent to `run` for a lifetime that is made for the call, and comes back (`Lent.antt`).
+-- `lend` meets its contract: a walk of its MIR, by hand. The record stands in a local, which is lent to `run` for a lifetime that is made for the call, and comes back (`Lent.antt`).
 -- The two slices that are written are given up to `run` for good. Those that are read are Copy: what each owns is had twice, and one copy is kept for the exit.
 -- All that the proof knows of `run` is that it meets its contract.
 use mathlib.Core.Path.{_≡_, refl, ap}
@@ -55,19 +55,19 @@ use Rattle.types.proofs.RunAnswer as N
 use Rattle.types.proofs.RunAnswer.Laws as N′
 use Rattle.types.proofs.Outcome as O
 use Rattle.types.proofs.Outcome.Laws as O′
 use Rattle.machine_lent.proofs.Lent.{lends, back}
 use Rattle.machine_lent.specs.Lent.{asOutcome}
 use Rattle.machine_lent.proofs.Walks.{lay, mach, sl, Arg, Vals, Last, args, vals, ran}
 use Rattle.machine_lent.proofs.run as run
 use Rattle.machine_lent.proofs.run.Symbol as run-def
 use Rattle.machine_lent.proofs.run.Symbol.{name as #machine-lent·run}
 use Rattle.machine_lent.proofs.run.Met as run-thm
-use Rattle.machine_lent.proofs.run_by_value.Key.{name as #machine-lent·run-by-value}
-use Rattle.machine_lent.proofs.run_by_value as run-by-value
-use Rattle.machine_lent.proofs.run_by_value.Statement as stated
-use Rattle.machine_lent.proofs.run_by_value.Code as code
+use Rattle.capi.proofs.running.lend.Key.{name as #capi·running·lend}
+use Rattle.capi.proofs.running.lend as lend
+use Rattle.capi.proofs.running.lend.Statement as stated
+use Rattle.capi.proofs.running.lend.Code as code
 
-abbrev stayed : Stays (run-by-value.ended .signature .params) (run-by-value.ended .kept)
+abbrev stayed : Stays (lend.ended .signature .params) (lend.ended .kept)
 stayed = (
   stay-none (λ _. L.the-row) yes,
   (
@@ -101,7 +101,7 @@ module _ {M : Type 1} (𝓤 : URA M) (H : Heap 𝓤) (A : Atoms 𝓤) (W : Given
   given = vals y cs ms n rs gs
 
   abbrev Post : Val → SProp 𝓤
-  Post = walkOf 𝓤 H A run-by-value.ended stayed (run-by-value.clauses 𝓤 H A at-mem rn) .post ((κs, qs, tt, a, given (mach h)), tt)
+  Post = walkOf 𝓤 H A lend.ended stayed (lend.clauses 𝓤 H A at-mem rn) .post ((κs, qs, tt, a, given (mach h)), tt)
 
   -- what `run`'s triple binds outside: the local at l, lent for the lifetime ν under the name δ, and the slices at their own lifetimes, shares and names
   abbrev x : ℕ → GName → RefT Machine
@@ -150,7 +150,7 @@ module _ {M : Type 1} (𝓤 : URA M) (H : Heap 𝓤) (A : Atoms 𝓤) (W : Given
       → ent 𝓤 (⋆ 𝓤 H A (‵ (flft (κs .0) (qs .0)) ∷ More ∷ ‵ Cs ∷ ‵ (finally u32 (ms .name) zs) ∷ ‵ Rs ∷ ‵ (finally u32 (gs .name) ws) ∷ [])) (Post (outv m r))
   exits m r zs ws is e l l′ =
       qed W (‵ (flft (κs .0) (qs .0)) ∷ More ∷ ‵ Cs ∷ ‵ (finally u32 (ms .name) zs) ∷ ‵ Rs ∷ ‵ (finally u32 (gs .name) ws) ∷ []) ∵
-      suffices ! _ (ends-at 𝓤 H A run-by-value.ended stayed (run-by-value.clauses 𝓤 H A at-mem rn) W ((κs, qs, tt, a, given (mach h)), tt) (outv m r) (asOutcome m r) (tt, (tt, (tt, (zs, (tt, (tt, (ws, tt))))))) (tt, (tt, (tt, (l, (tt, (tt, (l′, tt)))))))) $
+      suffices ! _ (ends-at 𝓤 H A lend.ended stayed (lend.clauses 𝓤 H A at-mem rn) W ((κs, qs, tt, a, given (mach h)), tt) (outv m r) (asOutcome m r) (tt, (tt, (tt, (zs, (tt, (tt, (ws, tt))))))) (tt, (tt, (tt, (l, (tt, (tt, (l′, tt)))))))) $
       says ! e $ join ! $ frame ! $
       nothing ! $ move ! (4 ∷ 0 ∷ []) $ fjoin ! $ move ! (3 ∷ 0 ∷ []) $ fjoin ! $ owned ! u32 (Is u32) (uint-makes 𝓤 H A W w32) n _ (refl, n-fits) $ fjoin ! $ move ! (2 ∷ 0 ∷ []) $ fjoin ! $
       owned ! T.the-row (Is T.the-row) (LL.makes T.the-type T′.the-plain 𝓤 H A) h _ h-is $ fjoin ! $ move ! (1 ∷ 0 ∷ []) $ fjoin ! $ owned ! L.the-row (Is L.the-row) (LL.makes L.the-type L′.the-plain 𝓤 H A) y _ y-is $ fjoin ! $
@@ -158,7 +158,7 @@ module _ {M : Type 1} (𝓤 : URA M) (H : Heap 𝓤) (A : Atoms 𝓤) (W : Given
 
   module _ (C : Calls 𝓤 H) (Λ : Loops 𝓤 H) (fm : FmC 𝓤 H (W .laws) C) (known : Triple 𝓤 (C #machine-lent·run) (Run 𝓤 H A at-mem rn)) where
     walk : Room u64 (length (cs .now)) → Room u32 (length (ms .now)) → Room u32 (length (rs .now)) → Room u32 (length (gs .now))
-        → ent 𝓤 (onEntry 𝓤 H A run-by-value.signature κs qs a (given (mach h))) (WpFn 𝓤 H C Λ code.function (lay y ∷ sl cs ∷ mach h ∷ sl ms ∷ vint w32 n ∷ sl rs ∷ sl gs ∷ []) Post)
+        → ent 𝓤 (onEntry 𝓤 H A lend.signature κs qs a (given (mach h))) (WpFn 𝓤 H C Λ code.function (lay y ∷ sl cs ∷ mach h ∷ sl ms ∷ vint w32 n ∷ sl rs ∷ sl gs ∷ []) Post)
     walk cs-room ms-room rs-room gs-room =
         qed W ((‵ (flft (κs .0) (qs .0)) ⊛ More) ∷ ‵ (owns (L.the-row ∷ ShrSlice (named 0) (κs .0) u64 ∷ T.the-row ∷ MutSlice (named 1) (κs .1 .0) u32 ∷ u32 ∷ ShrSlice (named 2) (κs .1 .1 .0) u32 ∷ MutSlice (named 3) (κs .1 .1 .1 .0) u32 ∷ []) a (given (mach h))) ∷ []) ∵
         -- what is had at entry is taken apart: what each slice that is read owns, twice
@@ -204,14 +204,14 @@ module _ {M : Type 1} (𝓤 : URA M) (H : Heap 𝓤) (A : Atoms 𝓤) (W : Given
         keep ! (2 ∷ 1 ∷ 7 ∷ 6 ∷ 8 ∷ 4 ∷ []) $ by ! (exits (zs .1 .1 .0) r (zs .1 .1 .1 .0) (zs .1 .1 .1 .1 .1 .1 .0) (out-is (zs .1 .1 .0) r _ g is) e l l′))))))))))))))))))))))))))))
 
 module _ {M : Type 1} (𝓤 : URA M) (H : Heap 𝓤) (A : Atoms 𝓤) (W : Given 𝓤 H A) (at-mem : Memory → SProp 𝓤) (rn : Routine → Fun 𝓤) where
-  run-by-value-walks : (C : Calls 𝓤 H) (Λ : Loops 𝓤 H) → FmC 𝓤 H (W .laws) C → Triple 𝓤 (C #machine-lent·run) (Run 𝓤 H A at-mem rn) → Walks 𝓤 H A run-by-value.ended stayed (WpFn 𝓤 H C Λ code.function) (run-by-value.clauses 𝓤 H A at-mem rn)
-  run-by-value-walks C Λ fm known = walked 𝓤 H A run-by-value.ended stayed (run-by-value.clauses 𝓤 H A at-mem rn) (WpFn 𝓤 H C Λ code.function)
+  lend-walks : (C : Calls 𝓤 H) (Λ : Loops 𝓤 H) → FmC 𝓤 H (W .laws) C → Triple 𝓤 (C #machine-lent·run) (Run 𝓤 H A at-mem rn) → Walks 𝓤 H A lend.ended stayed (WpFn 𝓤 H C Λ code.function) (lend.clauses 𝓤 H A at-mem rn)
+  lend-walks C Λ fm known = walked 𝓤 H A lend.ended stayed (lend.clauses 𝓤 H A at-mem rn) (WpFn 𝓤 H C Λ code.function)
       (λ κs. (LL.vals L.the-type L′.the-laws, (slice-vals, (LL.vals T.the-type T′.the-laws, (slice-vals, (uint-vals w32, (slice-vals, (slice-vals, tt))))))))
       (λ κs. (LL.tells L.the-type L′.the-laws, (shr-slice-tells (named 0) (κs .0) u64, (LL.tells T.the-type T′.the-laws, (mut-slice-tells (named 1) (κs .1 .0) u32, (uint-tells w32, (shr-slice-tells (named 2) (κs .1 .1 .0) u32, (mut-slice-tells (named 3) (κs .1 .1 .1 .0) u32, tt))))))))
       (λ κs qs bounds a g are. via 𝓤 _ (fst∗ 𝓤 _ (emp 𝓤)) (walk 𝓤 H A W at-mem rn κs qs (a .0) (a .1 .0) (a .1 .1 .0) (a .1 .1 .1 .0) (a .1 .1 .1 .1 .0) (a .1 .1 .1 .1 .1 .0) (a .1 .1 .1 .1 .1 .1 .0) (are .0) (are .1 .1 .0) (are .1 .1 .1 .1 .0 .1) C Λ fm known
       (are .1 .0 .0 .1) (are .1 .1 .1 .0 .0 .1) (are .1 .1 .1 .1 .1 .0 .0 .1) (are .1 .1 .1 .1 .1 .1 .0 .0 .1)))
 
-  all-go : AllGo 𝓤 H A W 4 (run-by-value.signature .params) (run-by-value.ended .kept) stayed
+  all-go : AllGo 𝓤 H A W 4 (lend.signature .params) (lend.ended .kept) stayed
   all-go = (
     goes-none 𝓤 H A W 4 (λ _. L.the-row) yes (λ κs x f. refl),
     (
@@ -226,16 +226,16 @@ module _ {M : Type 1} (𝓤 : URA M) (H : Heap 𝓤) (A : Atoms 𝓤) (W : Given
     ),
   )
 
-run-by-value-meets : {M : Type 1} (𝓤 : URA M) (H : Heap 𝓤) (A : Atoms 𝓤) → Given 𝓤 H A → (at-mem : Memory → SProp 𝓤) (rn : Routine → Fun 𝓤) (𝓣 : Tables 𝓤 H) → Triple 𝓤 (𝓣 .C #machine-lent·run) (Run 𝓤 H A at-mem rn)
-    → Meets 𝓤 H A run-by-value.signature (WpFn 𝓤 H (𝓣 .C) (𝓣 .Λ) code.function) (run-by-value.spec 𝓤 H A at-mem rn)
-run-by-value-meets 𝓤 H A W at-mem rn 𝓣 known =
-    walk-meets 𝓤 H A run-by-value.ended stayed W (all-go 𝓤 H A W at-mem rn) (run-by-value.clauses 𝓤 H A at-mem rn)
-    (WpFn 𝓤 H (𝓣 .C) (𝓣 .Λ) code.function) (WpFn-mono 𝓤 H (W .laws) 𝓣 code.function) (run-by-value-walks 𝓤 H A W at-mem rn (𝓣 .C) (𝓣 .Λ) (fmOf 𝓤 H (W .laws) 𝓣) known)
+lend-meets : {M : Type 1} (𝓤 : URA M) (H : Heap 𝓤) (A : Atoms 𝓤) → Given 𝓤 H A → (at-mem : Memory → SProp 𝓤) (rn : Routine → Fun 𝓤) (𝓣 : Tables 𝓤 H) → Triple 𝓤 (𝓣 .C #machine-lent·run) (Run 𝓤 H A at-mem rn)
+    → Meets 𝓤 H A lend.signature (WpFn 𝓤 H (𝓣 .C) (𝓣 .Λ) code.function) (lend.spec 𝓤 H A at-mem rn)
+lend-meets 𝓤 H A W at-mem rn 𝓣 known =
+    walk-meets 𝓤 H A lend.ended stayed W (all-go 𝓤 H A W at-mem rn) (lend.clauses 𝓤 H A at-mem rn)
+    (WpFn 𝓤 H (𝓣 .C) (𝓣 .Λ) code.function) (WpFn-mono 𝓤 H (W .laws) 𝓣 code.function) (lend-walks 𝓤 H A W at-mem rn (𝓣 .C) (𝓣 .Λ) (fmOf 𝓤 H (W .laws) 𝓣) known)
 
-pub run-by-value-spec : {M : Type 1} → stated.statement M
+pub lend-spec : {M : Type 1} → stated.statement M
 unfolding code.routine tablesOf
-run-by-value-spec 𝓤 H 𝓜 𝓖 𝓡 =
-    entered 𝓤 H (tripleOf 𝓤 H (𝓖 .A) run-by-value.signature (run-by-value.spec 𝓤 H (𝓖 .A) (𝓜 .mem) (𝓡 .run)))
-    (tables 𝓤 H 𝓜 𝓡 code.env .C) (tables 𝓤 H 𝓜 𝓡 code.env .Λ) #machine-lent·run-by-value code.function (code.unfolded 𝓤 H 𝓜 𝓡)
-    (run-by-value-meets 𝓤 H (𝓖 .A) (givenOf 𝓤 H 𝓜 𝓖) (𝓜 .mem) (𝓡 .run) (tablesOf 𝓤 H 𝓜 (tables 𝓤 H 𝓜 𝓡 code.env))
+lend-spec 𝓤 H 𝓜 𝓖 𝓡 =
+    entered 𝓤 H (tripleOf 𝓤 H (𝓖 .A) lend.signature (lend.spec 𝓤 H (𝓖 .A) (𝓜 .mem) (𝓡 .run)))
+    (tables 𝓤 H 𝓜 𝓡 code.env .C) (tables 𝓤 H 𝓜 𝓡 code.env .Λ) #capi·running·lend code.function (code.unfolded 𝓤 H 𝓜 𝓡)
+    (lend-meets 𝓤 H (𝓖 .A) (givenOf 𝓤 H 𝓜 𝓖) (𝓜 .mem) (𝓡 .run) (tablesOf 𝓤 H 𝓜 (tables 𝓤 H 𝓜 𝓡 code.env))
     (cited 𝓤 H (Run 𝓤 H (𝓖 .A) (𝓜 .mem) (𝓡 .run)) 𝓜 𝓡 code.env #machine-lent·run run-def.routine code.calls-machine-lent·run (run-thm.met 𝓤 H 𝓜 𝓖 𝓡)))
