@@ -14,8 +14,8 @@
  * aligned to 8 bytes, of uint32_t to 4, of uint16_t to 2. What a call writes
  * must not overlap anything else that it is lent; two inputs may be the same.
  *
- * Memory. No call allocates, keeps a pointer or takes more than about a
- * kilobyte of stack.
+ * Memory. No call allocates or keeps a pointer. A call takes about a kilobyte of
+ * stack, at most 1.4.
  *
  * Threads. The library has no global state. Calls on different buffers may run
  * at the same time. Two calls may share a buffer if neither writes it.

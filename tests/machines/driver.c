@@ -52,7 +52,8 @@ static const uint8_t takes_buffers[HOW_MANY] = {FUNCTIONS(BUFFERS)};
 
 enum { CALLS_A_LINE = 10000, PAST = 8, ODD = 4 };
 enum { SELDOM = 4, SOMETIMES = 30, OFTEN = 50, MOSTLY = 90 }; /* percent */
-enum { WORDS = HEMDROAS_MOST_WORDS + 1, BYTES = 9 * WORDS, TABLE = HEMDROAS_MOST_TABLE + 4, PAIRS = 16, READINGS = 8, LOG = 8 };
+enum { COUNT_BYTES = 2, MOST_BYTES_A_WORD = 9 };
+enum { WORDS = HEMDROAS_MOST_WORDS + 1, BYTES = MOST_BYTES_A_WORD * WORDS, TABLE = HEMDROAS_MOST_TABLE + 4, PAIRS = 16, READINGS = 8, LOG = 8 };
 enum { STATES = HEMDROAS_MOST_STATES, EVENTS = HEMDROAS_EVENTS, ARROWS = STATES * EVENTS, BUNDLE = 4, LANDING_CELLS = 32 };
 
 static uint8_t bytes_lent[BYTES + ODD + PAST], pairs[PAIRS + PAST];
@@ -83,22 +84,24 @@ static uint32_t below(uint32_t bound) { return (uint32_t)((uint64_t)any() * boun
 static uint32_t at_most(uint32_t most) { return below(most + 1); }
 static int chance(uint32_t percent) { return below(100) < percent; }
 
-/* Small, near 2^32, of a memory's size, or any. */
+enum { SMALL = 20, ABOVE_ALL_CELLS = 5000, FEW = 12, SOME = 64 };
+
+/* Small, near 2^32, about a cell's address, or any. */
 static uint32_t number(void)
 {
     uint32_t way = below(4), x = any();
     switch (way) {
-    case 0: return x % 20;
-    case 1: return 0u - x % 20;
-    case 2: return x % 5000;
+    case 0: return x % SMALL;
+    case 1: return 0u - x % SMALL;
+    case 2: return x % ABOVE_ALL_CELLS;
     default: return x;
     }
 }
 
-/* Mostly small. */
+/* Two thirds few, a third some, the rest any. */
 static uint32_t size(uint32_t most)
 {
-    uint32_t way = below(100), top = way < 65 ? 12 : way < 95 ? 64 : most;
+    uint32_t way = below(100), top = way < 65 ? FEW : way < 95 ? SOME : most;
     return at_most(top < most ? top : most);
 }
 
@@ -150,7 +153,7 @@ static void print_times(const char *name, const char *space, uint32_t times)
 
 /* ---- the hash, and how often each function gave each number */
 
-enum { NUMBERS = 32 };
+enum { NUMBERS = 32 }; /* above all answers */
 static uint64_t hash = 0xCBF29CE484222325u; /* FNV-1a's */
 static uint32_t calls, tallies[HOW_MANY][NUMBERS], nulls[HOW_MANY], nulls_lent;
 
@@ -204,6 +207,7 @@ static void answered(enum function function, struct hemdroas_answer answer)
 
 enum { FIELD_D = 1, FIELD_A = 2, FIELD_B = 4, FIELD_C = 8, FIELD_V = 16, ALL_FIELDS = 31 };
 enum { SHIFT_D = 8, SHIFT_A = 12, SHIFT_B = 16, SHIFT_C = 20, SHIFT_V = 32 };
+enum { REGISTERS = 15, CONDITIONS = 4, SHIFTS = 32 };
 enum { HALT, SET, MOVE, ADD, SUB, AND, OR, SAR, LOADS, STORE, GOIF, GOX, EVENT, KINDS };
 static const uint8_t fields_of[KINDS] = {
     [SET] = FIELD_D | FIELD_V,
@@ -224,7 +228,7 @@ static uint32_t field_v(uint32_t kind, uint32_t at, int forwards)
 {
     uint32_t v = number();
     switch (kind) {
-    case SAR: return v % 32;
+    case SAR: return v % SHIFTS;
     case GOIF: return forwards ? at + 1 + v % (words_made - at) : v % (words_made + 1);
     case EVENT: return v % EVENTS;
     default: return v;
@@ -233,7 +237,7 @@ static uint32_t field_v(uint32_t kind, uint32_t at, int forwards)
 
 static uint64_t make_word(uint32_t kind, uint32_t at, int forwards, uint32_t harm)
 {
-    uint32_t d = below(15), a = below(15), b = below(15), c = below(4), v = field_v(kind, at, forwards);
+    uint32_t d = below(REGISTERS), a = below(REGISTERS), b = below(REGISTERS), c = below(CONDITIONS), v = field_v(kind, at, forwards);
     uint32_t fields = chance(harm) ? ALL_FIELDS : fields_of[kind];
     uint64_t word = kind;
     if (fields & FIELD_D) word |= d << SHIFT_D;
@@ -340,16 +344,18 @@ static struct installed make_installed(uint8_t *table)
     return policy;
 }
 
+enum { SHORT_RUN = 40, LONG_RUN = 3000 };
+
 /* What a run is lent beside machine and memory. */
 struct lent {
     uint32_t cells, budget, readings, log;
 };
 
-static struct lent make_lent(uint32_t most_budget)
+static struct lent make_lent(void)
 {
     struct lent lent;
     lent.cells = cells_lent();
-    lent.budget = below(chance(OFTEN) ? 40 : most_budget);
+    lent.budget = below(chance(OFTEN) ? SHORT_RUN : LONG_RUN);
     lent.readings = at_most(READINGS);
     lent.log = at_most(LOG);
     fill(readings, lent.readings);
@@ -369,7 +375,7 @@ static void harm_bytes(uint8_t *bytes)
 static void call_write_and_read(uint8_t *bytes)
 {
     struct hemdroas_answer answer;
-    uint32_t room = room_for(2 + 9 * words_made, BYTES);
+    uint32_t room = room_for(COUNT_BYTES + MOST_BYTES_A_WORD * words_made, BYTES);
     hemdroas_write(LENT(words, words_made), LENT(bytes, room), &answer);
     answered(WRITE, answer), mix_bytes(bytes, room);
     if (answer.number) {
@@ -399,7 +405,7 @@ static void call_load(const uint8_t *bytes)
 
 static void call_preview_and_run(void)
 {
-    struct lent lent = make_lent(3000);
+    struct lent lent = make_lent();
     struct hemdroas_run_answer answer;
     uint32_t spare = chance(SELDOM) ? size(HEMDROAS_MOST_CELLS) : lent.cells;
     damage(&machine, sizeof machine / sizeof(uint32_t), SELDOM);
@@ -469,7 +475,7 @@ static void call_engine(uint32_t times)
     struct hemdroas_engine_answer answer;
     engine = (struct hemdroas_engine){{0}, 0, 0};
     while (times--) {
-        struct lent lent = make_lent(2000);
+        struct lent lent = make_lent();
         damage(&engine, sizeof engine / sizeof(uint32_t), SELDOM);
         hemdroas_engine_run(&layout, LENT(words, words_made), &engine, LENT(memory, lent.cells), lent.budget,
                             LENT(readings, lent.readings), LENT(event_log, lent.log), &answer);
