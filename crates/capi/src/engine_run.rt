@@ -93,7 +93,7 @@ pub extern "C" fn hemdroas_engine_continue(
     let lay = layout_of(layout);
     let given = *engine;
     let m = engine_of(given);
-    let out = engine::resume(lay, words, m, memory, budget, readings, log);
-    *engine = record_after(out.engine, given);
-    *answer = answer_of(out.answer, out.steps, out.pairs, out.used);
+    let went = engine::resume(lay, words, m, memory, budget, readings, log);
+    *engine = record_after(went.engine, given);
+    *answer = answer_of(went.answer, went.steps, went.pairs, went.used);
 }

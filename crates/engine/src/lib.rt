@@ -183,8 +183,8 @@ pub fn resume(
     ensures { λ r. ⌜ runResultOf r (now (memory .exit)) (now (log .exit)) ≡ continueOf layout (now (words .entry)) engine (now (memory .entry)) budget (now (readings .entry)) (now (log .entry)) ⌝ }
 {
     let answer = crate::refusal::continue_refusal(layout, words, memory.len());
-    let refused = answer.number;
-    if refused == Refusal::TAKEN {
+    let number = answer.number;
+    if number == Refusal::TAKEN {
         return run_on(layout, words, 0, engine, memory, budget, readings, log);
     }
     unchanged(engine, answer)

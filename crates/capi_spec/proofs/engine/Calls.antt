@@ -19,7 +19,7 @@ use Rattle.spec.proofs.Bools.{both, cond-ind}
 use Rattle.spec.proofs.Conditions.{fits-of, installs}
 use Rattle.sandbox_spec.proofs.Loading.{loads}
 use Rattle.capi_spec.specs.Numbers.{layoutFrom}
-use Rattle.capi_spec.specs.Hosts.{installFor, loadFor, HostResult}
+use Rattle.capi_spec.specs.Hosts.{installFor, loadFor, HostResult, hostAfter}
 use Rattle.capi_spec.specs.Claims.{callsOf, SameCalls}
 use Rattle.capi_spec.proofs.Numbers.{comes-back, called}
 use Rattle.spec.proofs.Counts.{apply-regs}
@@ -128,7 +128,8 @@ module _ (lay ws : List ℕ) (e : firstRefused (refusalAt (length ws)) ws 0 (ans
   same-entry : (n : Entry) (xs mem : List ℕ) (budget : ℕ) (rd log : List ℕ) → entryFor n lay ws xs mem budget rd log ≡ engineFor lay ws xs mem budget rd log
   unfolding entryFor engineFor continueFor
   same-entry judgesAll xs mem budget rd log = refl
-  same-entry judgesReached xs mem budget rd log = rw (entries-agree (layoutFrom lay) ws (engineFrom xs) mem budget rd log e)
+  same-entry judgesReached xs mem budget rd log =
+      ap (λ (r : RunResult). hostAfter guestRegisters xs (resultTo r)) (entries-agree (layoutFrom lay) ws (engineFrom xs) mem budget rd log e)
 
   same-entries : (ys : List ℕ) (xs : List Call) → callsOf (entryCall lay ws) ys xs ≡ callsOf (engineCall lay ws) ys (inputsOf xs)
   unfolding callsOf
