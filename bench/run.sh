@@ -8,9 +8,10 @@ cd "$(dirname "$0")/.."
 [ -n "${BUILT:-}" ] || rt staticlib capi > /dev/null
 made=target/bench
 mkdir -p $made
-for peer in machine engine; do gcc -O2 -Wall -Wextra -c bench/$peer.c -o $made/$peer.o; done
-gcc -O2 -Wall -Wextra -Iinclude bench/main.c $made/machine.o target/staticlib/libcapi.a -o $made/bench
-gcc -O2 -Wall -Wextra -Iinclude bench/engines.c $made/engine.o target/staticlib/libcapi.a -o $made/engines
+# At fixed addresses: at random ones the C peers' jumps are at times predicted badly, four times slower and more.
+for peer in machine engine; do gcc -O2 -fno-pie -Wall -Wextra -c bench/$peer.c -o $made/$peer.o; done
+gcc -O2 -no-pie -Wall -Wextra -Iinclude bench/main.c $made/machine.o target/staticlib/libcapi.a -o $made/bench
+gcc -O2 -no-pie -Wall -Wextra -Iinclude bench/engines.c $made/engine.o target/staticlib/libcapi.a -o $made/engines
 for m in stack growth; do gcc -O2 -Wall -Wextra -Wl,-z,now -Iinclude bench/$m.c target/staticlib/libcapi.a -o $made/$m; done
 
 # the least ns of some rounds of a command

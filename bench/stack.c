@@ -75,6 +75,10 @@ static void call_engine_run(void)
 {
     hemdroas_engine_run(&layout, words, word_count, &engine, memory, cells, BUDGET, readings, READINGS, event_log, LOG, &stepped);
 }
+static void call_engine_continue(void)
+{
+    hemdroas_engine_continue(&layout, words, word_count, &engine, memory, cells, BUDGET, readings, READINGS, event_log, LOG, &stepped);
+}
 static void call_precedence(void) { hemdroas_precedence(pairs, pair_count, made_table, room_of(TABLE), &ordered); }
 static void call_determinise(void)
 {
@@ -241,6 +245,10 @@ static const struct row rows[] = {
     {"engine_run", call_engine_run, &stepped.ending, wrong_layout, HEMDROAS_BAD_LAYOUT},
     {"engine_run", call_engine_run, &stepped.ending, wrong_kind, HEMDROAS_UNKNOWN_VARIETY},
     {"engine_run", call_engine_run, &stepped.ending, wrong_jump, HEMDROAS_BAD_LANDING},
+    {"engine_continue", call_engine_continue, &stepped.ending, right, HEMDROAS_ENDING_LOG_FULL},
+    {"engine_continue", call_engine_continue, &stepped.ending, endless, HEMDROAS_ENDING_SPENT},
+    {"engine_continue", call_engine_continue, &stepped.ending, wrong_layout, HEMDROAS_BAD_LAYOUT},
+    {"engine_continue", call_engine_continue, &stepped.ending, wrong_kind, HEMDROAS_ENDING_FAULT},
     {"precedence", call_precedence, &ordered.number, right, HEMDROAS_TAKEN},
     {"precedence", call_precedence, &ordered.number, wrong_pair, HEMDROAS_BAD_PAIR},
     {"precedence", call_precedence, &ordered.number, small_room, HEMDROAS_SMALL_HOPPER},
