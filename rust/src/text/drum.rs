@@ -1,145 +1,287 @@
-//! Drum files: a layout, its landings and ceilings, and names of events.
+//! Drum files: a layout, its landings, ceilings and scales, and names of events.
 
-use super::{at, fault, lines, number, quoted, Fault, Names, Parsed};
-use crate::names::{MOST_BUNDLES, ORDERS, UNLIMITED};
+use super::said::{lines, quoted, Fault, Faults, Parsed, Place, Said};
+use super::{number, Names};
+use crate::names::{EVENTS, MOST_BUNDLES, ORDERS, UNLIMITED};
 use crate::{Ceilings, Layout};
+
+/// Where a GOX may go on.
+#[derive(Clone, Debug, PartialEq, Eq)]
+pub enum Landings {
+    /// The landings that the file lists, in its order, each with its place.
+    Listed(Vec<(u32, Place)>),
+    /// The landings that the routine's text marks.
+    Routine,
+}
+
+impl Landings {
+    /// The landings for a routine that marks these itself.
+    pub fn of(&self, marked: &[u32]) -> Vec<u32> {
+        match self {
+            Landings::Listed(listed) => listed.iter().map(|&(landing, _)| landing).collect(),
+            Landings::Routine => marked.to_vec(),
+        }
+    }
+}
+
+/// For each event the number that a person's 1 stands for: 10 where readings
+/// are tenths.
+pub type Scales = [u32; EVENTS as usize];
+
+/// The layout's numbers, in the rules' order.
+pub const LETTERS: [&str; 8] = ["U", "SL", "SH", "M", "P", "S", "B", "Q"];
+
+/// The place of S among the letters. It may be left out.
+const STATES: usize = 5;
+
+/// The scales that a line may say.
+const KNOWN_SCALES: [u32; 4] = [1, 10, 100, 1000];
 
 /// What a drum file says.
 #[derive(Clone, Debug, PartialEq, Eq)]
 pub struct Drum {
-    /// Where everything lies, and the ceilings of the orders.
+    /// Where everything lies, and the ceilings of the orders. Where the file
+    /// leaves S out, it is 1.
     pub layout: Layout,
-    /// The landings, in the order in which they are listed.
-    pub landings: Vec<u32>,
-    /// The line of each landing.
-    pub landing_lines: Vec<usize>,
-    /// The line of B.
-    pub base_line: usize,
+    /// Whether S is the policy's, for the file leaves it out.
+    pub takes_states: bool,
+    /// The place of each of the layout's letters.
+    pub places: [Place; LETTERS.len()],
+    /// The landings.
+    pub landings: Landings,
     /// The names of events.
     pub names: Names,
+    /// The scales of events.
+    pub scales: Scales,
 }
 
-/// The layout's numbers, in the rules' order.
-const LETTERS: [&str; 8] = ["U", "SL", "SH", "M", "P", "S", "B", "Q"];
-
-/// Landings as they are listed: numbers, and ranges such as 3-7.
-fn add_landings(words: &[&str], landings: &mut Vec<u32>) -> Result<(), String> {
-    let top = MOST_BUNDLES as u32 - 1;
-    match words {
-        ["all"] => landings.extend(0..=top),
-        ["none"] => (),
-        _ => {
-            for word in words {
-                match word.split_once('-') {
-                    Some((low, high)) if !low.is_empty() => {
-                        let (low, high) = (number(low)?, number(high)?);
-                        if low > high || high > top {
-                            return Err(format!("{} is no range up to {top}", quoted(word)));
-                        }
-                        landings.extend(low..=high);
-                    }
-                    _ => landings.push(number(word)?),
-                }
-                // As many numbers cannot rise: no need to keep more for the library to refuse.
-                landings.truncate(2 * MOST_BUNDLES);
-            }
+impl Drum {
+    /// The layout for a policy of so many states.
+    pub fn layout_for(&self, states: u32) -> Layout {
+        let states = if self.takes_states {
+            states
+        } else {
+            self.layout.states
+        };
+        Layout {
+            states,
+            ..self.layout
         }
     }
-    Ok(())
+}
+
+/// Landings as a drum's file lists them: numbers, and ranges such as 3-7.
+fn landings_of(word: &str) -> Result<Vec<u32>, String> {
+    let top = MOST_BUNDLES as u32 - 1;
+    match word.split_once('-') {
+        _ if word == "all" => Ok((0..=top).collect()),
+        _ if word == "none" => Ok(Vec::new()),
+        Some((low, high)) if !low.is_empty() => {
+            let (low, high) = (number(low)?, number(high)?);
+            match low <= high && high <= top {
+                true => Ok((low..=high).collect()),
+                false => Err(format!("{} is no range up to {top}", quoted(word))),
+            }
+        }
+        _ => Ok(vec![number(word)?]),
+    }
+}
+
+/// A rising list of landings, as a drum's file lists it.
+pub fn landings_text(landings: &[u32]) -> String {
+    if landings.is_empty() {
+        return "none".to_string();
+    }
+    if landings.len() == MOST_BUNDLES {
+        return "all".to_string();
+    }
+    let mut runs: Vec<(u32, u32)> = Vec::new();
+    for &landing in landings {
+        match runs.last_mut() {
+            Some((_, last)) if *last + 1 == landing => *last = landing,
+            _ => runs.push((landing, landing)),
+        }
+    }
+    let run = |&(first, last): &(u32, u32)| match first == last {
+        true => first.to_string(),
+        false => format!("{first}-{last}"),
+    };
+    runs.iter().map(run).collect::<Vec<_>>().join(" ")
 }
 
 /// The ceiling of an order, said in a drum's or a policy's file.
 pub(super) fn set_ceiling(
     ceilings: &mut Ceilings,
     names: &Names,
-    event: &str,
-    most: &str,
-) -> Result<(), String> {
-    let order = names.event(event)?;
+    event: Said,
+    most: Said,
+) -> Result<(), Fault> {
+    let order = event.check(names.known_event(event.text))?;
     match ceilings.get_mut(order as usize) {
-        Some(ceiling) if *ceiling != u32::MAX => {
-            Err(format!("the ceiling of {} stands twice", quoted(event)))
-        }
+        Some(ceiling) if *ceiling != u32::MAX => Err(event.fault(format!(
+            "the ceiling of {} stands twice",
+            quoted(event.text)
+        ))),
         Some(ceiling) => {
-            *ceiling = number(most)?;
+            *ceiling = most.check(number(most.text))?;
             Ok(())
         }
-        None => Err(format!(
+        None => Err(event.fault(format!(
             "{} is no order: they are 0 to {}",
-            quoted(event),
+            quoted(event.text),
             ORDERS - 1
-        )),
+        ))),
+    }
+}
+
+/// The names that the `event` lines of a file add to those that are given.
+pub(super) fn event_names(said: &[Vec<Said>], given: &Names, faults: &mut Faults) -> Names {
+    let mut names = given.clone();
+    for words in said {
+        if let [keyword, event, name] = words[..] {
+            if keyword.text == "event" {
+                let added = names.add(event.text, name.text);
+                let at = if number(event.text).is_ok_and(|event| event < EVENTS) {
+                    name
+                } else {
+                    event
+                };
+                faults.keep(at.check(added));
+            }
+        }
+    }
+    names
+}
+
+/// A drum file, as its lines are read.
+struct Reader {
+    numbers: [Option<(u32, Place)>; LETTERS.len()],
+    landings: Option<Landings>,
+    ceilings: Ceilings,
+    scales: Scales,
+    names: Names,
+}
+
+impl Reader {
+    /// Takes a line.
+    fn line(&mut self, words: &[Said]) -> Result<(), Fault> {
+        let texts: Vec<&str> = words.iter().map(|word| word.text).collect();
+        match texts[..] {
+            ["event", _, _] => Ok(()),
+            ["landings", _, ..] => self.landings(words),
+            ["ceiling", _, _] => {
+                set_ceiling(&mut self.ceilings, &self.names, words[1], words[2])
+            }
+            ["scale", _, _] => self.scale(words[1], words[2]),
+            [letter, _] if LETTERS.contains(&letter) => self.number(words[0], words[1]),
+            _ => Err(words[0].fault(format!(
+                "{} begins no line of a drum: they are U 1024 (or SL SH M P S B Q), landings 0 3 8-15, \
+                 ceiling EVENT 100, scale EVENT 10, event 0 NAME",
+                quoted(words[0].text)
+            ))),
+        }
+    }
+
+    fn number(&mut self, letter: Said, value: Said) -> Result<(), Fault> {
+        let place = LETTERS.iter().position(|&known| known == letter.text);
+        let slot = &mut self.numbers[place.unwrap_or(0)];
+        if slot.is_some() {
+            return Err(letter.fault(format!("{} stands twice", letter.text)));
+        }
+        *slot = Some((0, value.place()));
+        let number = value.check(number(value.text))?;
+        *slot = Some((number, value.place()));
+        Ok(())
+    }
+
+    fn landings(&mut self, words: &[Said]) -> Result<(), Fault> {
+        let is_routine = words[1].text == "routine";
+        let alone = "'landings routine' stands alone, without other landings";
+        match &mut self.landings {
+            None if is_routine && words.len() == 2 => self.landings = Some(Landings::Routine),
+            Some(Landings::Routine) => return Err(words[1].fault(alone)),
+            _ if is_routine => return Err(words[1].fault(alone)),
+            None => self.landings = Some(Landings::Listed(Vec::new())),
+            Some(Landings::Listed(_)) => (),
+        }
+        if let Some(Landings::Listed(listed)) = &mut self.landings {
+            for word in &words[1..] {
+                let more = word.check(landings_of(word.text))?;
+                listed.extend(more.into_iter().map(|landing| (landing, word.place())));
+                // As many numbers cannot rise: no need to keep more for the library to refuse.
+                listed.truncate(2 * MOST_BUNDLES);
+            }
+        }
+        Ok(())
+    }
+
+    fn scale(&mut self, event: Said, scale: Said) -> Result<(), Fault> {
+        let number = event.check(self.names.known_event(event.text))? as usize;
+        let known = KNOWN_SCALES
+            .iter()
+            .find(|known| known.to_string() == scale.text);
+        let Some(&known) = known else {
+            return Err(scale.fault("a scale is 1, 10, 100 or 1000"));
+        };
+        if self.scales[number] != 0 {
+            return Err(event.fault(format!("the scale of {} stands twice", quoted(event.text))));
+        }
+        self.scales[number] = known;
+        Ok(())
+    }
+
+    /// The drum, if nothing is missing.
+    fn drum(self, faults: &mut Faults) -> Option<Drum> {
+        let whole = |message: String| Fault::new(Place::default(), message);
+        for (letter, number) in LETTERS.iter().zip(&self.numbers) {
+            if number.is_none() && *letter != LETTERS[STATES] {
+                faults.add(whole(format!("{letter} is missing")));
+            }
+        }
+        if self.landings.is_none() {
+            let message = "landings are missing: all, none, routine or a list";
+            faults.add(whole(message.to_string()));
+        }
+        let given = |place: usize| self.numbers[place].map_or(1, |(number, _)| number);
+        let layout = Layout {
+            size: given(0),
+            low: given(1),
+            high: given(2),
+            cell: given(3),
+            table: given(4),
+            states: given(STATES),
+            base: given(6),
+            landings: given(7),
+            ceilings: self.ceilings,
+        };
+        Some(Drum {
+            layout,
+            takes_states: self.numbers[STATES].is_none(),
+            places: self
+                .numbers
+                .map(|number| number.map_or(Place::default(), |(_, place)| place)),
+            landings: self.landings?,
+            names: self.names,
+            scales: self.scales.map(|scale| scale.max(1)),
+        })
     }
 }
 
 /// The drum of a drum file's text.
 pub fn drum(text: &[u8]) -> Parsed<Drum> {
-    let said = lines(text)?;
-    let mut names = Names::default();
-    for &(line, words) in &said {
-        if let ["event", event, name] = words.split_whitespace().collect::<Vec<_>>()[..] {
-            at(line, names.add(event, name))?;
-        }
-    }
-    let mut numbers = [None; LETTERS.len()];
-    let mut landings: Option<Vec<u32>> = None;
-    let mut landing_lines = Vec::new();
-    let mut base_line = 0;
-    let mut ceilings = UNLIMITED;
-    for &(line, words) in &said {
-        let words: Vec<&str> = words.split_whitespace().collect();
-        match words[..] {
-            ["event", _, _] => (),
-            ["landings", ref listed @ ..] if !listed.is_empty() => {
-                let landings = landings.get_or_insert_with(Vec::new);
-                at(line, add_landings(listed, landings))?;
-                landing_lines.resize(landings.len(), line);
-            }
-            ["ceiling", event, most] => {
-                at(line, set_ceiling(&mut ceilings, &names, event, most))?;
-            }
-            [letter, value] if LETTERS.contains(&letter) => {
-                let place = LETTERS.iter().position(|&known| known == letter);
-                let slot = &mut numbers[place.unwrap_or(0)];
-                if slot.is_some() {
-                    return fault(line, format!("{letter} stands twice"));
-                }
-                *slot = Some(at(line, number(value))?);
-                if letter == "B" {
-                    base_line = line;
-                }
-            }
-            _ => {
-                let message = "neither a number of the layout (U SL SH M P S B Q) nor landings, \
-                               ceiling or event";
-                return fault(line, message);
-            }
-        }
-    }
-    let given = |place: usize| {
-        numbers[place].ok_or_else(|| Fault {
-            line: 0,
-            message: format!("{} is missing", LETTERS[place]),
-        })
-    };
-    let Some(landings) = landings else {
-        return fault(0, "landings are missing: all, none or a list");
-    };
-    Ok(Drum {
-        layout: Layout {
-            size: given(0)?,
-            low: given(1)?,
-            high: given(2)?,
-            cell: given(3)?,
-            table: given(4)?,
-            states: given(5)?,
-            base: given(6)?,
-            landings: given(7)?,
-            ceilings,
-        },
-        landings,
-        landing_lines,
-        base_line,
+    let mut faults = Faults::default();
+    let said: Vec<Vec<Said>> = lines(text, &mut faults).iter().map(Said::words).collect();
+    let names = event_names(&said, &Names::default(), &mut faults);
+    let mut reader = Reader {
+        numbers: [None; LETTERS.len()],
+        landings: None,
+        ceilings: UNLIMITED,
+        scales: [0; EVENTS as usize],
         names,
-    })
+    };
+    for words in &said {
+        faults.keep(reader.line(words));
+    }
+    let drum = reader.drum(&mut faults);
+    faults.or(drum)
 }

@@ -1,10 +1,11 @@
 //! Names of events.
 
-use super::{is_name, number, quoted};
+use super::number;
+use super::said::{hint, is_name, quoted};
 use crate::names::EVENTS;
 
 /// Words of the files that cannot name an event.
-const KEYWORDS: [&str; 9] = [
+const KEYWORDS: [&str; 11] = [
     "others",
     "start",
     "state",
@@ -14,6 +15,8 @@ const KEYWORDS: [&str; 9] = [
     "ceiling",
     "before",
     "landings",
+    "scale",
+    "cell",
 ];
 
 /// The names of the sixteen events, of which any may have none.
@@ -34,7 +37,22 @@ impl Names {
         let named = |name: &Option<String>| name.as_deref() == Some(word);
         match self.0.iter().position(named) {
             Some(event) => Ok(event as u32),
-            None => Err(format!("no event is named {}", quoted(word))),
+            None => {
+                let known = self.0.iter().flatten().map(String::as_str);
+                let near = match self.0.iter().any(Option::is_some) {
+                    true => hint(word, known),
+                    false => "; a drum's file gives the names, --drum DRUM".to_string(),
+                };
+                Err(format!("no event is named {}{near}", quoted(word)))
+            }
+        }
+    }
+
+    /// The event of a name or a number that is one.
+    pub fn known_event(&self, word: &str) -> Result<u32, String> {
+        match self.event(word)? {
+            event if event < EVENTS => Ok(event),
+            event => Err(format!("{event} is no event: they are 0 to {}", EVENTS - 1)),
         }
     }
 
@@ -56,10 +74,7 @@ impl Names {
 
     /// Names an event. It has one name, and a name one event.
     pub fn add(&mut self, event: &str, name: &str) -> Result<(), String> {
-        let event = number(event)?;
-        if event >= EVENTS {
-            return Err(format!("{event} is no event: they are 0 to {}", EVENTS - 1));
-        }
+        let event = number(event).and_then(|_| self.known_event(event))?;
         if !is_name(name) || KEYWORDS.contains(&name) {
             return Err(format!("{} cannot be a name", quoted(name)));
         }

@@ -1,14 +1,12 @@
 //! Policy files: states and their arrows, a drawing with several arrows, or
 //! pairs of events.
 
-use super::drum::set_ceiling;
-use super::{at, fault, is_name, lines, quoted, Names, Parsed};
-use crate::names::{EVENTS, MOST_STATES, NO_ARROW, ORDERS, UNLIMITED};
+use super::drum::{event_names, set_ceiling};
+use super::said::{lines, quoted, Fault, Faults, Parsed, Place, Said};
+use super::states::States;
+use super::Names;
+use crate::names::{EVENTS, NO_ARROW, ORDERS, UNLIMITED};
 use crate::{Ceilings, Policy};
-
-/// More states than this in a file are no policy that could be refused with its
-/// number: the mark of no arrow would be one of them.
-const MOST_NAMED: usize = 200;
 
 /// A policy with the names of its states.
 #[derive(Clone, Debug, PartialEq, Eq)]
@@ -65,187 +63,110 @@ pub struct PolicyFile {
     pub form: Form,
     /// The most that each order records, as far as the file says.
     pub ceilings: Ceilings,
-    /// The line of each pair, where the file holds pairs.
-    pub pair_lines: Vec<usize>,
+    /// The place of each pair, where the file holds pairs.
+    pub pairs: Vec<Place>,
     /// The names of events: those given, and those of the file.
     pub names: Names,
 }
 
-/// The lines of a file that concern states, in their order.
-#[derive(Default)]
-struct States<'a> {
-    is_drawing: bool,
-    names: Vec<&'a str>,
-    starts: Option<(usize, Vec<&'a str>)>,
-    /// Line, state, event or `others`, successors.
-    arrows: Vec<(usize, usize, &'a str, Vec<&'a str>)>,
+/// A policy file, as its lines are read.
+struct Reader<'a> {
+    names: Names,
+    ceilings: Ceilings,
+    states: States<'a>,
+    /// The events of the pairs, two and two, where the file has pairs.
+    events: Option<Vec<u8>>,
+    pairs: Vec<Place>,
 }
 
-impl States<'_> {
-    fn number(&self, name: &str) -> Result<usize, String> {
-        let found = self.names.iter().position(|&known| known == name);
-        found.ok_or_else(|| format!("no state is named {}", quoted(name)))
-    }
-
-    fn numbers(&self, line: usize, listed: &[&str]) -> Parsed<Vec<usize>> {
-        match listed {
-            ["none"] => Ok(Vec::new()),
-            _ => {
-                let numbers = listed.iter().map(|&name| at(line, self.number(name)));
-                numbers.collect()
+impl<'a> Reader<'a> {
+    /// Takes a line.
+    fn line(&mut self, words: &[Said<'a>]) -> Result<(), Fault> {
+        let texts: Vec<&str> = words.iter().map(|word| word.text).collect();
+        match texts[..] {
+            ["event", _, _] => Ok(()),
+            ["ceiling", _, _] => {
+                set_ceiling(&mut self.ceilings, &self.names, words[1], words[2])
             }
+            ["drawing"] => {
+                self.states.is_drawing = true;
+                Ok(())
+            }
+            ["everything"] => {
+                self.events.get_or_insert_with(Vec::new);
+                Ok(())
+            }
+            [_, "before", _] => self.pair(words[0], words[2]),
+            ["state", _] => self.states.state(words[1]),
+            ["start", _, ..] => self.states.start(words),
+            [_, "->", _, ..] => self.states.arrow(words),
+            _ => Err(words[0].fault(format!(
+                "{} begins no line of a policy: they are state NAME, EVENT -> STATE, start STATE, drawing, \
+                 EVENT before EVENT, everything, ceiling EVENT 100, event 0 NAME",
+                quoted(words[0].text)
+            ))),
         }
     }
 
-    fn starts(&self) -> Parsed<Vec<usize>> {
-        match &self.starts {
-            Some((line, listed)) => self.numbers(*line, listed),
-            None => Ok(vec![0]),
+    fn pair(&mut self, first: Said, second: Said) -> Result<(), Fault> {
+        let mut pair = Vec::new();
+        for said in [first, second] {
+            let event = said.check(self.names.event(said.text))?;
+            // One above 15 is the library's to refuse.
+            let short = u8::try_from(event).map_err(|_| format!("{event} is no event"));
+            pair.push(said.check(short)?);
         }
-    }
-
-    /// For each state and event the successors, in a list of 16 × states.
-    fn successors(&self, names: &Names) -> Parsed<Vec<Vec<usize>>> {
-        let row = EVENTS as usize;
-        let mut found: Vec<Option<Vec<usize>>> = vec![None; row * self.names.len()];
-        let mut others: Vec<Option<Vec<usize>>> = vec![None; self.names.len()];
-        for (line, state, event, listed) in &self.arrows {
-            let numbers = self.numbers(*line, listed)?;
-            let slot = match *event {
-                "others" => &mut others[*state],
-                event => {
-                    let event = at(*line, names.event(event))?;
-                    if event >= EVENTS {
-                        let top = EVENTS - 1;
-                        return fault(*line, format!("{event} is no event: they are 0 to {top}"));
-                    }
-                    &mut found[row * state + event as usize]
-                }
-            };
-            match slot {
-                Some(known) if self.is_drawing => known.extend(numbers),
-                Some(_) => return fault(*line, format!("{} stands twice here", quoted(event))),
-                None => *slot = Some(numbers),
-            }
-            if !self.is_drawing && slot.as_ref().is_some_and(|known| known.len() > 1) {
-                let message = "several arrows: a file that has them says 'drawing' first";
-                return fault(*line, message);
-            }
-        }
-        let filled = found.into_iter().enumerate().map(|(place, known)| {
-            let rest = || others[place / row].clone().unwrap_or_default();
-            known.unwrap_or_else(rest)
+        self.events.get_or_insert_with(Vec::new).extend(pair);
+        let (from, to) = (first.place(), second.place());
+        self.pairs.push(Place {
+            length: to.column + to.length - from.column,
+            ..from
         });
-        Ok(filled.collect())
+        Ok(())
     }
 
-    fn form(&self, names: &Names) -> Parsed<Form> {
-        let successors = self.successors(names)?;
-        let starts = self.starts()?;
-        let states: Vec<String> = self.names.iter().map(|name| name.to_string()).collect();
-        if self.is_drawing {
-            // A state that has no bit is one of too many: the library refuses their count.
-            let map = |states: &Vec<usize>| {
-                let bits = states.iter().filter(|&&state| state < MOST_STATES as usize);
-                bits.fold(0u16, |map, state| map | 1 << state)
-            };
-            return Ok(Form::Drawing {
-                states,
-                starts: u32::from(map(&starts)),
-                arrows: successors.iter().map(map).collect(),
-            });
+    /// The form that the lines have.
+    fn form(&self, faults: &mut Faults) -> Option<Form> {
+        match (&self.events, self.states.is_empty()) {
+            (Some(_), false) => {
+                let place = self.pairs.last().copied().unwrap_or_default();
+                faults.add(Fault::new(place, "states and pairs do not mix"));
+                None
+            }
+            (Some(events), true) => Some(Form::Before(events.clone())),
+            (None, true) => {
+                let message = "no policy: states with arrows, or pairs of events";
+                if faults.is_empty() {
+                    faults.add(Fault::new(Place::default(), message));
+                }
+                None
+            }
+            (None, false) => self.states.form(&self.names, faults),
         }
-        let line = self.starts.as_ref().map_or(0, |(line, _)| *line);
-        let [start] = starts[..] else {
-            return fault(line, "one start, unless the file says 'drawing' first");
-        };
-        let entry = |states: &Vec<usize>| states.first().map_or(NO_ARROW as u8, |&s| s as u8);
-        Ok(Form::States(Table {
-            states,
-            start: start as u32,
-            table: successors.iter().map(entry).collect(),
-        }))
     }
 }
 
 /// The policy of a policy file's text; events may have the names that are given.
 pub fn policy(text: &[u8], given: &Names) -> Parsed<PolicyFile> {
-    let mut names = given.clone();
-    let said = lines(text)?;
-    for &(line, words) in &said {
-        if let ["event", event, name] = words.split_whitespace().collect::<Vec<_>>()[..] {
-            at(line, names.add(event, name))?;
-        }
-    }
-    let mut ceilings = UNLIMITED;
-    let mut states = States::default();
-    let mut pairs = None;
-    let mut pair_lines = Vec::new();
-    for &(line, words) in &said {
-        let words: Vec<&str> = words.split_whitespace().collect();
-        match words[..] {
-            ["event", _, _] => (),
-            ["ceiling", event, most] => at(line, set_ceiling(&mut ceilings, &names, event, most))?,
-            ["drawing"] => states.is_drawing = true,
-            ["everything"] => {
-                pairs.get_or_insert_with(Vec::new);
-            }
-            [first, "before", second] => {
-                pair_lines.push(line);
-                for event in [first, second] {
-                    let event = at(line, names.event(event))?;
-                    match u8::try_from(event) {
-                        Ok(event) => pairs.get_or_insert_with(Vec::new).push(event),
-                        Err(_) => return fault(line, format!("{event} is no event")),
-                    }
-                }
-            }
-            ["state", name] => {
-                if !is_name(name) || name == "none" {
-                    return fault(line, format!("{} cannot be a name", quoted(name)));
-                }
-                if states.names.contains(&name) {
-                    return fault(line, format!("the state {} stands twice", quoted(name)));
-                }
-                if states.names.len() == MOST_NAMED {
-                    return fault(line, "too many states: a policy has 1 to 16");
-                }
-                states.names.push(name);
-            }
-            ["start", ref listed @ ..] if !listed.is_empty() => {
-                if states.starts.is_some() {
-                    return fault(line, "a second line with the start");
-                }
-                states.starts = Some((line, listed.to_vec()));
-            }
-            [event, "->", ref listed @ ..] if !listed.is_empty() => {
-                let Some(state) = states.names.len().checked_sub(1) else {
-                    return fault(line, "an arrow stands under its state");
-                };
-                states.arrows.push((line, state, event, listed.to_vec()));
-            }
-            _ => {
-                let message = "none of: state NAME, EVENT -> STATE, start STATE, drawing, \
-                               EVENT before EVENT, everything, ceiling EVENT NUMBER, event NUMBER NAME";
-                return fault(line, message);
-            }
-        }
-    }
-    let form = match (pairs, states.names.is_empty()) {
-        (Some(_), false) => {
-            let line = pair_lines.last().copied().unwrap_or(0);
-            return fault(line, "states and pairs do not mix");
-        }
-        (Some(pairs), true) => Form::Before(pairs),
-        (None, true) => return fault(0, "no policy: states with arrows, or pairs of events"),
-        (None, false) => states.form(&names)?,
+    let mut faults = Faults::default();
+    let said: Vec<Vec<Said>> = lines(text, &mut faults).iter().map(Said::words).collect();
+    let mut reader = Reader {
+        names: event_names(&said, given, &mut faults),
+        ceilings: UNLIMITED,
+        states: States::default(),
+        events: None,
+        pairs: Vec::new(),
     };
-    Ok(PolicyFile {
+    for words in &said {
+        faults.keep(reader.line(words));
+    }
+    let form = reader.form(&mut faults);
+    faults.or(form.map(|form| PolicyFile {
         form,
-        ceilings,
-        pair_lines,
-        names,
-    })
+        ceilings: reader.ceilings,
+        pairs: reader.pairs,
+        names: reader.names,
+    }))
 }
 
 /// The text of a policy, that [`policy`] takes back.

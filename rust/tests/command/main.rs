@@ -58,22 +58,60 @@ impl Came {
 
     /// It did what it was asked and printed this.
     fn printed(&self, status: i32, out: &str) {
-        assert_eq!((self.out.as_str(), self.status), (out, status), "{}", self.error);
+        assert_eq!(
+            (self.out.as_str(), self.status),
+            (out, status),
+            "{}",
+            self.error
+        );
     }
 
-    /// It refused with this on standard error, and printed nothing.
+    /// It ended with a status and this on standard error, in which * stands for
+    /// anything within a line.
+    fn ended(&self, status: i32, said: &str) {
+        assert_eq!(self.status, status, "{}", self.error);
+        let has = |line: &str| {
+            let mut rest = Some(line);
+            for part in said.split('*') {
+                rest = rest.and_then(|rest| Some(&rest[rest.find(part)? + part.len()..]));
+            }
+            rest.is_some()
+        };
+        let found = self.error.lines().any(has);
+        assert!(found, "{said}\nis not in\n{}", self.error);
+    }
+
+    /// It refused with this on standard error, and printed nothing, but for the
+    /// line that check has for each file.
     fn refused(&self, said: &str) {
-        assert_eq!((self.out.as_str(), self.status), ("", 1), "{}", self.error);
-        assert!(self.error.contains(said), "{said}\nis not in\n{}", self.error);
+        self.ended(1, said);
+        assert!(
+            self.out.is_empty() || self.out.contains(": refused"),
+            "{}",
+            self.out
+        );
     }
 }
 
-impl Came {
-    /// It refused after it had printed this.
-    fn refused_after(&self, out: &str, said: &str) {
-        assert_eq!((self.out.as_str(), self.status), (out, 1), "{}", self.error);
-        assert!(self.error.contains(said), "{said}\nis not in\n{}", self.error);
-    }
+/// What a terminal would show: both outputs in one, with so much typed in.
+fn transcript(name: &str, args: &[&str], input: &str) -> (i32, String) {
+    let path = folder(name).join("shown");
+    let shown = fs::File::create(&path).expect("a file can be made");
+    let mut child = Command::new(env!("CARGO_BIN_EXE_hemdroas"))
+        .args(args)
+        .current_dir(examples())
+        .stdin(Stdio::piped())
+        .stdout(shown.try_clone().expect("a file has two ends"))
+        .stderr(shown)
+        .spawn()
+        .expect("the command starts");
+    let mut stdin = child.stdin.take().expect("standard input is piped");
+    let _ = stdin.write_all(input.as_bytes());
+    drop(stdin);
+    let status = child.wait().expect("the command ends");
+    let shown = fs::read_to_string(path).expect("the command prints text");
+    assert!(!shown.contains("panicked"), "{shown}");
+    (status.code().expect("no signal ended the command"), shown)
 }
 
 /// Runs the command in the examples' folder, with so much typed in.

@@ -4,7 +4,7 @@ use crate::common::inputs::{bytes_of, layout_and_routine, some_bytes, SAMPLE, TR
 use crate::common::{cases, say, seed, Rng};
 use crate::{command, file, folder};
 use hemdroas::native::{read, write};
-use hemdroas::text::{assemble, listing, Names};
+use hemdroas::text::{assemble, listing, Listed, Names};
 use hemdroas::{model, Answer};
 use std::fs;
 
@@ -30,9 +30,15 @@ fn there_and_back(rng: &mut Rng, bytes: &[u8]) -> usize {
         panic!("a routine is not read");
     };
     words.truncate(count as usize);
-    let text = listing(&words, &names, |_| Vec::new());
+    let listed = Listed {
+        words: &words,
+        text: None,
+        names: &names,
+        signed: rng.chance(50),
+    };
+    let text = listing(&listed, |_| Vec::new());
     let routine =
-        assemble(text.as_bytes(), &names).unwrap_or_else(|fault| panic!("{fault:?}\n{text}"));
+        assemble(text.as_bytes(), &names).unwrap_or_else(|faults| panic!("{faults:?}\n{text}"));
     assert_eq!(routine.words, words, "{text}");
     let mut again = vec![0; 2 + 10 * 1023];
     let answer = write(&routine.words, &mut again);
@@ -70,12 +76,15 @@ fn jumps_behind_the_end_are_listed_too() {
     let out = file(&folder, "out", "");
     let came = command(&["assemble", &text, "-o", &out]);
     came.printed(0, "");
-    assert!(came.error.contains("instruction 0, line 1: GOIF always, 9"));
+    came.ended(
+        0,
+        "text:1:14: warning: 9 lies behind the routine's end, which is 1*bad landing (8)",
+    );
     assert_eq!(fs::read(&out).unwrap(), bytes);
     command(&["check", &text, "--drum", "sample.drum"])
-        .refused("8 bad landing, instruction 0, line 1");
+        .refused(":1:*refused as bad landing (8), instruction 0");
     command(&["check", &out, "--drum", "sample.drum"])
-        .refused("8 bad landing, instruction 0: GOIF always, 9");
+        .refused("refused as bad landing (8), instruction 0: GOIF always, 9");
 }
 
 #[test]
@@ -92,7 +101,8 @@ fn the_sample() {
     ])
     .printed(0, "");
     assert_eq!(fs::read(&out).unwrap(), SAMPLE);
-    let listed = "    SET r0, 70\n    EVENT 0\n    EVENT 2\n    EVENT 0\n";
+    let listed =
+        "    SET r0, 70  # 0\n    EVENT 0     # 1\n    EVENT 2     # 2\n    EVENT 0     # 3\n";
     command(&["list", &out]).printed(0, listed);
     let bundles = command(&["list", &out, "--drum", "sample.drum", "--bundles"]);
     bundles.printed(0, include_str!("stored/sample.bundles"));
@@ -101,7 +111,7 @@ fn the_sample() {
     command(&["assemble", &text, "--drum", "sample.drum", "-o", &again]).printed(0, "");
     assert_eq!(fs::read(&again).unwrap(), SAMPLE);
     for routine in [&out, "sample.routine"] {
-        let taken = "taken: 4 instructions, 8 bundles, 32 commands at 4096 to 4127";
+        let taken = format!("{routine}: taken: 4 instructions, 8 bundles, 32 commands at 4096 to 4127, landings all");
         command(&["check", routine, "--drum", "sample.drum"]).printed(0, &format!("{taken}\n"));
         command(&[
             "check",
@@ -168,7 +178,7 @@ end:
     ];
     assert_eq!(routine.words, expected);
     assert_eq!(
-        routine.lines,
+        routine.lines(),
         [1, 2, 3, 4, 5, 6, 7, 8, 9, 10, 11, 13, 14, 15, 16, 17, 18, 19]
     );
 }
@@ -179,31 +189,37 @@ fn refusals_of_texts_name_their_line() {
     let said = [
         (
             "SET r15, 1\n",
-            "4 off grade, instruction 0, line 1: SET r15, 1",
+            ":1:*refused as off grade (4), instruction 0",
         ),
         (
             "HALT\n\nSAR r1, r2, 32 # too far\n",
-            "4 off grade, instruction 1, line 3: SAR r1, r2, 32 (",
+            ":3:*refused as off grade (4), instruction 1",
         ),
-        ("EVENT 16\n", "4 off grade, instruction 0, line 1: EVENT 16"),
-        ("SET r16, 1\n", "line 1: 'r16' is no register"),
+        ("EVENT 16\n", ":1:*refused as off grade (4), instruction 0"),
+        ("SET r16, 1\n", ":1:*: error: 'r16' is no register"),
         (
             "SET r1, 4294967296\n",
-            "line 1: '4294967296' has more than 32 bits",
+            ":1:*: error: '4294967296' has more than 32 bits",
         ),
-        ("SET r1, 0x\n", "line 1: '0x' is no number"),
-        ("SET r1 200\n", "line 1: as in 'SET r1, 200'"),
-        ("SET r1, +5\n", "line 1: '+5' is no number"),
-        ("JUMP loop\n", "line 1: 'JUMP' is no instruction"),
-        ("GOIF r1, r2, above, 0\n", "line 1: 'above' is no condition"),
+        ("SET r1, 0x\n", ":1:*: error: '0x' is no number"),
+        (
+            "SET r1 200\n",
+            ":1:8: error: a comma is missing before '200', as in 'SET r1, 200'",
+        ),
+        ("SET r1, +5\n", ":1:*: error: '+5' is no number"),
+        ("JUMP loop\n", ":1:*: error: 'JUMP' is no instruction"),
+        (
+            "GOIF r1, r2, above, 0\n",
+            ":1:*: error: 'above' is no condition",
+        ),
         (
             "GOIF always, nowhere\n",
-            "line 1: no line has the label 'nowhere'",
+            ":1:*: error: no line has the label 'nowhere'",
         ),
-        ("a:\na: HALT\n", "line 2: the label 'a' stands twice"),
-        ("4: HALT\n", "line 1: '4' cannot be a label"),
-        ("EVENT gas\n", "line 1: no event is named 'gas'"),
-        ("HALT r1\n", "line 1: as in 'HALT'"),
+        ("a:\na: HALT\n", ":2:*: error: the label 'a' stands twice"),
+        ("4: HALT\n", ":1:*: error: '4' cannot be a label"),
+        ("EVENT gas\n", ":1:*: error: no event is named 'gas'"),
+        ("HALT r1\n", ":1:6: error: HALT takes no more than 'HALT'"),
     ];
     for (text, expected) in said {
         let path = file(&folder, "text", text);
@@ -216,29 +232,35 @@ fn refusals_of_texts_name_their_line() {
         );
     }
     let long = file(&folder, "long", "HALT\n".repeat(1024));
-    command(&["assemble", &long, "-o", "-"]).refused("5 oversize");
+    command(&["assemble", &long, "-o", "-"]).refused("refused as oversize (5)");
     let fits = file(&folder, "fits", "HALT\n".repeat(1023));
     let out = file(&folder, "fits.bytes", "");
     command(&["assemble", &fits, "-o", &out]).printed(0, "");
-    command(&["list", &out]).printed(0, &"    HALT\n".repeat(1023));
+    let halts: String = (0..1023)
+        .map(|place| format!("    HALT  # {place}\n"))
+        .collect();
+    command(&["list", &out]).printed(0, &halts);
 }
 
 #[test]
 fn refusals_of_bytes_name_their_instruction() {
     let folder = folder("bytes");
     let said: [(&[u8], &str); 10] = [
-        (&[], "1 short weight, instruction 0"),
-        (&[1], "1 short weight, instruction 0"),
-        (b"\n", "1 short weight, instruction 0"),
-        (&[2, 0, 0], "1 short weight, instruction 1"),
-        (&[1, 0, 64], "2 foreign matter, instruction 0"),
-        (&[1, 0, 1, 13], "3 unknown variety, instruction 0"),
-        (&[1, 0, 3, 2, 15], "4 off grade, instruction 0"),
-        (&[0, 4], "5 oversize"),
-        (&[1, 0, 0, 0], "6 overweight"),
+        (&[], "refused as short weight (1), instruction 0"),
+        (&[1], "refused as short weight (1), instruction 0"),
+        (b"\n", "refused as short weight (1), instruction 0"),
+        (&[2, 0, 0], "refused as short weight (1), instruction 1"),
+        (&[1, 0, 64], "refused as foreign matter (2), instruction 0"),
+        (
+            &[1, 0, 1, 13],
+            "refused as unknown variety (3), instruction 0",
+        ),
+        (&[1, 0, 3, 2, 15], "refused as off grade (4), instruction 0"),
+        (&[0, 4], "refused as oversize (5)"),
+        (&[1, 0, 0, 0], "refused as overweight (6)"),
         (
             &[2, 0, 0, 0x23, 1, 1, 0, 0, 0, 0],
-            "2 foreign matter, instruction 1",
+            "refused as foreign matter (2), instruction 1",
         ),
     ];
     for (bytes, expected) in said {
@@ -259,10 +281,10 @@ fn refusals_of_bytes_name_their_instruction() {
 #[test]
 fn forward_or_not() {
     command(&["forward", "roast.routine", "--drum", "roast.drum"])
-        .refused("18 not forward, instruction 11, line 15: GOIF r0, r1, below, heat");
+        .refused(":15:*refused as not forward (18), instruction 11");
     let folder = folder("forward");
     let jumps = file(&folder, "jumps", "HALT\nGOX r1, always\n");
-    command(&["forward", &jumps]).refused("18 not forward, instruction 1, line 2: GOX r1, always");
+    command(&["forward", &jumps]).refused(":2:*refused as not forward (18), instruction 1");
     let fine = file(&folder, "fine", "GOIF always, end\nSET r0, 1\nend: HALT\n");
     command(&["forward", &fine]).printed(
         0,
@@ -278,9 +300,9 @@ fn the_command_answers_as_the_model_does() {
     let (mut taken, mut refused) = (0, 0);
     for _ in 0..cases(300) {
         let bytes = some_bytes(&mut rng);
-        // Bytes that could be text are not taken for bytes.
+        // Two bytes that begin no count up to 1023 may be the start of a text.
         let is_plain = |byte: &u8| *byte >= b' ' || b"\t\r\n".contains(byte);
-        if bytes.iter().all(is_plain) && bytes.iter().any(|&byte| byte > b' ') {
+        if bytes.iter().take(2).all(is_plain) {
             continue;
         }
         let path = file(&folder, "routine", &bytes);
@@ -303,7 +325,7 @@ fn the_command_answers_as_the_model_does() {
             }
             Answer::Refused { refusal, place } => {
                 refused += 1;
-                checked.refused(&format!("refused, {} {refusal}", refusal.number()));
+                checked.refused(&format!("refused as {refusal} ({})", refusal.number()));
                 if [1, 2, 3, 4, 8].contains(&refusal.number()) {
                     checked.refused(&format!(", instruction {place}"));
                 }

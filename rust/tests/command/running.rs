@@ -4,7 +4,7 @@ use crate::common::inputs::{
     all_landings, bytes_of, rewritten, routine, trial_policy, TRIAL, TRIAL_READINGS,
 };
 use crate::common::{cases, seed, Rng};
-use crate::{command, file, folder, typed};
+use crate::{command, file, folder, transcript, typed};
 use hemdroas::model::{self, bundles};
 use hemdroas::Ending;
 use std::collections::BTreeMap;
@@ -35,10 +35,10 @@ fn with<'a>(name: &'a str, files: [&'a str; 5], more: &[&'a str]) -> Vec<&'a str
 fn the_sample() {
     let readings = TRIAL_READINGS.map(|reading| reading.to_string()).join(",");
     let more = ["--readings", &readings];
-    command(&with("run", SAMPLE, &more)).printed(1, include_str!("stored/sample.run"));
-    command(&with("preview", SAMPLE, &more)).printed(1, include_str!("stored/sample.preview"));
+    command(&with("run", SAMPLE, &more)).printed(4, include_str!("stored/sample.run"));
+    command(&with("preview", SAMPLE, &more)).printed(4, include_str!("stored/sample.preview"));
     let all = ["--readings", &readings, "--all"];
-    command(&with("step", SAMPLE, &all)).printed(1, include_str!("stored/sample.step"));
+    command(&with("step", SAMPLE, &all)).printed(4, include_str!("stored/sample.step"));
 }
 
 #[test]
@@ -79,11 +79,15 @@ fn bytes_run_as_their_text_does() {
 #[test]
 fn pauses_are_resumed_on_request() {
     let came = command(&with("run", ROAST, &[]));
-    assert_eq!(came.status, 1);
+    assert_eq!(came.status, 5);
     assert!(came.out.contains("ending 24 probe silent"), "{}", came.out);
     let answers = "1500\nnonsense\npreview 1960 2100\n1960 2000\n\n2200\n\n";
-    let came = typed(&with("run", ROAST, &["--log", "6", "--resume"]), answers);
-    came.printed(0, include_str!("stored/roast.resumed"));
+    let args = with("run", ROAST, &["--log", "6", "--resume"]);
+    let (status, shown) = transcript("resumed", &args, answers);
+    assert_eq!(
+        (status, shown.as_str()),
+        (0, include_str!("stored/roast.resumed"))
+    );
     // The same pairs as in one run.
     let pairs = |text: &str| {
         let rows = text
@@ -95,14 +99,14 @@ fn pauses_are_resumed_on_request() {
         rows.collect::<Vec<_>>()
     };
     let whole = command(&with("run", ROAST, &["--readings", "1500 1960 2000 2200"]));
-    let resumed: Vec<String> = pairs(&came.out);
+    let resumed: Vec<String> = pairs(&shown);
     let resumed: Vec<String> = resumed[..3].iter().chain(&resumed[6..]).cloned().collect();
     assert_eq!(resumed, pairs(&whole.out));
     let came = typed(
         &with("run", SAMPLE, &["--budget", "5", "--resume"]),
         "1 2\n3\nstop\n",
     );
-    assert_eq!(came.status, 1);
+    assert_eq!(came.status, 5);
     assert!(
         came.out.contains("ending 25 spent: 8 steps"),
         "{}",
@@ -115,21 +119,28 @@ fn a_preview_asks_for_readings() {
     let came = typed(&with("preview", ROAST, &[]), "1990 2100\n");
     assert_eq!(came.status, 0, "{}", came.error);
     assert!(came.out.contains("ending 20 ended"), "{}", came.out);
-    typed(&with("preview", ROAST, &[]), "hot\n")
-        .refused_after("readings: hot\n", "'hot' is no number");
+    let (status, shown) = transcript(
+        "asks-on",
+        &with("preview", ROAST, &[]),
+        "196.5\nhot\n1500\n1960\n2100\n",
+    );
+    assert_eq!(
+        (status, shown.as_str()),
+        (0, include_str!("stored/roast.asked"))
+    );
 }
 
 #[test]
 fn steps_are_asked_for() {
-    let came = typed(&with("step", ROAST, &[]), "\n7\nwhat\n2\n1800\n3\nstop\n");
-    came.printed(1, include_str!("stored/roast.steps"));
-    let came = command(&with("step", SAMPLE, &[]));
-    assert_eq!(came.status, 1);
-    assert!(
-        came.out.contains("ending 25 spent: 0 instructions"),
-        "{}",
-        came.out
+    let typed = "\n7\nnonsense\n2\n1800\n3\nstop\n";
+    let (status, shown) = transcript("steps", &with("step", ROAST, &[]), typed);
+    assert_eq!(
+        (status, shown.as_str()),
+        (5, include_str!("stored/roast.steps"))
     );
+    let came = command(&with("step", SAMPLE, &[]));
+    assert_eq!(came.status, 5);
+    assert!(came.out.contains("left: 0 instructions"), "{}", came.out);
 }
 
 #[test]
@@ -138,7 +149,7 @@ fn other_endings() {
     let files = |routine| [routine, SAMPLE[1], SAMPLE[2], SAMPLE[3], SAMPLE[4]];
     let forever = file(&folder, "forever", "loop: GOIF always, loop\n");
     let came = command(&with("run", files(&forever), &["--budget", "7"]));
-    assert_eq!(came.status, 1);
+    assert_eq!(came.status, 5);
     assert!(
         came.out.contains("ending 25 spent: 7 steps"),
         "{}",
@@ -161,7 +172,7 @@ fn other_endings() {
             [&jump, "--drum", &none, "--policy", "sample.policy"],
             more,
         ));
-        assert_eq!(came.status, 1);
+        assert_eq!(came.status, 4);
         assert!(came.out.contains("ending 26 no landing"), "{}", came.out);
     }
     let empty = file(&folder, "empty", "# nothing\n");
@@ -189,7 +200,7 @@ fn ceilings_of_drum_and_policy() {
     ));
     assert!(
         came.out
-            .contains("0 gas           60\n    2  2 door           1\n"),
+            .contains("0 gas           60  limited by the ceiling, r0 is 70\n    2  2 door           1  limited by the ceiling, r0 is 70\n"),
         "{}",
         came.out
     );
@@ -239,7 +250,12 @@ fn the_command_runs_as_the_model_does() {
                 came.out,
                 came.error
             );
-            assert_eq!(came.status, i32::from(answer.ending != Ending::Done));
+            let status = match answer.ending {
+                Ending::Done => 0,
+                Ending::LogFull | Ending::Silent | Ending::Spent => 5,
+                _ => 4,
+            };
+            assert_eq!(came.status, status);
             let values = came
                 .out
                 .lines()

@@ -1,5 +1,6 @@
 //! Arguments.
 
+use super::commands::{Command, Opt};
 use super::problem::Problem;
 use hemdroas::text::number;
 
@@ -9,51 +10,94 @@ pub struct Args {
     options: Vec<(&'static str, String)>,
 }
 
+/// How many files a subcommand takes.
+#[derive(Clone, Copy)]
+pub enum Files {
+    Exactly(usize),
+    Some,
+}
+
+/// What is taken for another option's value by mistake.
+fn is_option(word: &str) -> bool {
+    word.len() > 1 && word.starts_with('-')
+}
+
 impl Args {
-    /// Words as arguments: so many files, options with a value, and flags.
-    pub fn of(
-        words: &[String],
-        valued: &[&'static str],
-        flags: &[&'static str],
-        files: usize,
-    ) -> Result<Args, String> {
+    /// Words as arguments of a command.
+    pub fn of(words: &[String], command: &Command) -> Result<Args, String> {
         let mut args = Args {
             files: Vec::new(),
             options: Vec::new(),
         };
         let mut words = words.iter();
         while let Some(word) = words.next() {
-            let known =
-                |options: &[&'static str]| options.iter().copied().find(|&name| name == word);
-            let option = match (known(valued), known(flags)) {
-                (Some(name), _) => match words.next() {
-                    Some(value) => (name, value.clone()),
-                    None => return Err(format!("{name} wants a value")),
-                },
-                (None, Some(name)) => (name, String::new()),
-                (None, None) if word.starts_with('-') && word != "-" => {
-                    return Err(format!("'{word}' is no option here"));
-                }
-                (None, None) => {
-                    args.files.push(word.clone());
-                    continue;
-                }
-            };
-            if args.value(option.0).is_some() {
-                return Err(format!("{} stands twice", option.0));
+            if word == "--" {
+                args.files.extend(words.by_ref().cloned());
+            } else if is_option(word) {
+                args.option(word, &mut words, command)?;
+            } else {
+                args.files.push(word.clone());
             }
-            args.options.push(option);
         }
-        match args.files.len() {
-            found if found < files => Err("a file is missing".to_string()),
-            found if found > files => Err(format!("'{}' is one file too many", args.files[files])),
-            _ => Ok(args),
+        match (command.files, args.files.len()) {
+            (Files::Some, 0) => Err("a file is missing".to_string()),
+            (Files::Exactly(files), found) if found < files => Err("a file is missing".to_string()),
+            (Files::Exactly(files), found) if found > files => {
+                Err(format!("'{}' is one file too many", args.files[files]))
+            }
+            _ => args.complete(command),
+        }
+    }
+
+    /// Takes an option, its value behind = or in the next word.
+    fn option<'a>(
+        &mut self,
+        word: &str,
+        words: &mut impl Iterator<Item = &'a String>,
+        command: &Command,
+    ) -> Result<(), String> {
+        let (name, value) = match word.split_once('=') {
+            Some((name, value)) => (name, Some(value.to_string())),
+            None => (word, None),
+        };
+        let Some(&Opt {
+            name, value: wants, ..
+        }) = command.option(name)
+        else {
+            return Err(format!("'{name}' is no option here"));
+        };
+        let value = match (wants, value) {
+            ("", None) => String::new(),
+            ("", Some(_)) => return Err(format!("{name} takes no value")),
+            (_, Some(value)) => value,
+            (_, None) => match words.next() {
+                Some(value) => value.clone(),
+                None => return Err(format!("{name} wants a value")),
+            },
+        };
+        if self.has(name) {
+            return Err(format!("{name} stands twice"));
+        }
+        self.options.push((name, value));
+        Ok(())
+    }
+
+    /// The arguments, if no needed option is missing.
+    fn complete(self, command: &Command) -> Result<Args, String> {
+        match command.needed.iter().find(|option| !self.has(option.name)) {
+            Some(option) => Err(format!("{} {} is missing", option.name, option.value)),
+            None => Ok(self),
         }
     }
 
     /// A file, by its place.
     pub fn file(&self, place: usize) -> &str {
         &self.files[place]
+    }
+
+    /// All files.
+    pub fn files(&self) -> &[String] {
+        &self.files
     }
 
     /// An option's value, or that of a flag, if it was given.
@@ -65,6 +109,11 @@ impl Args {
     /// Whether a flag was given.
     pub fn has(&self, name: &str) -> bool {
         self.value(name).is_some()
+    }
+
+    /// Whether objects are asked for.
+    pub fn is_json(&self) -> bool {
+        self.has("--json")
     }
 
     /// The value of an option that is needed.
@@ -81,20 +130,8 @@ impl Args {
         match number(value) {
             Ok(number) if number <= most && !value.starts_with('-') => Ok(number),
             _ => Err(Problem::Usage(format!(
-                "{name} wants a number up to {most}"
+                "{name} wants a number up to {most}, not '{value}'"
             ))),
         }
     }
-
-    /// The readings that were given.
-    pub fn readings(&self) -> Result<Vec<u32>, Problem> {
-        let listed = self.value("--readings").unwrap_or("");
-        numbers(listed).map_err(|said| Problem::Usage(format!("--readings: {said}")))
-    }
-}
-
-/// Numbers with commas or spaces between them.
-pub fn numbers(listed: &str) -> Result<Vec<u32>, String> {
-    let words = listed.split([',', ' ', '\t']).map(str::trim);
-    words.filter(|word| !word.is_empty()).map(number).collect()
 }

@@ -1,15 +1,26 @@
 //! Reading and writing.
 
+use super::args::Args;
+use super::json::Json;
 use super::problem::Problem;
 use std::fs::{self, File};
-use std::io::{self, BufRead, IsTerminal, Read, Write};
+use std::io::{self, ErrorKind, Read, Write};
+use std::os::unix::fs::MetadataExt;
 use std::path::{Path, PathBuf};
 
 /// The most bytes of a file.
 const LARGEST_FILE: u64 = 1 << 20;
 
-fn failed(path: &str, said: impl std::fmt::Display) -> Problem {
-    Problem::Refused(format!("{path}: {said}"))
+fn failed(path: &str, error: io::Error) -> Problem {
+    match error.kind() {
+        ErrorKind::BrokenPipe => Problem::Quiet,
+        // The system's words, without its number.
+        _ => {
+            let said = error.to_string();
+            let plain = said.split(" (os error").next().unwrap_or("");
+            Problem::File(path.to_string(), plain.to_string())
+        }
+    }
 }
 
 /// The content of a file, or of standard input for -.
@@ -25,17 +36,33 @@ pub fn read(path: &str) -> Result<Vec<u8>, Problem> {
     let read = limited.read_to_end(&mut content);
     read.map_err(|error| failed(path, error))?;
     if content.len() as u64 > LARGEST_FILE {
-        return Err(failed(path, format!("longer than {LARGEST_FILE} bytes")));
+        let said = format!("longer than {LARGEST_FILE} bytes");
+        return Err(Problem::File(path.to_string(), said));
     }
     Ok(content)
 }
 
-/// Whether a routine's file holds text: no routine's bytes are without a control
-/// byte, and no text has one but tabs and ends of lines. A blank file is no text,
-/// for a routine that lost all but its first byte can look like one.
-pub fn is_text(content: &[u8]) -> bool {
-    let is_plain = |&byte: &u8| byte >= b' ' || b"\t\r\n".contains(&byte);
-    content.iter().all(is_plain) && content.iter().any(|&byte| byte > b' ')
+/// The identity of a plain file.
+fn identity(path: &str) -> Option<(u64, u64)> {
+    let about = fs::metadata(path).ok()?;
+    about.is_file().then(|| (about.dev(), about.ino()))
+}
+
+/// Refuses an output that is one of the inputs, whatever its name is.
+pub fn keep_inputs(args: &Args) -> Result<(), Problem> {
+    let Some(out) = args.value("-o").filter(|&out| out != "-") else {
+        return Ok(());
+    };
+    let options = ["--drum", "--policy"].map(|name| args.value(name));
+    let files = args.files().iter().map(String::as_str);
+    for input in files.chain(options.into_iter().flatten()) {
+        let opened = if input == "-" { "/dev/stdin" } else { input };
+        if identity(out).is_some_and(|out| identity(opened) == Some(out)) {
+            let said = format!("it is the input {input}, and would be overwritten");
+            return Err(Problem::File(out.to_string(), said));
+        }
+    }
+    Ok(())
 }
 
 /// Writes a file beside the path and moves it there, so that a full disk leaves
@@ -81,27 +108,15 @@ pub fn print(text: &str) -> Result<(), Problem> {
     print_bytes(text.as_bytes())
 }
 
-/// Says something on standard error, if that takes it.
-pub fn complain(said: &str) {
-    let _ = writeln!(io::stderr(), "hemdroas: {said}");
+/// Prints an object, on a line of its own.
+pub fn print_json(object: &Json) -> Result<(), Problem> {
+    print(&format!("{object}\n"))
 }
 
-/// Asks for a line of standard input; none at its end.
-pub fn ask(question: &str) -> Result<Option<String>, Problem> {
-    print(question)?;
-    let mut line = Vec::new();
-    let mut limited = io::stdin().lock().take(LARGEST_FILE);
-    let read = limited.read_until(b'\n', &mut line);
-    match read.map_err(|error| failed("standard input", error))? {
-        0 => Ok(None),
-        _ => {
-            let line = String::from_utf8(line).map_err(|_| failed("standard input", "not text"))?;
-            let line = line.trim().to_string();
-            // What nobody types at a terminal is shown, so that the answer stands on its own lines.
-            if !io::stdin().is_terminal() {
-                print(&format!("{line}\n"))?;
-            }
-            Ok(Some(line))
-        }
-    }
+/// Says something on standard error, if that takes it.
+pub fn complain(said: &str) {
+    let mut error = io::stderr();
+    let _ = error
+        .write_all(said.as_bytes())
+        .and_then(|()| error.flush());
 }

@@ -3,64 +3,165 @@
 use super::args::Args;
 use super::drums::DrumFile;
 use super::making::{make, policy};
-use super::problem::{refused, Problem};
+use super::problem::Problem;
+use super::report::Report;
 use super::sources::{commands, Routine};
 use hemdroas::names::MOST_CELLS;
-use hemdroas::text::{Names, Table};
-use hemdroas::{native, Answer, Layout, Machine, Refusal};
+use hemdroas::text::{Names, Scales, Table};
+use hemdroas::{native, Answer, Ceilings, Layout, Machine, Refusal};
+
+/// A policy, and the file that it was made of.
+pub struct PolicyOf {
+    path: String,
+    pub table: Table,
+    ceilings: Ceilings,
+}
+
+/// The drum and the policy of the arguments.
+pub struct Setup {
+    pub drum: DrumFile,
+    pub policy: Option<PolicyOf>,
+    /// The names of events, of both.
+    pub names: Names,
+}
+
+/// A routine that was rewritten and checked for a drum.
+pub struct Checked {
+    pub layout: Layout,
+    pub routine: Routine,
+    pub landings: Vec<u32>,
+    pub commands: Vec<u64>,
+}
+
+/// Where a routine stands: its machine and its memory.
+#[derive(Clone)]
+pub struct Stand {
+    pub machine: Machine,
+    pub memory: Vec<u32>,
+}
 
 /// A routine on a drum, installed.
 pub struct Loaded {
-    pub layout: Layout,
+    pub checked: Checked,
     pub names: Names,
-    pub routine: Routine,
+    pub scales: Scales,
     pub policy: Table,
-    pub commands: Vec<u64>,
-    pub memory: Vec<u32>,
-    pub machine: Machine,
+    /// Where it stands after installing.
+    pub first: Stand,
 }
 
 impl Loaded {
-    /// The policy's state, as the state cell holds it.
-    pub fn state(&self) -> String {
-        let state = self.memory[self.layout.cell as usize];
+    pub fn layout(&self) -> &Layout {
+        &self.checked.layout
+    }
+
+    pub fn routine(&self) -> &Routine {
+        &self.checked.routine
+    }
+
+    /// The policy's state, as the state cell of a memory holds it.
+    pub fn state_in(&self, memory: &[u32]) -> u32 {
+        memory[self.layout().cell as usize]
+    }
+
+    /// A state with its number and name.
+    pub fn state_text(&self, state: u32) -> String {
         format!("{state} {}", self.policy.name(state))
+    }
+
+    /// The scale of an event.
+    pub fn scale(&self, event: u32) -> u32 {
+        self.scales.get(event as usize).copied().unwrap_or(1)
+    }
+}
+
+impl Setup {
+    /// The drum and, where one is named, the policy of the arguments.
+    pub fn of(args: &Args) -> Result<Setup, Problem> {
+        let drum = DrumFile::of(args.needed("--drum")?)?;
+        let Some(path) = args.value("--policy") else {
+            let names = drum.drum.names.clone();
+            return Ok(Setup {
+                drum,
+                policy: None,
+                names,
+            });
+        };
+        let file = policy(path, &drum.drum.names)?;
+        let table = make(path, &file)?.table;
+        let ceilings = file.said.ceilings;
+        let path = path.to_string();
+        Ok(Setup {
+            drum,
+            policy: Some(PolicyOf {
+                path,
+                table,
+                ceilings,
+            }),
+            names: file.said.names,
+        })
+    }
+
+    /// The layout: S is the policy's where the drum leaves it out, and each
+    /// ceiling the smaller of both.
+    fn layout(&self) -> Layout {
+        let Some(policy) = &self.policy else {
+            return self.drum.drum.layout;
+        };
+        let mut layout = self.drum.drum.layout_for(policy.table.states.len() as u32);
+        for (most, &other) in layout.ceilings.iter_mut().zip(&policy.ceilings) {
+            *most = (*most).min(other);
+        }
+        layout
+    }
+
+    /// A routine of a file, rewritten and checked by the library.
+    pub fn check(&self, path: &str) -> Result<Checked, Problem> {
+        let layout = self.layout();
+        let routine = Routine::of_file(path, &self.names)?;
+        let commands = commands(&self.drum, &layout, &routine)?;
+        let landings = self.drum.drum.landings.of(routine.landings());
+        Ok(Checked {
+            layout,
+            routine,
+            landings,
+            commands,
+        })
+    }
+
+    /// A routine of a file, installed by the library on memory whose cells are 0.
+    pub fn load(&self, path: &str) -> Result<Loaded, Problem> {
+        let Some(policy) = &self.policy else {
+            return Err(Problem::Usage("--policy is missing".to_string()));
+        };
+        let checked = self.check(path)?;
+        let layout = &checked.layout;
+        let mut memory = vec![0; layout.size.min(MOST_CELLS) as usize];
+        let table = &policy.table;
+        let (answer, machine) =
+            native::install(layout, &table.policy(), &checked.landings, &mut memory);
+        if let Answer::Refused {
+            refusal: Refusal::BadPolicy,
+            ..
+        } = answer
+        {
+            let (states, room, drum) = (table.states.len(), layout.states, &self.drum.path);
+            let message = format!("it has {states} states, and S of {drum} is {room}; without its line S a drum takes any");
+            return Err(Report::refusal(&policy.path, Refusal::BadPolicy, message).into());
+        }
+        self.drum.taken(layout, &checked.routine, answer)?;
+        Ok(Loaded {
+            names: self.names.clone(),
+            scales: self.drum.drum.scales,
+            policy: table.clone(),
+            first: Stand { machine, memory },
+            checked,
+        })
     }
 }
 
 /// Loads the routine, drum and policy of the arguments: reading, rewriting,
-/// checking and installing, each by the library, on memory whose cells are 0.
+/// checking and installing, each by the library.
 pub fn load(args: &Args) -> Result<Loaded, Problem> {
-    let (path, policy_path) = (args.needed("--drum")?, args.needed("--policy")?);
-    let mut drum = DrumFile::of(path)?;
-    let file = policy(policy_path, &drum.drum.names)?;
-    for (most, &other) in drum.drum.layout.ceilings.iter_mut().zip(&file.ceilings) {
-        *most = (*most).min(other);
-    }
-    let routine = Routine::of_file(args.file(0), &file.names)?;
-    let commands = commands(&drum, &routine)?;
-    let policy = make(policy_path, &file)?.table;
-    let layout = drum.drum.layout;
-    let mut memory = vec![0; layout.size.min(MOST_CELLS) as usize];
-    let landings = &drum.drum.landings;
-    let (answer, machine) = native::install(&layout, &policy.policy(), landings, &mut memory);
-    if let Answer::Refused {
-        refusal: Refusal::BadPolicy,
-        ..
-    } = answer
-    {
-        let (states, room) = (policy.states.len(), layout.states);
-        let counts = format!("{states} states, and S of {path} is {room}");
-        return Err(refused(policy_path, Refusal::BadPolicy, Some(counts)));
-    }
-    drum.taken(&routine, answer)?;
-    Ok(Loaded {
-        layout,
-        names: file.names,
-        routine,
-        policy,
-        commands,
-        memory,
-        machine,
-    })
+    Setup::of(args)?.load(args.file(0))
 }

@@ -1,7 +1,8 @@
 //! Policies from their files, made by the library where these hold no table.
 
 use super::files;
-use super::problem::{faulty, refused, Problem};
+use super::problem::{faulty, meaning, Problem};
+use super::report::Report;
 use hemdroas::names::{EVENTS, MOST_STATES, NO_ARROW};
 use hemdroas::text::{self, Form, Names, PolicyFile, Table};
 use hemdroas::{native, Answer, Drawing};
@@ -66,15 +67,16 @@ fn bad_pair(pairs: &[u8]) -> Option<usize> {
     place.map(|place| place / 2)
 }
 
-fn of_pairs(path: &str, pairs: &[u8], file: &PolicyFile) -> Result<MadePolicy, Problem> {
-    let names = &file.names;
+fn of_pairs(path: &str, pairs: &[u8], file: &Given) -> Result<MadePolicy, Problem> {
+    let names = &file.said.names;
     let mut table = vec![0; LONGEST_TABLE];
     let made = native::precedence(pairs, &mut table);
     let count = match made.answer {
         Answer::Taken(count) => count,
         Answer::Refused { refusal, .. } => {
-            let line = bad_pair(pairs).map(|pair| format!("line {}", file.pair_lines[pair]));
-            return Err(refused(path, refusal, line));
+            let report = Report::refusal(path, refusal, meaning(refusal));
+            let place = bad_pair(pairs).map(|pair| file.said.pairs[pair]);
+            return Err(report.at(&file.content, place.unwrap_or_default()).into());
         }
     };
     table.truncate(count as usize);
@@ -109,7 +111,9 @@ fn of_drawing(path: &str, names: &[String], drawing: &Drawing) -> Result<MadePol
     let made = native::determinise(drawing, &mut table);
     let count = match made.answer {
         Answer::Taken(count) => count,
-        Answer::Refused { refusal, .. } => return Err(refused(path, refusal, None)),
+        Answer::Refused { refusal, .. } => {
+            return Err(Report::refusal(path, refusal, meaning(refusal)).into());
+        }
     };
     table.truncate(count as usize);
     let members =
@@ -135,8 +139,8 @@ fn of_drawing(path: &str, names: &[String], drawing: &Drawing) -> Result<MadePol
 }
 
 /// The policy of a policy file, made by the library where it is no table.
-pub fn make(path: &str, file: &PolicyFile) -> Result<MadePolicy, Problem> {
-    match &file.form {
+pub fn make(path: &str, file: &Given) -> Result<MadePolicy, Problem> {
+    match &file.said.form {
         Form::States(table) => Ok(MadePolicy {
             table: table.clone(),
             never: 0,
@@ -157,7 +161,15 @@ pub fn make(path: &str, file: &PolicyFile) -> Result<MadePolicy, Problem> {
     }
 }
 
-/// What a policy file says.
-pub fn policy(path: &str, names: &Names) -> Result<PolicyFile, Problem> {
-    text::policy(&files::read(path)?, names).map_err(|fault| faulty(path, fault))
+/// What a policy file says, and its text.
+pub struct Given {
+    pub said: PolicyFile,
+    content: Vec<u8>,
+}
+
+/// The policy of a file.
+pub fn policy(path: &str, names: &Names) -> Result<Given, Problem> {
+    let content = files::read(path)?;
+    let said = text::policy(&content, names).map_err(|faults| faulty(path, &content, faults))?;
+    Ok(Given { said, content })
 }

@@ -1,91 +1,164 @@
 //! policy precedence, merge, determinise, show and draw.
 
 use super::args::Args;
+use super::dot;
 use super::drums;
 use super::files;
-use super::making::{self, make, met, named, LONGEST_TABLE};
-use super::problem::{refused, Done, Problem};
+use super::graph::Graph;
+use super::json::{list, object, Json};
+use super::making::{self, make, met, named, Given, MadePolicy, LONGEST_TABLE};
+use super::problem::{meaning, Done, Problem, Status};
+use super::report::Report;
 use hemdroas::names::{EVENTS, NO_ARROW};
-use hemdroas::text::{policy_text, Form, Names, PolicyFile, Table};
-use hemdroas::{native, Answer, Side};
-use std::collections::BTreeMap;
+use hemdroas::text::{policy_text, Form, Names, Table};
+use hemdroas::{native, Answer, Ceilings, Side};
 
-/// The policy file of the arguments.
-fn given(args: &Args, place: usize, names: &Names) -> Result<PolicyFile, Problem> {
-    making::policy(args.file(place), names)
+/// A policy with all that its file says of it.
+struct Whole {
+    made: MadePolicy,
+    ceilings: Ceilings,
+    names: Names,
 }
 
-/// Writes a policy's text where the arguments say.
-fn write(args: &Args, about: &str, text: &str) -> Done {
-    let content = format!("{about}{text}");
-    files::write(args.value("-o").unwrap_or("-"), content.as_bytes())?;
-    Ok(true)
+/// The policy file of the arguments.
+fn given(args: &Args, place: usize, names: &Names) -> Result<Given, Problem> {
+    making::policy(args.file(place), names)
 }
 
 /// A refusal to take one form of file for another.
 fn no_form(args: &Args, form: &str) -> Problem {
-    Problem::Refused(format!("{}: this file holds no {form}", args.file(0)))
+    Report::error(args.file(0), format!("this file holds no {form}")).into()
 }
 
-/// The events of a map, as a comment names them.
-fn events(map: u16, names: &Names) -> String {
-    let set = (0..EVENTS).filter(|event| map >> event & 1 == 1);
-    set.map(|event| names.word(event))
-        .collect::<Vec<_>>()
-        .join(", ")
+/// The events of a map.
+fn events(map: u16) -> impl Iterator<Item = u32> {
+    (0..EVENTS).filter(move |event| map >> event & 1 == 1)
 }
 
-/// What is said of events that are never allowed.
-fn never_line(never: u16, names: &Names) -> String {
-    match never {
-        0 => String::new(),
-        map => format!(
-            "# never allowed, for the pairs run in a ring: {}\n",
-            events(map, names)
-        ),
+impl Whole {
+    /// The policy of the first file of the arguments.
+    fn of(args: &Args) -> Result<Whole, Problem> {
+        Whole::of_given(args, given(args, 0, &drums::names(args)?)?)
     }
+
+    fn of_given(args: &Args, file: Given) -> Result<Whole, Problem> {
+        Ok(Whole {
+            made: make(args.file(0), &file)?,
+            ceilings: file.said.ceilings,
+            names: file.said.names,
+        })
+    }
+
+    /// What is said of events that are never allowed.
+    fn never_line(&self) -> String {
+        let names: Vec<String> = events(self.made.never)
+            .map(|event| self.names.word(event))
+            .collect();
+        match names.is_empty() {
+            true => String::new(),
+            false => format!(
+                "never allowed, for the pairs run in a ring: {}\n",
+                names.join(", ")
+            ),
+        }
+    }
+
+    /// The ceilings, a line each.
+    fn ceiling_lines(&self) -> String {
+        let limited = (0..)
+            .zip(&self.ceilings)
+            .filter(|(_, &most)| most != u32::MAX);
+        limited
+            .map(|(order, most)| format!("ceiling {} {most}\n", self.names.word(order)))
+            .collect()
+    }
+
+    fn json(&self) -> Json {
+        let table = &self.made.table;
+        let name = |event: u32| Json::from(self.names.of(event));
+        let row = |state: u32| {
+            let after = move |event| table.policy().after(state, event);
+            list((0..EVENTS).map(after))
+        };
+        let states = 0..table.states.len() as u32;
+        let most = |&most: &u32| (most != u32::MAX).then_some(most);
+        object([
+            ("type", "policy".into()),
+            ("states", list(table.states.iter().map(String::as_str))),
+            ("start", table.start.into()),
+            ("table", Json::List(states.map(row).collect())),
+            ("ceilings", list(self.ceilings.iter().map(most))),
+            ("events", Json::List((0..EVENTS).map(name).collect())),
+            ("never", list(events(self.made.never))),
+        ])
+    }
+
+    /// Writes its text or its object where the arguments say.
+    fn write(&self, args: &Args) -> Done {
+        let never = self.never_line();
+        if !never.is_empty() && !args.is_json() {
+            files::complain(&format!("hemdroas: {}: {never}", args.file(0)));
+        }
+        let never = if never.is_empty() {
+            never
+        } else {
+            format!("# {never}")
+        };
+        let text = match args.is_json() {
+            true => format!("{}\n", self.json()),
+            false => never + &policy_text(&self.made.table, &self.ceilings, &self.names),
+        };
+        write(args, &text)
+    }
+}
+
+/// Writes where the arguments say.
+fn write(args: &Args, text: &str) -> Done {
+    files::write(args.value("-o").unwrap_or("-"), text.as_bytes())?;
+    Ok(Status::Well)
 }
 
 pub fn precedence(args: &Args) -> Done {
     let file = given(args, 0, &drums::names(args)?)?;
-    if !matches!(file.form, Form::Before(_)) {
-        return Err(no_form(args, "pairs: EVENT before EVENT"));
+    match file.said.form {
+        Form::Before(_) => Whole::of_given(args, file)?.write(args),
+        _ => Err(no_form(args, "pairs: EVENT before EVENT")),
     }
-    let made = make(args.file(0), &file)?;
-    let text = policy_text(&made.table, &file.ceilings, &file.names);
-    write(args, &never_line(made.never, &file.names), &text)
 }
 
 pub fn determinise(args: &Args) -> Done {
     let file = given(args, 0, &drums::names(args)?)?;
-    if !matches!(file.form, Form::Drawing { .. }) {
-        return Err(no_form(args, "drawing"));
+    match file.said.form {
+        Form::Drawing { .. } => Whole::of_given(args, file)?.write(args),
+        _ => Err(no_form(args, "drawing")),
     }
-    let made = make(args.file(0), &file)?;
-    write(
-        args,
-        "",
-        &policy_text(&made.table, &file.ceilings, &file.names),
-    )
+}
+
+/// The merged policy's states, each named after its pair.
+fn pair_names(table: &[u8], states: usize, first: &Table, second: &Table) -> Vec<String> {
+    let after =
+        |table: &Table, state, event| table.policy().after(state, event).unwrap_or(NO_ARROW);
+    let next = |&(a, b): &(u32, u32), event| (after(first, a, event), after(second, b, event));
+    let pairs = met(table, (first.start, second.start), next);
+    let name = |&(a, b): &(u32, u32)| format!("{}.{}", first.name(a), second.name(b));
+    named(states, pairs.iter().map(name).collect())
 }
 
 pub fn merge(args: &Args) -> Done {
     let one = given(args, 0, &drums::names(args)?)?;
     // Both sides speak of the same events, so the second knows the first one's names.
-    let other = given(args, 1, &one.names)?;
-    let (first, second) = (
-        make(args.file(0), &one)?.table,
-        make(args.file(1), &other)?.table,
-    );
+    let other = given(args, 1, &one.said.names)?;
+    let first = make(args.file(0), &one)?.table;
+    let second = make(args.file(1), &other)?.table;
     let mut table = vec![0; LONGEST_TABLE];
     let merged = native::merge(
         &Side {
             policy: first.policy(),
-            ceilings: one.ceilings,
+            ceilings: one.said.ceilings,
         },
         &Side {
             policy: second.policy(),
-            ceilings: other.ceilings,
+            ceilings: other.said.ceilings,
         },
         &mut table,
     );
@@ -93,25 +166,23 @@ pub fn merge(args: &Args) -> Done {
         Answer::Taken(count) => count,
         Answer::Refused { refusal, .. } => {
             let both = format!("{} with {}", args.file(0), args.file(1));
-            return Err(refused(&both, refusal, None));
+            return Err(Report::refusal(&both, refusal, meaning(refusal)).into());
         }
     };
     table.truncate(count as usize);
-    let after =
-        |table: &Table, state, event| table.policy().after(state, event).unwrap_or(NO_ARROW);
-    let next = |&(a, b): &(u32, u32), event| (after(&first, a, event), after(&second, b, event));
-    let pairs = met(&table, (first.start, second.start), next);
-    let name = |&(a, b): &(u32, u32)| format!("{}.{}", first.name(a), second.name(b));
+    let states = pair_names(&table, merged.states as usize, &first, &second);
+    let start = merged.start;
     let table = Table {
-        states: named(merged.states as usize, pairs.iter().map(name).collect()),
-        start: merged.start,
+        states,
+        start,
         table,
     };
-    write(
-        args,
-        "",
-        &policy_text(&table, &merged.ceilings, &other.names),
-    )
+    let whole = Whole {
+        made: MadePolicy { table, never: 0 },
+        ceilings: merged.ceilings,
+        names: other.said.names,
+    };
+    whole.write(args)
 }
 
 /// A policy as a table: a line for each event, a column for each state, which
@@ -144,90 +215,59 @@ fn table_text(table: &Table, names: &Names) -> String {
 }
 
 pub fn show(args: &Args) -> Done {
-    let file = given(args, 0, &drums::names(args)?)?;
-    let made = make(args.file(0), &file)?;
-    let mut text = table_text(&made.table, &file.names);
-    for (order, &most) in file.ceilings.iter().enumerate() {
-        if most != u32::MAX {
-            text += &format!("ceiling {} {most}\n", file.names.word(order as u32));
-        }
+    let whole = Whole::of(args)?;
+    if args.is_json() {
+        return whole.write(args);
     }
-    text += &never_line(made.never, &file.names).replace("# ", "");
-    files::print(&text)?;
-    Ok(true)
+    let table = table_text(&whole.made.table, &whole.names);
+    files::print(&format!(
+        "{table}{}{}",
+        whole.ceiling_lines(),
+        whole.never_line()
+    ))?;
+    Ok(Status::Well)
 }
 
-/// Arrows as Graphviz takes them: one for each two states, with all its events.
-fn graph(
-    states: &[String],
-    starts: &[usize],
-    arrows: &[(usize, u32, usize)],
-    names: &Names,
-) -> String {
-    let mut text = "digraph policy {\n  rankdir=LR;\n  node [shape=box];\n".to_string();
-    for name in states {
-        text += &format!("  \"{name}\";\n");
+/// The graph of the first file: a drawing as it is, any other as its policy.
+fn graph(args: &Args) -> Result<Graph, Problem> {
+    let file = given(args, 0, &drums::names(args)?)?;
+    if let Form::Drawing {
+        states,
+        starts,
+        arrows,
+    } = &file.said.form
+    {
+        // Refused if it is no drawing.
+        make(args.file(0), &file)?;
+        return Ok(Graph::of(
+            states,
+            *starts,
+            arrows,
+            &file.said.ceilings,
+            &file.said.names,
+        ));
     }
-    for (number, &start) in starts.iter().enumerate() {
-        text += &format!(
-            "  start{number} [shape=point];\n  start{number} -> \"{}\";\n",
-            states[start]
-        );
-    }
-    let mut between: BTreeMap<(usize, usize), Vec<String>> = BTreeMap::new();
-    for &(from, event, to) in arrows {
-        between
-            .entry((from, to))
-            .or_default()
-            .push(names.word(event));
-    }
-    for ((from, to), events) in between {
-        let label = match events.len() == EVENTS as usize {
-            true => "all".to_string(),
-            false => events.join(", "),
-        };
-        text += &format!(
-            "  \"{}\" -> \"{}\" [label=\"{label}\"];\n",
-            states[from], states[to]
-        );
-    }
-    text + "}\n"
+    let whole = Whole::of_given(args, file)?;
+    let table = &whole.made.table;
+    let bit = |&entry: &u8| 1u16.checked_shl(entry.into()).unwrap_or(0);
+    let arrows: Vec<u16> = table.table.iter().map(bit).collect();
+    let starts = 1 << table.start;
+    Ok(Graph::of(
+        &table.states,
+        starts,
+        &arrows,
+        &whole.ceilings,
+        &whole.names,
+    ))
 }
 
 pub fn draw(args: &Args) -> Done {
-    let file = given(args, 0, &drums::names(args)?)?;
-    let row = EVENTS as usize;
-    let text = match &file.form {
-        Form::Drawing {
-            states,
-            starts,
-            arrows,
-        } => {
-            let of = |map: u32| {
-                (0..states.len()).filter(move |&state| state < 32 && map >> state & 1 == 1)
-            };
-            let all = arrows.iter().enumerate().flat_map(|(place, &map)| {
-                of(map.into()).map(move |to| (place / row, (place % row) as u32, to))
-            });
-            let starts: Vec<usize> = of(*starts).collect();
-            graph(states, &starts, &all.collect::<Vec<_>>(), &file.names)
-        }
-        _ => {
-            let table = make(args.file(0), &file)?.table;
-            let all = table
-                .table
-                .iter()
-                .enumerate()
-                .filter(|(_, &to)| u32::from(to) != NO_ARROW);
-            let all = all.map(|(place, &to)| (place / row, (place % row) as u32, usize::from(to)));
-            let starts = [table.start as usize];
-            graph(
-                &table.states,
-                &starts,
-                &all.collect::<Vec<_>>(),
-                &file.names,
-            )
-        }
+    let graph = graph(args)?;
+    let is_dot = |out: &str| out.ends_with(".dot") || out.ends_with(".gv");
+    let text = match args.has("--dot") || args.value("-o").is_some_and(is_dot) {
+        _ if args.is_json() => format!("{}\n", graph.json()),
+        true => dot::text(&graph),
+        false => super::svg::text(&graph),
     };
-    write(args, "", &text)
+    write(args, &text)
 }

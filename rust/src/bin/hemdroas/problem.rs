@@ -1,49 +1,148 @@
-//! What can go wrong, as it is shown.
+//! What can go wrong, as it is shown, and the statuses.
 
+use super::files;
+use super::json::{object, Json};
+use super::report::Report;
 use hemdroas::text::Fault;
-use hemdroas::Refusal;
-use std::fmt;
+use hemdroas::{Ending, Refusal};
+
+/// The statuses that the command ends with, the better first.
+#[derive(Clone, Copy, Debug, PartialEq, Eq, PartialOrd, Ord)]
+pub enum Status {
+    Well = 0,
+    Refused = 1,
+    Usage = 2,
+    File = 3,
+    Stopped = 4,
+    Paused = 5,
+}
+
+impl Status {
+    /// The status of an ending.
+    pub fn of(ending: Ending) -> Status {
+        match ending {
+            Ending::Done => Status::Well,
+            Ending::Refused => Status::Refused,
+            Ending::NoArrow | Ending::Fault | Ending::NoLanding => Status::Stopped,
+            Ending::LogFull | Ending::Silent | Ending::Spent => Status::Paused,
+        }
+    }
+}
 
 /// Why a subcommand did not do what it was asked.
 pub enum Problem {
     /// The arguments are not those of a command.
     Usage(String),
-    /// A file, a text or the library refuses.
-    Refused(String),
+    /// A file cannot be read or written.
+    File(String, String),
+    /// A text or the library refuses.
+    Refused(Vec<Report>),
+    /// Nobody reads on.
+    Quiet,
 }
 
-/// Whether all went as asked, or only to an ending other than 20.
-pub type Done = Result<bool, Problem>;
+/// How a subcommand ended.
+pub type Done = Result<Status, Problem>;
 
-impl Problem {
-    /// The exit status.
-    pub fn status(&self) -> u8 {
-        match self {
-            Problem::Usage(_) => 2,
-            Problem::Refused(_) => 1,
-        }
+/// The most reports about a file that are printed.
+const MOST_REPORTS: usize = 50;
+
+impl From<Report> for Problem {
+    fn from(report: Report) -> Problem {
+        Problem::Refused(vec![report])
     }
 }
 
-impl fmt::Display for Problem {
-    fn fmt(&self, f: &mut fmt::Formatter<'_>) -> fmt::Result {
-        let (Problem::Usage(said) | Problem::Refused(said)) = self;
-        f.write_str(said)
+impl Problem {
+    /// The exit status.
+    pub fn status(&self) -> Status {
+        match self {
+            Problem::Usage(_) => Status::Usage,
+            Problem::File(..) | Problem::Quiet => Status::File,
+            Problem::Refused(_) => Status::Refused,
+        }
+    }
+
+    /// What is said on standard error.
+    fn text(&self) -> String {
+        match self {
+            Problem::Usage(said) => format!("hemdroas: {said}\n"),
+            Problem::File(path, said) => format!("hemdroas: {path}: {said}\n"),
+            Problem::Quiet => String::new(),
+            Problem::Refused(reports) => {
+                let text: String = reports
+                    .iter()
+                    .take(MOST_REPORTS)
+                    .map(Report::text)
+                    .collect();
+                match reports.len().checked_sub(MOST_REPORTS) {
+                    None | Some(0) => text,
+                    Some(more) => format!("{text}and {more} errors more\n"),
+                }
+            }
+        }
+    }
+
+    /// What is said in objects.
+    fn json(&self) -> Vec<Json> {
+        let plain = |file: Option<&str>, said: &str| {
+            vec![object([
+                ("type", "error".into()),
+                ("file", file.into()),
+                ("message", said.into()),
+            ])]
+        };
+        match self {
+            Problem::Usage(said) => plain(None, said),
+            Problem::File(path, said) => plain(Some(path), said),
+            Problem::Refused(reports) => reports.iter().map(Report::json).collect(),
+            Problem::Quiet => Vec::new(),
+        }
+    }
+
+    /// Says it: on standard error, or in objects on standard output.
+    pub fn say(&self, is_json: bool) {
+        if !is_json {
+            return files::complain(&self.text());
+        }
+        for object in self.json() {
+            if files::print_json(&object).is_err() {
+                return;
+            }
+        }
+    }
+
+    /// In few words, for a line among others.
+    pub fn short(&self) -> String {
+        match self {
+            Problem::Usage(said) | Problem::File(_, said) => said.clone(),
+            Problem::Quiet => String::new(),
+            Problem::Refused(reports) => {
+                let refusal = reports.iter().find_map(|report| report.refusal);
+                match (refusal, reports.len()) {
+                    (Some(refusal), _) => format!("refused as {refusal} ({})", refusal.number()),
+                    (None, 1) => "refused, 1 error".to_string(),
+                    (None, count) => format!("refused, {count} errors"),
+                }
+            }
+        }
     }
 }
 
 /// What a refusal's number is given for, in the rules' words.
 pub fn meaning(refusal: Refusal) -> &'static str {
     match refusal {
-        Refusal::Short => "bytes end early",
-        Refusal::Foreign => "map of 64 or more, present field 0 or not the kind's, or stray bit",
-        Refusal::UnknownKind => "kind above 12",
-        Refusal::OffRange => "register above 14, SAR by more than 31, or EVENT above 15",
+        Refusal::Short => "the bytes end early",
+        Refusal::Foreign => {
+            "a map of 64 or more, a present field that is 0 or not the kind's, or a stray bit"
+        }
+        Refusal::UnknownKind => "a kind above 12",
+        Refusal::OffRange => "a register, condition, shift or event out of its range",
         Refusal::Oversize => "more than 1023 instructions",
         Refusal::Trailing => "bytes after the last instruction",
         Refusal::BadLayout => "the layout is not right",
-        Refusal::BadLanding => "GOIF to behind the routine's end",
-        Refusal::SmallOutput => "output too short",
+        Refusal::BadLanding => "a jump behind the routine's end",
+        Refusal::SmallOutput => "the output is too short",
         Refusal::BadPolicy => "not the layout's S states (1 to 16), or a wrong start or arrow",
         Refusal::BadBundle => "a bundle has no allowed shape",
         Refusal::BadCount => "not 4N commands",
@@ -56,20 +155,8 @@ pub fn meaning(refusal: Refusal) -> &'static str {
     }
 }
 
-/// A refusal with number, word, place if it has one, and meaning.
-pub fn refused(file: &str, refusal: Refusal, place: Option<String>) -> Problem {
-    let place = place.map_or(String::new(), |place| format!(", {place}"));
-    let number = refusal.number();
-    let meaning = meaning(refusal);
-    Problem::Refused(format!(
-        "{file}: refused, {number} {refusal}{place} ({meaning})"
-    ))
-}
-
-/// A fault of a text, with its file and line.
-pub fn faulty(path: &str, fault: Fault) -> Problem {
-    match fault.line {
-        0 => Problem::Refused(format!("{path}: {}", fault.message)),
-        line => Problem::Refused(format!("{path}, line {line}: {}", fault.message)),
-    }
+/// The faults of a file's text.
+pub fn faulty(path: &str, content: &[u8], faults: Vec<Fault>) -> Problem {
+    let report = |fault| Report::fault(path, content, fault);
+    Problem::Refused(faults.into_iter().map(report).collect())
 }

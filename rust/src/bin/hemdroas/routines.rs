@@ -1,13 +1,14 @@
-//! assemble, list, check and forward.
+//! assemble, list and forward.
 
 use super::args::Args;
 use super::drums::{self, DrumFile};
 use super::files;
-use super::load::load;
-use super::problem::Done;
+use super::json::object;
+use super::problem::{Done, Problem, Status};
+use super::report::{Level, Report};
 use super::sources::{commands, Routine};
 use hemdroas::names::{BUNDLE_LENGTH, MOST_INSTRUCTIONS};
-use hemdroas::text::{command, listing, Names};
+use hemdroas::text::{command, listing, objections, Names};
 use hemdroas::{model, native, Answer, Refusal};
 
 /// The most bytes of an instruction: a map, five fields of one byte, one of four.
@@ -16,26 +17,35 @@ const LONGEST_INSTRUCTION: usize = 10;
 /// The most bytes of a routine.
 const LONGEST_ROUTINE: usize = 2 + LONGEST_INSTRUCTION * MOST_INSTRUCTIONS;
 
+/// Warns of jumps behind the end: such a routine has bytes, but no drum takes it.
+fn warn_of_jumps(routine: &Routine) {
+    let Answer::Refused {
+        refusal: Refusal::BadLanding,
+        ..
+    } = native::forward(&routine.words)
+    else {
+        return;
+    };
+    for (&word, place) in routine.words.iter().zip(0..) {
+        for mut found in objections(word, routine.words.len()) {
+            found.message += "; check will refuse it as bad landing (8)";
+            files::complain(&routine.report(Level::Warning, place, &found).text());
+        }
+    }
+}
+
 pub fn assemble(args: &Args) -> Done {
     let out = args.needed("-o")?;
-    let path = args.file(0);
-    let names = drums::names(args)?;
-    let routine = Routine::of_text(path, &files::read(path)?, &names)?;
+    let routine = Routine::of_file(args.file(0), &drums::names(args)?)?;
+    if routine.text.is_none() {
+        let said = "the file holds bytes already; 'hemdroas list' prints them as text";
+        return Err(Report::error(args.file(0), said).into());
+    }
     let mut bytes = vec![0; LONGEST_ROUTINE];
     let count = routine.taken(native::write(&routine.words, &mut bytes))?;
     files::write(out, &bytes[..count as usize])?;
-    // Such a routine has bytes, but no drum takes it.
-    if let Answer::Refused {
-        refusal: Refusal::BadLanding,
-        place,
-    } = native::forward(&routine.words)
-    {
-        let place = routine.place(place);
-        files::complain(&format!(
-            "{path}: {place}: this jump goes behind the end, check will refuse it (8)"
-        ));
-    }
-    Ok(true)
+    warn_of_jumps(&routine);
+    Ok(Status::Well)
 }
 
 /// The lines under an instruction: its bundle's commands, with their addresses;
@@ -67,73 +77,57 @@ fn bundle_lines(
 }
 
 pub fn list(args: &Args) -> Done {
-    let path = args.file(0);
-    let out = args.value("-o").unwrap_or("-");
+    let signed = args.has("--signed");
     let text = match args.has("--bundles") {
         false => {
-            let names = drums::names(args)?;
-            let routine = Routine::of_bytes(path, &files::read(path)?, &names)?;
-            listing(&routine.words, &names, |_| Vec::new())
+            let routine = Routine::of_file(args.file(0), &drums::names(args)?)?;
+            listing(&routine.listed(signed), |_| Vec::new())
         }
         true => {
             let file = DrumFile::of(args.needed("--drum")?)?;
             let drum = &file.drum;
-            let routine = Routine::of_bytes(path, &files::read(path)?, &drum.names)?;
-            let commands = commands(&file, &routine)?;
+            let routine = Routine::of_file(args.file(0), &drum.names)?;
+            let commands = commands(&file, &drum.layout, &routine)?;
             let count = routine.words.len();
-            listing(&routine.words, &drum.names, |place| {
+            listing(&routine.listed(signed), |place| {
                 bundle_lines(place, count, drum.layout.base, &commands, &drum.names)
             })
         }
     };
-    files::write(out, text.as_bytes())?;
-    Ok(true)
+    files::write(args.value("-o").unwrap_or("-"), text.as_bytes())?;
+    Ok(Status::Well)
 }
 
-pub fn check(args: &Args) -> Done {
-    let (count, list, base) = match args.value("--policy") {
-        Some(_) => {
-            let loaded = load(args)?;
-            (
-                loaded.routine.words.len(),
-                loaded.commands,
-                loaded.layout.base,
-            )
-        }
-        None => {
-            let file = DrumFile::of(args.needed("--drum")?)?;
-            let routine = Routine::of_file(args.file(0), &file.drum.names)?;
-            let list = commands(&file, &routine)?;
-            (routine.words.len(), list, file.drum.layout.base)
-        }
+/// Checks the bundles of a routine for the class too, where a drum is named.
+fn check_bundles(args: &Args, routine: &Routine) -> Result<(), Problem> {
+    let Some(path) = args.value("--drum") else {
+        return Ok(());
     };
-    let (bundles, length) = (list.len() / BUNDLE_LENGTH, list.len());
-    let last = u64::from(base) + length as u64 - 1;
-    let installed = if args.has("--policy") {
-        ", installed"
-    } else {
-        ""
-    };
-    files::print(&format!(
-        "taken: {count} instructions, {bundles} bundles, {length} commands at {base} to {last}{installed}\n"
-    ))?;
-    Ok(true)
+    let file = DrumFile::of(path)?;
+    let layout = &file.drum.layout;
+    let list = commands(&file, layout, routine)?;
+    file.taken(layout, routine, native::check_forward(layout, &list))?;
+    Ok(())
 }
 
 pub fn forward(args: &Args) -> Done {
-    let names = drums::names(args)?;
-    let routine = Routine::of_file(args.file(0), &names)?;
+    let path = args.file(0);
+    let routine = Routine::of_file(path, &drums::names(args)?)?;
     routine.taken(native::forward(&routine.words))?;
-    if let Some(path) = args.value("--drum") {
-        let file = DrumFile::of(path)?;
-        let list = commands(&file, &routine)?;
-        let answer = native::check_forward(&file.drum.layout, &list);
-        file.taken(&routine, answer)?;
-    }
+    check_bundles(args, &routine)?;
     let bundles = (routine.words.len() + 1).next_power_of_two();
     let most = model::most_steps(bundles);
+    if args.is_json() {
+        files::print_json(&object([
+            ("type", "forward".into()),
+            ("file", path.into()),
+            ("forward", true.into()),
+            ("steps", (most as u64).into()),
+        ]))?;
+        return Ok(Status::Well);
+    }
     files::print(&format!(
         "forward: it ends or stops within {most} steps over all its runs\n"
     ))?;
-    Ok(true)
+    Ok(Status::Well)
 }

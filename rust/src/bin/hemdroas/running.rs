@@ -1,218 +1,231 @@
-//! run and preview.
+//! run.
 
-use super::args::{numbers, Args};
+use super::args::Args;
+use super::endings::{is_pause, End, Given};
 use super::files;
-use super::load::{load, Loaded};
-use super::problem::{refused, Done, Problem};
-use hemdroas::names::{BUNDLE_LENGTH, EVENTS};
-use hemdroas::text::Names;
-use hemdroas::{native, Ending, Machine, Refusal, RunAnswer};
+use super::load::{load, Loaded, Stand};
+use super::preview::{look_ahead, show_preview};
+use super::problem::{Done, Problem, Status};
+use super::prompt::{ask, words};
+use super::records::{head, pair_objects, rows};
+use super::stretch::{event_at, instruction_at, stretch, How, Stretch, Supply};
+use hemdroas::text::{number, scaled};
+use hemdroas::Ending;
+use std::collections::VecDeque;
 
 /// The most cells of a log that can be asked for.
 const LARGEST_LOG: u32 = 1 << 20;
 
-/// The columns of a record.
-pub struct Columns {
-    event: usize,
+/// The steps of a run that is given no budget.
+const USUAL_BUDGET: u32 = 1000;
+
+/// The cells of a log that is given no length.
+const USUAL_LOG: u32 = 64;
+
+/// What the arguments give a run.
+pub fn given(args: &Args, unit: &'static str) -> Result<Given, Problem> {
+    Ok(Given {
+        budget: args.number("--budget", USUAL_BUDGET, u32::MAX)?,
+        unit,
+        log: match unit {
+            "steps" => args.number("--log", USUAL_LOG, LARGEST_LOG)?,
+            _ => USUAL_LOG,
+        },
+    })
 }
 
-impl Columns {
-    pub fn of(names: &Names) -> Self {
-        let widths = (0..EVENTS).map(|event| names.both(event).len());
-        Columns {
-            event: widths.max().unwrap_or(0).max("event".len()),
-        }
-    }
-
-    pub fn head(&self) -> String {
-        let width = self.event;
-        format!("{:>5}  {:<width$}  {:>10}\n", "pair", "event", "value")
-    }
-
-    pub fn row(&self, pair: u64, event: &str, value: u32) -> String {
-        let width = self.event;
-        format!("{pair:>5}  {event:<width$}  {value:>10}\n")
-    }
+/// The readings that the arguments list.
+pub fn readings(args: &Args) -> VecDeque<String> {
+    words(args.value("--readings").unwrap_or("")).collect()
 }
 
-/// Whether a machine or an engine can go on.
-pub fn is_pause(ending: Ending) -> bool {
-    matches!(ending, Ending::LogFull | Ending::Silent | Ending::Spent)
-}
-
-/// The instruction at which a machine stands.
-fn place(loaded: &Loaded, machine: &Machine) -> String {
-    let index = machine.pc.wrapping_sub(loaded.layout.base);
-    loaded.routine.place(index / BUNDLE_LENGTH as u32)
-}
-
-/// How a run came back, with its counts.
-fn summary(loaded: &Loaded, machine: &Machine, came: Ending, counts: [u64; 3]) -> String {
-    let [steps, pairs, readings] = counts;
-    let number = came.number();
-    let place = place(loaded, machine);
-    format!(
-        "ending {number} {came}: {steps} steps, {pairs} pairs, {readings} readings used\nat {place}\n"
-    )
-}
-
-/// The rows of a log's pairs, numbered on from those before.
-fn rows(loaded: &Loaded, before: u64, log: &[u32], answer: &RunAnswer) -> String {
-    let columns = Columns::of(&loaded.names);
-    let pairs = log.chunks(2).take(answer.pairs as usize);
-    pairs
-        .zip(before + 1..)
-        .map(|(pair, number)| columns.row(number, &loaded.names.both(pair[0]), pair[1]))
-        .collect()
-}
-
-/// A run or a preview that is refused, which no loaded routine's is.
-fn not_refused(args: &Args, answer: &RunAnswer) -> Result<(), Problem> {
-    match answer.ending {
-        Ending::Refused => Err(refused(args.file(0), Refusal::BadLayout, None)),
-        _ => Ok(()),
+/// What a run may use at first.
+pub fn supply(args: &Args, given: &Given) -> Supply {
+    Supply {
+        steps: given.budget,
+        log: given.log,
+        readings: readings(args),
+        unused: None,
     }
 }
 
-/// What a run would record from where the machine stands.
-fn look_ahead(
-    args: &Args,
-    loaded: &Loaded,
-    budget: u32,
-    readings: &[u32],
-    log: u32,
-) -> Result<Ending, Problem> {
-    let mut log = vec![0; log as usize];
-    let (answer, after) = native::preview(
-        &loaded.layout,
-        &loaded.commands,
-        &loaded.machine,
-        &loaded.memory,
-        budget,
-        readings,
-        &mut log,
-    );
-    not_refused(args, &answer)?;
-    let counts = [answer.steps, answer.pairs, answer.readings].map(u64::from);
-    let mut text = "preview: nothing is touched\n".to_string();
-    text += &Columns::of(&loaded.names).head();
-    text += &rows(loaded, 0, &log, &answer);
-    text += &summary(loaded, &after, answer.ending, counts);
-    files::print(&text)?;
-    Ok(answer.ending)
-}
-
-pub fn preview(args: &Args) -> Done {
-    let budget = args.number("--budget", 1000, u32::MAX)?;
-    let log = args.number("--log", 64, LARGEST_LOG)?;
-    let mut readings = args.readings()?;
-    let loaded = load(args)?;
-    if !args.has("--readings") {
-        let line = files::ask("readings: ")?.unwrap_or_default();
-        readings = numbers(&line).map_err(Problem::Refused)?;
-    }
-    let ending = look_ahead(args, &loaded, budget, &readings, log)?;
-    Ok(ending == Ending::Done)
-}
-
-/// What is asked for at a pause.
-fn question(ending: Ending) -> &'static str {
-    match ending {
-        Ending::Silent => "readings: ",
-        Ending::Spent => "further steps: ",
-        _ => "Enter when the log is emptied: ",
+/// A bad reading among the arguments.
+pub fn all_used(supply: &mut Supply) -> Result<(), Problem> {
+    match supply.unused.take() {
+        Some(said) => Err(Problem::Usage(format!("--readings: {said}"))),
+        None => Ok(()),
     }
 }
 
 /// What goes on after a pause.
 enum Resumed {
-    With(Vec<u32>),
-    Preview(Vec<u32>),
+    On,
+    Preview(VecDeque<String>),
     Stopped,
 }
 
+/// What is asked for at a pause.
+fn question(loaded: &Loaded, stand: &Stand, ending: Ending) -> String {
+    match (ending, event_at(loaded, stand)) {
+        (Ending::Silent, Some(event)) => format!("readings of {}: ", loaded.names.word(event)),
+        (Ending::Spent, _) => "further steps: ".to_string(),
+        _ => "Enter when the log is emptied: ".to_string(),
+    }
+}
+
+/// Takes what is typed at a pause, or says what is wrong with it. A reading has
+/// the scale of the event that waits for it.
+fn take(
+    ending: Ending,
+    typed: &VecDeque<String>,
+    scale: u32,
+    given: &Given,
+    supply: &mut Supply,
+) -> Result<(), String> {
+    match (ending, typed.front()) {
+        (Ending::Silent, None) => return Err("a reading is wanted".to_string()),
+        (Ending::Silent, Some(word)) => {
+            scaled(word, scale)?;
+            supply.readings.extend(typed.iter().cloned());
+        }
+        (Ending::Spent, None) => supply.steps = given.budget,
+        (Ending::Spent, Some(word)) => match (number(word)?, typed.len()) {
+            (steps, 1) => supply.steps = steps,
+            _ => return Err("one number of steps, or none for the same again".to_string()),
+        },
+        (_, None) => (),
+        (_, Some(word)) => return Err(format!("'{word}' is not known here")),
+    }
+    // Each run that goes on is lent an empty log.
+    supply.log = given.log;
+    Ok(())
+}
+
 /// Asks how to go on, until the answer can be understood.
-fn resume(ending: Ending) -> Result<Resumed, Problem> {
+fn resume(
+    loaded: &Loaded,
+    stand: &Stand,
+    ending: Ending,
+    given: &Given,
+    supply: &mut Supply,
+) -> Result<Resumed, Problem> {
+    let scale = event_at(loaded, stand).map_or(1, |event| loaded.scale(event));
     loop {
-        let Some(line) = files::ask(question(ending))? else {
-            files::print("\n")?;
+        let Some(line) = ask(&question(loaded, stand, ending))? else {
             return Ok(Resumed::Stopped);
         };
-        let (listed, is_preview) = match line.strip_prefix("preview") {
-            Some(rest) => (rest, true),
-            None => (line.as_str(), false),
-        };
-        match numbers(listed) {
-            _ if line == "stop" => return Ok(Resumed::Stopped),
-            Ok(numbers) if is_preview => return Ok(Resumed::Preview(numbers)),
-            Ok(numbers) if ending != Ending::Spent || numbers.len() <= 1 => {
-                return Ok(Resumed::With(numbers));
+        let mut typed: VecDeque<String> = words(&line).collect();
+        let first = typed.front().map(String::as_str);
+        match first {
+            Some("stop") => return Ok(Resumed::Stopped),
+            Some("preview") => {
+                typed.pop_front();
+                return Ok(Resumed::Preview(typed));
             }
-            Ok(_) => files::print("one number, or none for the same again\n")?,
-            Err(said) => {
-                files::print(&format!("{said}; 'preview NUMBERS' and 'stop' are known\n"))?
+            _ => match take(ending, &typed, scale, given, supply) {
+                Ok(()) => return Ok(Resumed::On),
+                Err(said) => {
+                    files::complain(&format!("{said}; 'preview NUMBERS' and 'stop' are known\n"));
+                }
+            },
+        }
+    }
+}
+
+/// Shows the pairs of a stretch.
+fn show_pairs(args: &Args, loaded: &Loaded, before: usize, part: &Stretch) -> Result<(), Problem> {
+    if !args.is_json() {
+        return files::print(&rows(loaded, before, &part.pairs));
+    }
+    let objects = pair_objects(loaded, before, &part.pairs);
+    objects.iter().try_for_each(files::print_json)
+}
+
+/// Says where a run pauses.
+fn show_pause(
+    args: &Args,
+    loaded: &Loaded,
+    stand: &Stand,
+    all: &Stretch,
+    given: &Given,
+) -> Result<(), Problem> {
+    if args.is_json() {
+        return files::print_json(&End::of(loaded, stand, all, given).json());
+    }
+    let ending = all.ending;
+    let place = loaded.routine().place(instruction_at(loaded, stand));
+    let state = loaded.state_text(loaded.state_in(&stand.memory));
+    files::print(&format!(
+        "pause {} {ending}, state {state}, at {place}\n",
+        ending.number()
+    ))
+}
+
+/// Asks at a pause until the run can go on; false if it shall not.
+fn go_on(
+    args: &Args,
+    loaded: &Loaded,
+    stand: &Stand,
+    all: &Stretch,
+    given: &Given,
+    supply: &mut Supply,
+) -> Result<bool, Problem> {
+    if let Some(said) = supply.unused.take() {
+        files::complain(&format!("{said}\n"));
+    }
+    show_pause(args, loaded, stand, all, given)?;
+    loop {
+        match resume(loaded, stand, all.ending, given, supply)? {
+            Resumed::On => return Ok(true),
+            Resumed::Stopped => return Ok(false),
+            Resumed::Preview(readings) => {
+                let mut ahead = Supply {
+                    steps: given.budget,
+                    log: given.log,
+                    readings,
+                    unused: None,
+                };
+                let mut copy = stand.clone();
+                let part = look_ahead(loaded, &mut copy, &mut ahead)?;
+                if let Some(said) = ahead.unused {
+                    files::complain(&format!("{said}\n"));
+                }
+                show_preview(args, loaded, (stand, &copy), &part, given)?;
             }
         }
     }
 }
 
 pub fn run(args: &Args) -> Done {
-    let budget = args.number("--budget", 1000, u32::MAX)?;
-    let log_cells = args.number("--log", 64, LARGEST_LOG)?;
-    let mut readings = args.readings()?;
-    let mut loaded = load(args)?;
-    let mut left = budget;
-    let (mut used, mut steps, mut pairs) = (0, 0, 0);
-    files::print(&Columns::of(&loaded.names).head())?;
-    let ending = 'runs: loop {
-        let mut log = vec![0; log_cells as usize];
-        let answer = native::run(
-            &loaded.layout,
-            &loaded.commands,
-            &mut loaded.machine,
-            &mut loaded.memory,
-            left,
-            &readings[used..],
-            &mut log,
-        );
-        not_refused(args, &answer)?;
-        files::print(&rows(&loaded, pairs, &log, &answer))?;
-        used += answer.readings as usize;
-        steps += u64::from(answer.steps);
-        pairs += u64::from(answer.pairs);
-        left -= answer.steps;
-        let ending = answer.ending;
-        if !args.has("--resume") || !is_pause(ending) {
-            break ending;
-        }
-        let place = place(&loaded, &loaded.machine);
-        let state = loaded.state();
-        files::print(&format!(
-            "pause {} {ending}, state {state}, at {place}\n",
-            ending.number()
-        ))?;
-        loop {
-            match resume(ending)? {
-                Resumed::Stopped => break 'runs ending,
-                Resumed::Preview(mut typed) => {
-                    if typed.is_empty() {
-                        typed = readings[used..].to_vec();
-                    }
-                    look_ahead(args, &loaded, budget, &typed, log_cells)?;
-                }
-                Resumed::With(numbers) if ending == Ending::Spent => {
-                    left = numbers.first().copied().unwrap_or(budget);
-                    break;
-                }
-                Resumed::With(numbers) => {
-                    readings.extend(numbers);
-                    break;
-                }
+    let given = given(args, "steps")?;
+    let mut supply = supply(args, &given);
+    let loaded = load(args)?;
+    let mut stand = loaded.first.clone();
+    let mut all: Option<Stretch> = None;
+    loop {
+        let part = stretch(&loaded, &mut stand, How::Run, &mut supply)?;
+        if all.is_none() {
+            all_used(&mut supply)?;
+            if !args.is_json() {
+                files::print(&head(&loaded))?;
             }
         }
-    };
-    let counts = [steps, pairs, used as u64];
-    let text = summary(&loaded, &loaded.machine, ending, counts);
-    files::print(&format!("{text}state {}\n", loaded.state()))?;
-    Ok(ending == Ending::Done)
+        let before = all.as_ref().map_or(0, |all| all.pairs.len());
+        show_pairs(args, &loaded, before, &part)?;
+        let sum = match all.take() {
+            Some(mut sum) => {
+                sum.add(part);
+                sum
+            }
+            None => part,
+        };
+        let goes_on = args.has("--resume")
+            && is_pause(sum.ending)
+            && go_on(args, &loaded, &stand, &sum, &given, &mut supply)?;
+        if !goes_on {
+            End::of(&loaded, &stand, &sum, &given).show(args.is_json())?;
+            return Ok(Status::of(sum.ending));
+        }
+        all = Some(sum);
+    }
 }

@@ -1,144 +1,127 @@
-//! step: a routine as it is written, one instruction at a time.
+//! A routine as it is written, one instruction at a time, forwards and back.
 
-use super::args::{numbers, Args};
-use super::files;
-use super::load::{load, Loaded};
-use super::problem::{Done, Problem};
+use super::endings::changed_cells;
+use super::load::Loaded;
+use super::problem::Problem;
+use super::stretch::{Recorded, PAIR};
+use super::what::event_of;
+use hemdroas::text::scaled;
 use hemdroas::{native, Ending, Engine, EngineAnswer, Status};
 
-/// The cells of a log for one pair.
-const PAIR: usize = 2;
-
-/// What one instruction changed: registers, cells, the record.
-fn changes(
-    loaded: &Loaded,
-    before: (&Engine, &[u32]),
-    after: &Engine,
-    pair: Option<[u32; PAIR]>,
-) -> String {
-    let (engine, memory) = before;
-    let mut text = String::new();
-    if let Some([event, value]) = pair {
-        text += &format!("      recorded {}: {value}\n", loaded.names.both(event));
-    }
-    for (register, (old, new)) in engine.regs.iter().zip(&after.regs).enumerate() {
-        if old != new {
-            text += &format!("      r{register}: {old} -> {new}\n");
-        }
-    }
-    for (address, (&old, &new)) in memory.iter().zip(&loaded.memory).enumerate() {
-        if old == new {
-            continue;
-        }
-        text += &match address as u32 == loaded.layout.cell {
-            false => format!("      cell {address}: {old} -> {new}\n"),
-            true => {
-                let (old, new) = (loaded.policy.name(old), loaded.policy.name(new));
-                format!("      state: {old} -> {new}\n")
-            }
-        };
-    }
-    text
+/// A lesson: where the engine stands, what it did and what it read.
+pub struct Lesson<'a> {
+    pub loaded: &'a Loaded,
+    pub engine: Engine,
+    pub memory: Vec<u32>,
+    pub done: u32,
+    pub pairs: Vec<Recorded>,
+    /// All readings that were given, of which so many are used.
+    pub readings: Vec<u32>,
+    pub used: usize,
 }
 
-/// How many instructions to do next, or that it is enough.
-fn asked() -> Result<Option<u32>, Problem> {
-    loop {
-        let Some(line) = files::ask("step: ")? else {
-            files::print("\n")?;
-            return Ok(None);
-        };
-        match (line.as_str(), numbers(&line)) {
-            ("", _) => return Ok(Some(1)),
-            ("stop", _) => return Ok(None),
-            ("all", _) => return Ok(Some(u32::MAX)),
-            (_, Ok(numbers)) if numbers.len() == 1 && numbers[0] > 0 => {
-                return Ok(Some(numbers[0]))
-            }
-            _ => files::print("Enter for one, a number for so many, 'all' or 'stop'\n")?,
-        }
-    }
+/// What one instruction did.
+pub struct Taken {
+    pub place: u32,
+    pub before: Engine,
+    pub state: u32,
+    pub pair: Option<Recorded>,
+    pub cells: Vec<(u32, u32, u32)>,
+    pub ending: Ending,
 }
 
-/// Further readings for a silent probe, or that there are none.
-fn further_readings() -> Result<Option<Vec<u32>>, Problem> {
-    loop {
-        let Some(line) = files::ask("probe silent, readings: ")? else {
-            files::print("\n")?;
-            return Ok(None);
-        };
-        match numbers(&line) {
-            _ if line == "stop" => return Ok(None),
-            Ok(numbers) => return Ok(Some(numbers)),
-            Err(said) => files::print(&format!("{said}; 'stop' is known\n"))?,
+impl<'a> Lesson<'a> {
+    /// A lesson before its first instruction.
+    pub fn new(loaded: &'a Loaded) -> Lesson<'a> {
+        Lesson {
+            loaded,
+            engine: Engine::FIRST,
+            memory: loaded.first.memory.clone(),
+            done: 0,
+            pairs: Vec::new(),
+            readings: Vec::new(),
+            used: 0,
         }
     }
-}
 
-pub fn step(args: &Args) -> Done {
-    let budget = args.number("--budget", 1000, u32::MAX)?;
-    let mut readings = args.readings()?;
-    let mut loaded = load(args)?;
-    let mut engine = Engine::FIRST;
-    let (mut done, mut pairs, mut used) = (0, 0, 0);
-    let mut free = if args.has("--all") { u32::MAX } else { 0 };
-    files::print(&format!(
-        "at {}; state {}\n",
-        loaded.routine.place(0),
-        loaded.state()
-    ))?;
-    let ending = loop {
-        if done == budget {
-            break Ending::Spent;
-        }
-        if free == 0 {
-            match asked()? {
-                Some(number) => free = number,
-                None => break Ending::Spent,
-            }
-        }
-        let (before, memory) = (engine, loaded.memory.clone());
-        let mut log = [0; PAIR];
+    /// The policy's state.
+    pub fn state(&self) -> u32 {
+        self.loaded.state_in(&self.memory)
+    }
+
+    /// The next instruction's word; behind the last it is a HALT.
+    pub fn word(&self) -> u64 {
+        let words = &self.loaded.routine().words;
+        words.get(self.engine.at as usize).copied().unwrap_or(0)
+    }
+
+    /// Whether the routine can go on.
+    pub fn is_running(&self) -> bool {
+        self.engine.status == Status::Running
+    }
+
+    /// Adds a reading as it was typed, scaled for the event that waits for it.
+    pub fn read(&mut self, typed: &str) -> Result<(), String> {
+        let event = event_of(self.word()).unwrap_or(0);
+        self.readings.push(scaled(typed, self.loaded.scale(event))?);
+        Ok(())
+    }
+
+    /// Runs the engine for so many instructions.
+    fn engine(&mut self, budget: u32, log: &mut [u32]) -> Result<(Ending, EngineAnswer), Problem> {
+        let routine = self.loaded.routine();
         let answer = native::engine(
-            &loaded.layout,
-            &loaded.routine.words,
-            &mut engine,
-            &mut loaded.memory,
-            1,
-            &readings[used..],
-            &mut log,
+            self.loaded.layout(),
+            &routine.words,
+            &mut self.engine,
+            &mut self.memory,
+            budget,
+            &self.readings[self.used..],
+            log,
         );
-        let EngineAnswer {
-            came, instructions, ..
-        } = answer;
-        let ending = came.map_err(|(refusal, place)| loaded.routine.refused(refusal, place))?;
+        let ending = answer
+            .came
+            .map_err(|(refusal, place)| routine.refused(refusal, place))?;
+        self.done += answer.instructions;
+        self.used += answer.readings as usize;
+        Ok((ending, answer))
+    }
+
+    /// Takes one instruction; none if the probe is silent.
+    pub fn step(&mut self) -> Result<Option<Taken>, Problem> {
+        let (before, state, memory) = (self.engine, self.state(), self.memory.clone());
+        let mut log = [0; PAIR];
+        let (ending, answer) = self.engine(1, &mut log)?;
         if ending == Ending::Silent {
-            match further_readings()? {
-                Some(numbers) => readings.extend(numbers),
-                None => break ending,
-            }
-            continue;
+            return Ok(None);
         }
-        done += instructions;
-        free = free.saturating_sub(1);
-        pairs += answer.pairs;
-        used += answer.readings as usize;
-        let place = loaded.routine.place(before.at);
-        let mut text = format!("{done:>4}  {place}\n");
-        let pair = (answer.pairs == 1).then_some(log);
-        text += &changes(&loaded, (&before, &memory), &engine, pair);
-        if engine.status == Status::Running {
-            let place = loaded.routine.place(engine.at);
-            text += &format!("      next {place}; state {}\n", loaded.state());
-        }
-        files::print(&text)?;
-        if engine.status != Status::Running {
-            break ending;
-        }
-    };
-    let (number, state) = (ending.number(), loaded.state());
-    files::print(&format!(
-        "ending {number} {ending}: {done} instructions, {pairs} pairs, {used} readings used\nstate {state}\n"
-    ))?;
-    Ok(ending == Ending::Done)
+        let [event, value] = log;
+        let wanted = (answer.readings == 0 && value != before.regs[0]).then_some(before.regs[0]);
+        let pair = (answer.pairs == 1).then_some(Recorded {
+            event,
+            value,
+            wanted,
+        });
+        self.pairs.extend(pair);
+        Ok(Some(Taken {
+            place: before.at,
+            before,
+            state,
+            pair,
+            cells: changed_cells(self.loaded, &memory, &self.memory),
+            ending,
+        }))
+    }
+
+    /// Goes back by so many instructions: runs again from the installation, with
+    /// so many fewer. The readings stay, so that going on reads them again.
+    pub fn back(&mut self, instructions: u32) -> Result<(), Problem> {
+        let budget = self.done.saturating_sub(instructions);
+        let mut log = vec![0; PAIR * self.pairs.len()];
+        (self.engine, self.done, self.used) = (Engine::FIRST, 0, 0);
+        self.memory.clone_from(&self.loaded.first.memory);
+        let (_, answer) = self.engine(budget, &mut log)?;
+        self.pairs.truncate(answer.pairs as usize);
+        Ok(())
+    }
 }

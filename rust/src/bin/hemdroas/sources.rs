@@ -2,86 +2,137 @@
 
 use super::drums::DrumFile;
 use super::files;
-use super::problem::{faulty, refused, Problem};
+use super::problem::{faulty, meaning, Problem};
+use super::report::{Level, Report};
 use hemdroas::names::{MOST_COMMANDS, MOST_INSTRUCTIONS};
-use hemdroas::text::{self, Names};
-use hemdroas::{native, Answer, Refusal};
+use hemdroas::text::{self, backward, objections, Listed, Names, Objection};
+use hemdroas::{native, Answer, Layout, Refusal};
 
 /// A routine, from text or bytes.
 pub struct Routine {
-    path: String,
+    pub path: String,
     pub words: Vec<u64>,
-    /// The line of each instruction, and the text's lines, where there is a text.
-    text: Option<(Vec<usize>, Vec<String>)>,
+    /// The text that the words come from, where there is one.
+    pub text: Option<text::Routine>,
+    content: Vec<u8>,
     pub names: Names,
 }
 
+/// Whether a routine's file holds text. The second byte tells: in bytes it is
+/// the high one of the count, at most 3, and no text has a control character
+/// there. A blank file is no text, for a routine that lost all but its first
+/// byte can look like one.
+pub fn is_text(content: &[u8]) -> bool {
+    let is_plain = |byte: u8| byte >= b' ' || b"\t\r\n".contains(&byte);
+    let is_blank = content.iter().all(u8::is_ascii_whitespace);
+    !is_blank && content.iter().take(2).all(|&byte| is_plain(byte))
+}
+
 impl Routine {
-    /// The routine of a text.
-    pub fn of_text(path: &str, content: &[u8], names: &Names) -> Result<Routine, Problem> {
-        let routine = text::assemble(content, names).map_err(|fault| faulty(path, fault))?;
-        let lines = String::from_utf8_lossy(content);
-        let without_comment = |line: &str| line.split('#').next().unwrap_or("").trim().to_string();
-        let lines = lines.split('\n').map(without_comment);
+    /// The routine of a file, whichever it holds.
+    pub fn of_file(path: &str, names: &Names) -> Result<Routine, Problem> {
+        let content = files::read(path)?;
+        match is_text(&content) {
+            true => Routine::of_text(path, content, names),
+            false => Routine::of_bytes(path, content, names),
+        }
+    }
+
+    fn of_text(path: &str, content: Vec<u8>, names: &Names) -> Result<Routine, Problem> {
+        let text = text::assemble(&content, names);
+        let text = text.map_err(|faults| faulty(path, &content, faults))?;
         Ok(Routine {
             path: path.to_string(),
-            words: routine.words,
-            text: Some((routine.lines, lines.collect())),
+            words: text.words.clone(),
+            text: Some(text),
+            content,
             names: names.clone(),
         })
     }
 
     /// The routine of bytes, which the library reads.
-    pub fn of_bytes(path: &str, content: &[u8], names: &Names) -> Result<Routine, Problem> {
+    fn of_bytes(path: &str, content: Vec<u8>, names: &Names) -> Result<Routine, Problem> {
         let mut words = vec![0; MOST_INSTRUCTIONS];
-        let answer = native::read(content, &mut words);
-        match answer {
-            Answer::Taken(count) => words.truncate(count as usize),
-            Answer::Refused { .. } => words.clear(),
+        let answer = native::read(&content, &mut words);
+        let count = if let Answer::Taken(count) = answer {
+            count
+        } else {
+            0
+        };
+        words.truncate(count as usize);
+        if content.iter().all(u8::is_ascii_whitespace) && !answer.is_taken() {
+            let said = "the file is empty; a routine that does nothing is the line HALT";
+            let empty = Report::refusal(path, Refusal::Short, said);
+            return Err(Report {
+                instruction: Some((0, None)),
+                ..empty
+            }
+            .into());
         }
         let routine = Routine {
             path: path.to_string(),
             words,
             text: None,
+            content,
             names: names.clone(),
         };
-        match routine.taken(answer) {
-            Ok(_) => Ok(routine),
-            Err(problem) if files::is_text(content) => {
-                let hint = "it looks like text, and bytes are wanted here";
-                Err(Problem::Refused(format!("{problem}; {hint}")))
-            }
-            Err(problem) => Err(problem),
+        routine.taken(answer)?;
+        Ok(routine)
+    }
+
+    /// How the routine is listed.
+    pub fn listed(&self, signed: bool) -> Listed<'_> {
+        Listed {
+            words: &self.words,
+            text: self.text.as_ref(),
+            names: &self.names,
+            signed,
         }
     }
 
-    /// The routine of a file, whichever it holds.
-    pub fn of_file(path: &str, names: &Names) -> Result<Routine, Problem> {
-        let content = files::read(path)?;
-        match files::is_text(&content) {
-            true => Routine::of_text(path, &content, names),
-            false => Routine::of_bytes(path, &content, names),
+    /// The landings that the text marks.
+    pub fn landings(&self) -> &[u32] {
+        self.text.as_ref().map_or(&[], |text| &text.landings)
+    }
+
+    /// The line of an instruction, where there is a text.
+    pub fn line(&self, place: u32) -> Option<usize> {
+        let source = self.text.as_ref()?.sources.get(place as usize)?;
+        Some(source.place.line)
+    }
+
+    /// An instruction as the text has it, or as a listing would.
+    pub fn instruction(&self, place: u32) -> String {
+        let at = place as usize;
+        let source = self.text.as_ref().and_then(|text| text.sources.get(at));
+        match source {
+            Some(source) => {
+                let line = self
+                    .content
+                    .split(|&byte| byte == b'\n')
+                    .nth(source.place.line - 1);
+                let line = String::from_utf8_lossy(line.unwrap_or_default());
+                let said = line.chars().skip(source.place.column - 1);
+                said.take(source.place.length).collect()
+            }
+            None if at < self.words.len() => self.listed(false).instruction(at),
+            None => "HALT, behind the last".to_string(),
         }
     }
 
     /// An instruction with its place, its line and itself.
     pub fn place(&self, place: u32) -> String {
-        let count = self.words.len();
-        let at = place as usize;
-        match (&self.text, self.words.get(at)) {
-            (Some((lines, said)), Some(_)) => {
-                let line = lines[at];
-                format!("instruction {place}, line {line}: {}", said[line - 1])
-            }
-            (None, Some(&word)) => {
-                format!(
-                    "instruction {place}: {}",
-                    text::instruction(word, count, &self.names)
-                )
-            }
-            (_, None) if count > 0 => format!("instruction {place}: HALT, behind the last"),
-            _ => format!("instruction {place}"),
-        }
+        let line = self
+            .line(place)
+            .map_or(String::new(), |line| format!(", line {line}"));
+        format!("instruction {place}{line}: {}", self.instruction(place))
+    }
+
+    /// The label of an instruction, or its number.
+    pub fn target(&self, place: u32) -> String {
+        let labels = self.listed(false).labels();
+        let named = labels.get(&place).filter(|_| self.text.is_some());
+        named.map_or(format!("instruction {place}"), |names| names[0].clone())
     }
 
     /// The number of an answer about the routine, or the refusal with its place.
@@ -92,29 +143,68 @@ impl Routine {
         }
     }
 
-    /// A refusal of the routine.
-    pub fn refused(&self, refusal: Refusal, place: u32) -> Problem {
-        let shown = match refusal {
-            Refusal::Short
-            | Refusal::Foreign
-            | Refusal::UnknownKind
-            | Refusal::OffRange
-            | Refusal::BadLanding
-            | Refusal::NotForward => Some(self.place(place)),
-            Refusal::BadBundle => Some(format!("bundle {place}")),
-            _ => None,
+    /// What is to be said of an instruction.
+    pub fn report(&self, level: Level, place: u32, found: &Objection) -> Report {
+        let source = self
+            .text
+            .as_ref()
+            .and_then(|text| text.sources.get(place as usize));
+        let report = Report::error(&self.path, found.message.as_str());
+        let report = match source {
+            Some(source) => report.at(&self.content, source.field(found.field)),
+            None => report,
         };
-        refused(&self.path, refusal, shown)
+        let text = source.is_none().then(|| self.instruction(place));
+        Report {
+            level,
+            refusal: (level == Level::Error).then_some(found.refusal),
+            instruction: Some((place, text)),
+            ..report
+        }
+    }
+
+    /// All that a refusal may be given for, of every instruction.
+    fn objections(&self, refusal: Refusal) -> Vec<Report> {
+        let all = self.words.iter().zip(0..);
+        let found = all.flat_map(|(&word, place)| {
+            let found = match refusal {
+                Refusal::NotForward => backward(word, place).into_iter().collect(),
+                Refusal::OffRange | Refusal::BadLanding => objections(word, self.words.len()),
+                _ => Vec::new(),
+            };
+            found.into_iter().map(move |found| (place, found))
+        });
+        found
+            .map(|(place, found)| self.report(Level::Error, place, &found))
+            .collect()
+    }
+
+    /// A refusal of the routine, with all that brings it.
+    pub fn refused(&self, refusal: Refusal, place: u32) -> Problem {
+        let found = self.objections(refusal);
+        if !found.is_empty() {
+            return Problem::Refused(found);
+        }
+        let report = Report::refusal(&self.path, refusal, meaning(refusal));
+        let is_placed = matches!(
+            refusal,
+            Refusal::Short | Refusal::Foreign | Refusal::UnknownKind | Refusal::OffRange
+        );
+        let instruction = is_placed.then_some((place, None));
+        Report {
+            instruction,
+            ..report
+        }
+        .into()
     }
 }
 
 /// The commands of a routine for a drum, rewritten and checked.
-pub fn commands(drum: &DrumFile, routine: &Routine) -> Result<Vec<u64>, Problem> {
-    let layout = &drum.drum.layout;
+pub fn commands(drum: &DrumFile, layout: &Layout, routine: &Routine) -> Result<Vec<u64>, Problem> {
     let mut commands = vec![0; MOST_COMMANDS];
     let answer = native::rewrite(layout, &routine.words, &mut commands);
-    let count = drum.taken(routine, answer)?;
+    let count = drum.taken(layout, routine, answer)?;
     commands.truncate(count as usize);
-    drum.taken(routine, native::check(layout, &commands))?;
+    drum.taken(layout, routine, native::check(layout, &commands))?;
     Ok(commands)
 }

@@ -1,0 +1,101 @@
+//! check: a line for each routine.
+
+use super::args::Args;
+use super::files;
+use super::json::{list, object, Json};
+use super::load::{Checked, Setup};
+use super::problem::{Done, Problem, Status};
+use super::warnings::warnings;
+use hemdroas::names::BUNDLE_LENGTH;
+use hemdroas::text::landings_text;
+
+/// The routine, rewritten, checked and, where there is a policy, installed.
+fn checked(setup: &Setup, path: &str) -> Result<Checked, Problem> {
+    match setup.policy {
+        Some(_) => Ok(setup.load(path)?.checked),
+        None => setup.check(path),
+    }
+}
+
+/// The last address of the commands.
+fn last(checked: &Checked) -> u64 {
+    u64::from(checked.layout.base) + checked.commands.len() as u64 - 1
+}
+
+fn line(checked: &Checked, is_installed: bool) -> String {
+    let (count, length) = (checked.routine.words.len(), checked.commands.len());
+    let (bundles, first) = (length / BUNDLE_LENGTH, checked.layout.base);
+    let installed = if is_installed { ", installed" } else { "" };
+    format!(
+        "{}: taken: {count} instructions, {bundles} bundles, {length} commands at {first} to {}, landings {}{installed}\n",
+        checked.routine.path,
+        last(checked),
+        landings_text(&checked.landings)
+    )
+}
+
+fn object_of(checked: &Checked, is_installed: bool) -> Json {
+    let length = checked.commands.len();
+    object([
+        ("type", "check".into()),
+        ("file", checked.routine.path.as_str().into()),
+        ("taken", true.into()),
+        ("instructions", checked.routine.words.len().into()),
+        ("bundles", (length / BUNDLE_LENGTH).into()),
+        ("commands", length.into()),
+        ("first", checked.layout.base.into()),
+        ("last", last(checked).into()),
+        ("landings", list(checked.landings.iter().copied())),
+        ("installed", is_installed.into()),
+    ])
+}
+
+/// Says of a routine that it is taken, and what to beware of.
+fn show(args: &Args, setup: &Setup, checked: &Checked) -> Result<(), Problem> {
+    let policy = setup.policy.as_ref().map(|policy| &policy.table);
+    let found = warnings(checked, policy, &setup.names);
+    if args.is_json() {
+        found
+            .iter()
+            .try_for_each(|report| files::print_json(&report.json()))?;
+        return files::print_json(&object_of(checked, policy.is_some()));
+    }
+    for report in found {
+        files::complain(&report.text());
+    }
+    files::print(&line(checked, policy.is_some()))
+}
+
+/// Says of a routine that it is not taken, and why.
+fn show_problem(args: &Args, path: &str, problem: &Problem) -> Result<(), Problem> {
+    problem.say(args.is_json());
+    if args.is_json() {
+        return files::print_json(&object([
+            ("type", "check".into()),
+            ("file", path.into()),
+            ("taken", false.into()),
+            ("why", problem.short().into()),
+        ]));
+    }
+    files::print(&format!("{path}: {}\n", problem.short()))
+}
+
+pub fn check(args: &Args) -> Done {
+    let setup = Setup::of(args)?;
+    let mut worst = Status::Well;
+    for path in args.files() {
+        let status = match checked(&setup, path) {
+            Ok(checked) => {
+                show(args, &setup, &checked)?;
+                Status::Well
+            }
+            Err(problem @ (Problem::Refused(_) | Problem::File(..))) => {
+                show_problem(args, path, &problem)?;
+                problem.status()
+            }
+            Err(problem) => return Err(problem),
+        };
+        worst = worst.max(status);
+    }
+    Ok(worst)
+}

@@ -1,0 +1,153 @@
+//! Errors and warnings about a file, as compilers print them.
+
+use super::json::{object, Json};
+use hemdroas::text::{Fault, Place};
+use hemdroas::Refusal;
+
+/// Whether something keeps a file from being taken.
+#[derive(Clone, Copy, PartialEq, Eq)]
+pub enum Level {
+    Error,
+    Warning,
+}
+
+impl Level {
+    fn word(self) -> &'static str {
+        match self {
+            Level::Error => "error",
+            Level::Warning => "warning",
+        }
+    }
+}
+
+/// What is to be said of a file.
+#[derive(Clone)]
+pub struct Report {
+    pub level: Level,
+    pub file: String,
+    /// Where; line 0 stands for the whole file.
+    pub place: Place,
+    /// The line, as it stands in the file.
+    pub source: Option<String>,
+    pub message: String,
+    pub refusal: Option<Refusal>,
+    /// The instruction, and its text where no line shows it.
+    pub instruction: Option<(u32, Option<String>)>,
+}
+
+impl Report {
+    /// An error about a whole file.
+    pub fn error(file: &str, message: impl Into<String>) -> Report {
+        Report {
+            level: Level::Error,
+            file: file.to_string(),
+            place: Place::default(),
+            source: None,
+            message: message.into(),
+            refusal: None,
+            instruction: None,
+        }
+    }
+
+    /// A refusal of a whole file.
+    pub fn refusal(file: &str, refusal: Refusal, message: impl Into<String>) -> Report {
+        Report {
+            refusal: Some(refusal),
+            ..Report::error(file, message)
+        }
+    }
+
+    /// A fault of a file's text.
+    pub fn fault(file: &str, content: &[u8], fault: Fault) -> Report {
+        let refusal = fault.refusal.map(|(refusal, _)| refusal);
+        Report {
+            refusal,
+            instruction: fault.refusal.map(|(_, place)| (place, None)),
+            ..Report::error(file, fault.message).at(content, fault.place)
+        }
+    }
+
+    /// The same, at a place of the file's text.
+    pub fn at(self, content: &[u8], place: Place) -> Report {
+        let bytes = content
+            .split(|&byte| byte == b'\n')
+            .nth(place.line.wrapping_sub(1));
+        let plain = |c: char| {
+            if c.is_control() && c != '\t' {
+                '\u{fffd}'
+            } else {
+                c
+            }
+        };
+        let source = bytes.map(|bytes| {
+            let bytes = bytes.strip_suffix(b"\r").unwrap_or(bytes);
+            String::from_utf8_lossy(bytes).chars().map(plain).collect()
+        });
+        Report {
+            place,
+            source,
+            ..self
+        }
+    }
+
+    /// What the library answers, if it is its refusal.
+    fn verdict(&self) -> String {
+        let refused = self.refusal.map_or(String::new(), |refusal| {
+            format!("; refused as {refusal} ({})", refusal.number())
+        });
+        match &self.instruction {
+            Some((place, None)) => format!("{refused}, instruction {place}"),
+            Some((place, Some(text))) => format!("{refused}, instruction {place}: {text}"),
+            None => refused,
+        }
+    }
+
+    /// As compilers print it, with the words underlined.
+    pub fn text(&self) -> String {
+        let (file, level) = (&self.file, self.level.word());
+        let said = format!("{level}: {}{}\n", self.message, self.verdict());
+        let Place {
+            line,
+            column,
+            length,
+        } = self.place;
+        if line == 0 {
+            return format!("{file}: {said}");
+        }
+        let head = format!("{file}:{line}:{column}: {said}");
+        let Some(source) = self
+            .source
+            .as_ref()
+            .filter(|source| source.chars().count() <= 200)
+        else {
+            return head;
+        };
+        // Tabs stay tabs, so that the marks stand under the words.
+        let blanks = source.chars().take(column.saturating_sub(1));
+        let blanks: String = blanks.map(|c| if c == '\t' { '\t' } else { ' ' }).collect();
+        format!("{head}{source}\n{blanks}{}\n", "^".repeat(length))
+    }
+
+    /// The fields of its object.
+    pub fn json(&self) -> Json {
+        let is_placed = self.place.line > 0;
+        let number = |number: usize| is_placed.then_some(number);
+        object([
+            ("type", self.level.word().into()),
+            ("file", self.file.as_str().into()),
+            ("line", number(self.place.line).into()),
+            ("column", number(self.place.column).into()),
+            ("length", number(self.place.length).into()),
+            ("message", self.message.as_str().into()),
+            ("refusal", self.refusal.map(Refusal::number).into()),
+            (
+                "word",
+                self.refusal.map(|refusal| refusal.to_string()).into(),
+            ),
+            (
+                "instruction",
+                self.instruction.as_ref().map(|(place, _)| *place).into(),
+            ),
+        ])
+    }
+}

@@ -1,0 +1,248 @@
+//! step: asks before each instruction, and shows what it did.
+
+use super::args::Args;
+use super::endings::{End, Given};
+use super::files;
+use super::load::load;
+use super::orders::{order, Goal, Order, HELP};
+use super::problem::{Done, Problem, Status};
+use super::prompt::{ask, words};
+use super::records::{head, rows};
+use super::running::{given, readings};
+use super::school::{Lesson, Taken};
+use super::shown::{cells_text, place_text, registers_text, taken_json, taken_text};
+use super::what::{event_of, what};
+use hemdroas::Ending;
+use std::collections::VecDeque;
+
+/// A lesson, and what the person at the terminal asked for.
+struct Class<'a> {
+    args: &'a Args,
+    given: &'a Given,
+    lesson: Lesson<'a>,
+    /// Readings that were typed and not yet asked for.
+    typed: VecDeque<String>,
+    breaks: Vec<Goal>,
+}
+
+/// How a lesson is over: with an ending, or none where the person left.
+type Over = Option<Ending>;
+
+/// How far to go.
+struct Stretch {
+    most: u32,
+    until: Option<Goal>,
+    /// Whether only what is recorded is shown on the way.
+    is_brief: bool,
+}
+
+impl Class<'_> {
+    /// Tells a person something; scripts that read objects find it on standard error.
+    fn tell(&self, text: &str) -> Result<(), Problem> {
+        match self.args.is_json() {
+            true => {
+                files::complain(text);
+                Ok(())
+            }
+            false => files::print(text),
+        }
+    }
+
+    fn show(&self, taken: &Taken, is_brief: bool) -> Result<(), Problem> {
+        if self.args.is_json() {
+            return files::print_json(&taken_json(&self.lesson, taken));
+        }
+        match (is_brief, taken.pair) {
+            (false, _) => files::print(&taken_text(&self.lesson, taken)),
+            (true, Some(pair)) => {
+                let before = self.lesson.pairs.len() - 1;
+                files::print(&rows(self.lesson.loaded, before, &[pair]))
+            }
+            (true, None) => Ok(()),
+        }
+    }
+
+    /// Whether the next instruction is a goal.
+    fn is_at(&self, goal: &Goal) -> bool {
+        let place = self.lesson.engine.at;
+        match goal {
+            Goal::Place(goal) => *goal == place,
+            Goal::Line(line) => self.lesson.loaded.routine().line(place) == Some(*line),
+            Goal::Event(event) => event_of(self.lesson.word()) == Some(*event),
+        }
+    }
+
+    /// Gets a reading for the probe that is silent; false if there is none.
+    fn reading(&mut self) -> Result<bool, Problem> {
+        let event = event_of(self.lesson.word()).unwrap_or(0);
+        let name = self.lesson.loaded.names.word(event);
+        loop {
+            let Some(typed) = self.typed.pop_front() else {
+                if self.args.has("--all") {
+                    return Ok(false);
+                }
+                match ask(&format!("readings of {name}: "))? {
+                    None => return Ok(false),
+                    Some(line) if line == "stop" => return Ok(false),
+                    Some(line) => self.typed.extend(words(&line)),
+                }
+                continue;
+            };
+            match self.lesson.read(&typed) {
+                Ok(()) => return Ok(true),
+                Err(said) if self.args.has("--all") => {
+                    return Err(Problem::Usage(format!(
+                        "--readings: a reading of {name}: {said}"
+                    )));
+                }
+                Err(said) => {
+                    self.typed.clear();
+                    files::complain(&format!("{said}; 'stop' is known\n"));
+                }
+            }
+        }
+    }
+
+    /// Goes on; how it is over, if it is.
+    fn advance(&mut self, stretch: &Stretch) -> Result<Option<Over>, Problem> {
+        let mut count = 0;
+        while count < stretch.most {
+            if self.lesson.done == self.given.budget {
+                return Ok(Some(Some(Ending::Spent)));
+            }
+            let Some(taken) = self.lesson.step()? else {
+                match self.reading()? {
+                    true => continue,
+                    false => return Ok(Some(Some(Ending::Silent))),
+                }
+            };
+            count += 1;
+            self.show(&taken, stretch.is_brief)?;
+            if !self.lesson.is_running() {
+                return Ok(Some(Some(taken.ending)));
+            }
+            let stops = stretch.until.iter().chain(&self.breaks);
+            let found = stops.into_iter().any(|goal| self.is_at(goal));
+            if found && count < stretch.most {
+                self.tell(&place_text(&self.lesson))?;
+                break;
+            }
+        }
+        Ok(None)
+    }
+
+    /// What a person asks to see.
+    fn answer(&self, asked: &Order) -> String {
+        let lesson = &self.lesson;
+        let (regs, state) = (&lesson.engine.regs, lesson.state());
+        match asked {
+            Order::Registers => registers_text(regs),
+            Order::Cells(from, to) => cells_text(lesson, *from, *to),
+            Order::State => format!("state {}\n", lesson.loaded.state_text(state)),
+            Order::Record => format!(
+                "{}{}",
+                head(lesson.loaded),
+                rows(lesson.loaded, 0, &lesson.pairs)
+            ),
+            Order::What => format!("{}\n", what(lesson.loaded, lesson.engine.at, regs, state)),
+            Order::Breaks => {
+                let all = self.breaks.iter().map(|goal| goal.text(lesson.loaded));
+                let all: Vec<String> = all.collect();
+                format!(
+                    "breaks: {}\n",
+                    if all.is_empty() {
+                        "none".to_string()
+                    } else {
+                        all.join(", ")
+                    }
+                )
+            }
+            _ => HELP.to_string(),
+        }
+    }
+
+    /// Does what is asked; how it is over, if it is.
+    fn obey(&mut self, asked: Order) -> Result<Option<Over>, Problem> {
+        let stretch = |most, until: Option<Goal>| Stretch {
+            most,
+            is_brief: until.is_some(),
+            until,
+        };
+        match asked {
+            Order::Stop => return Ok(Some(None)),
+            Order::Steps(most) => return self.advance(&stretch(most, None)),
+            Order::Until(goal) => return self.advance(&stretch(u32::MAX, Some(goal))),
+            Order::Back(count) => {
+                self.lesson.back(count)?;
+                self.tell(&place_text(&self.lesson))?;
+            }
+            Order::Break(goal) => {
+                if !self.breaks.contains(&goal) {
+                    self.breaks.push(goal);
+                }
+                self.tell(&self.answer(&Order::Breaks))?;
+            }
+            Order::Clear => {
+                self.breaks.clear();
+                self.tell(&self.answer(&Order::Breaks))?;
+            }
+            question => self.tell(&self.answer(&question))?,
+        }
+        Ok(None)
+    }
+
+    /// Goes through the routine until it is over.
+    fn teach(&mut self) -> Result<Over, Problem> {
+        if self.args.has("--all") {
+            let all = Stretch {
+                most: u32::MAX,
+                until: None,
+                is_brief: false,
+            };
+            return Ok(self.advance(&all)?.unwrap_or(None));
+        }
+        loop {
+            let Some(line) = ask("step: ")? else {
+                return Ok(None);
+            };
+            match order(self.lesson.loaded, &line) {
+                Ok(asked) => {
+                    if let Some(over) = self.obey(asked)? {
+                        return Ok(over);
+                    }
+                }
+                Err(said) => files::complain(&format!("{said}; 'help' lists what is known\n")),
+            }
+        }
+    }
+}
+
+pub fn step(args: &Args) -> Done {
+    let given = given(args, "instructions")?;
+    let loaded = load(args)?;
+    let mut class = Class {
+        args,
+        given: &given,
+        lesson: Lesson::new(&loaded),
+        typed: readings(args),
+        breaks: Vec::new(),
+    };
+    if !args.is_json() {
+        files::print(&place_text(&class.lesson))?;
+    }
+    let ending = class.teach()?;
+    let lesson = &class.lesson;
+    let end = End {
+        loaded: &loaded,
+        ending,
+        given: &given,
+        count: lesson.done.into(),
+        pairs: lesson.pairs.len(),
+        readings: lesson.used as u64,
+        place: lesson.engine.at,
+        regs: lesson.engine.regs,
+        memory: &lesson.memory,
+    };
+    end.show(args.is_json())?;
+    Ok(ending.map_or(Status::Paused, Status::of))
+}

@@ -1,0 +1,190 @@
+//! A stretch of a run: from where a routine stands to its end or to a pause.
+//!
+//! The library runs it in parts, from event to event, which comes to the same
+//! as one run. So each recorded value is known with the r0 that it came from,
+//! and a reading is scaled by the event that asks for it.
+
+use super::load::{Loaded, Stand};
+use super::problem::Problem;
+use super::report::Report;
+use hemdroas::names::BUNDLE_LENGTH;
+use hemdroas::text::scaled;
+use hemdroas::{native, Ending, Refusal, RunAnswer};
+use std::collections::VecDeque;
+
+/// A pair of the record, and the r0 that a ceiling limited, if one did.
+#[derive(Clone, Copy)]
+pub struct Recorded {
+    pub event: u32,
+    pub value: u32,
+    pub wanted: Option<u32>,
+}
+
+/// What a run may use: steps, cells of the log, and readings as they were typed.
+#[derive(Clone)]
+pub struct Supply {
+    pub steps: u32,
+    pub log: u32,
+    pub readings: VecDeque<String>,
+    /// Why a reading could not be used; it and those behind it are dropped.
+    pub unused: Option<String>,
+}
+
+/// What a stretch did.
+pub struct Stretch {
+    pub ending: Ending,
+    pub steps: u64,
+    pub pairs: Vec<Recorded>,
+    pub readings: u64,
+}
+
+/// Whether a stretch touches the drum.
+#[derive(Clone, Copy, PartialEq, Eq)]
+pub enum How {
+    Run,
+    Preview,
+}
+
+/// The cells of a pair.
+pub const PAIR: usize = 2;
+
+impl Stretch {
+    fn new() -> Stretch {
+        Stretch {
+            ending: Ending::Spent,
+            steps: 0,
+            pairs: Vec::new(),
+            readings: 0,
+        }
+    }
+
+    /// This one and the next.
+    pub fn add(&mut self, next: Stretch) {
+        self.ending = next.ending;
+        self.steps += next.steps;
+        self.pairs.extend(next.pairs);
+        self.readings += next.readings;
+    }
+}
+
+/// One run or preview of the library.
+fn part(
+    loaded: &Loaded,
+    stand: &mut Stand,
+    how: How,
+    budget: u32,
+    readings: &[u32],
+    log: &mut [u32],
+) -> Result<RunAnswer, Problem> {
+    let (layout, commands) = (loaded.layout(), &loaded.checked.commands);
+    let answer = match how {
+        How::Run => native::run(
+            layout,
+            commands,
+            &mut stand.machine,
+            &mut stand.memory,
+            budget,
+            readings,
+            log,
+        ),
+        How::Preview => {
+            let mut after = stand.machine.to_record();
+            let mut work = vec![0; stand.memory.len()];
+            let record = stand.machine.to_record();
+            let answer = native::preview_record(
+                layout,
+                commands,
+                &record,
+                &stand.memory,
+                &mut work,
+                budget,
+                readings,
+                log,
+                &mut after,
+            );
+            *stand = Stand {
+                machine: after.to_machine(),
+                memory: work,
+            };
+            answer
+        }
+    };
+    match answer.ending {
+        // No loaded routine's run is refused.
+        Ending::Refused => Err(Report::refusal(
+            &loaded.routine().path,
+            Refusal::BadLayout,
+            "the run was refused",
+        )
+        .into()),
+        _ => Ok(answer),
+    }
+}
+
+/// The instruction at which a stand is.
+pub fn instruction_at(loaded: &Loaded, stand: &Stand) -> u32 {
+    stand.machine.pc.wrapping_sub(loaded.layout().base) / BUNDLE_LENGTH as u32
+}
+
+/// The event at which a stand waits.
+pub fn event_at(loaded: &Loaded, stand: &Stand) -> Option<u32> {
+    let place = instruction_at(loaded, stand) as usize;
+    super::what::event_of(*loaded.routine().words.get(place)?)
+}
+
+/// The next reading as a number, scaled for the event that waits for it.
+fn reading(loaded: &Loaded, stand: &Stand, supply: &mut Supply) -> Vec<u32> {
+    let Some(typed) = supply.readings.pop_front() else {
+        return Vec::new();
+    };
+    let event = event_at(loaded, stand).unwrap_or(0);
+    match scaled(&typed, loaded.scale(event)) {
+        Ok(number) => vec![number],
+        Err(said) => {
+            let name = loaded.names.word(event);
+            supply.unused = Some(format!("a reading of {name}: {said}"));
+            supply.readings.clear();
+            Vec::new()
+        }
+    }
+}
+
+/// Runs on from a stand with what there is.
+pub fn stretch(
+    loaded: &Loaded,
+    stand: &mut Stand,
+    how: How,
+    supply: &mut Supply,
+) -> Result<Stretch, Problem> {
+    let mut all = Stretch::new();
+    loop {
+        let to_event = part(loaded, stand, how, supply.steps, &[], &mut [])?;
+        supply.steps -= to_event.steps;
+        all.steps += u64::from(to_event.steps);
+        all.ending = to_event.ending;
+        let readings = match to_event.ending {
+            Ending::Silent => reading(loaded, stand, supply),
+            Ending::LogFull => Vec::new(),
+            _ => return Ok(all),
+        };
+        let mut log = [0; PAIR];
+        let room = if supply.log as usize >= PAIR { PAIR } else { 0 };
+        let r0 = stand.machine.regs[0];
+        let event = part(loaded, stand, how, 1, &readings, &mut log[..room])?;
+        if event.pairs == 0 {
+            all.ending = event.ending;
+            return Ok(all);
+        }
+        supply.steps -= event.steps;
+        supply.log -= PAIR as u32;
+        all.steps += u64::from(event.steps);
+        all.readings += u64::from(event.readings);
+        let [event, value] = log;
+        let wanted = (readings.is_empty() && value != r0).then_some(r0);
+        all.pairs.push(Recorded {
+            event,
+            value,
+            wanted,
+        });
+    }
+}

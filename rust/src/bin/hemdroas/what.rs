@@ -1,0 +1,123 @@
+//! What the next instruction will do, in words.
+
+use super::load::Loaded;
+use hemdroas::model::words::fields;
+use hemdroas::model::Instr;
+use hemdroas::names::{BUNDLE_LENGTH, GUEST_REGISTERS, ORDERS};
+use hemdroas::text::{condition_name, landings_text};
+
+/// The guest's registers.
+pub type Registers = [u32; GUEST_REGISTERS as usize];
+
+/// A jump: what it compares, whether it is taken, and where it goes if it is.
+pub struct Jump {
+    pub condition: String,
+    pub is_taken: bool,
+    pub target: u32,
+    /// Whether it goes only to a landing.
+    pub wants_landing: bool,
+}
+
+/// The instruction of a word.
+pub fn instruction_of(word: u64) -> Option<Instr> {
+    Instr::of_kind(fields(word))
+}
+
+/// The event of a word.
+pub fn event_of(word: u64) -> Option<u32> {
+    match instruction_of(word) {
+        Some(Instr::Event { v }) => Some(v),
+        _ => None,
+    }
+}
+
+/// The jump of a word, in a routine of so many bundles.
+pub fn jump_of(word: u64, regs: &Registers, bundles: u32) -> Option<Jump> {
+    let get = |register: u32| regs.get(register as usize).copied().unwrap_or(0);
+    let (a, b, c, target, wants_landing) = match instruction_of(word)? {
+        Instr::GoIf { a, b, c, v } => (a, b, c, v, false),
+        Instr::GoX { d, a, b, c } => (a, b, c, get(d) % bundles, true),
+        _ => return None,
+    };
+    let (left, right) = (get(a), get(b));
+    let signed = (left as i32, right as i32);
+    let name = condition_name(c);
+    let (is_taken, condition) = match c {
+        0 => (true, name.to_string()),
+        1 => (left == right, format!("{left} {name} {right}")),
+        2 => (left < right, format!("{left} {name} {right}")),
+        _ => (
+            signed.0 < signed.1,
+            format!("{} {name} {}", signed.0, signed.1),
+        ),
+    };
+    Some(Jump {
+        condition,
+        is_taken,
+        target,
+        wants_landing,
+    })
+}
+
+/// Why the next jump will or will not be taken.
+fn jump_text(loaded: &Loaded, place: u32, jump: &Jump) -> String {
+    let routine = loaded.routine();
+    let Jump {
+        condition, target, ..
+    } = jump;
+    if !jump.is_taken {
+        return format!("{condition}: no, on to {}", routine.place(place + 1));
+    }
+    let goal = routine.target(*target);
+    if !jump.wants_landing || loaded.checked.landings.contains(target) {
+        return format!("{condition}: yes, to {goal}");
+    }
+    let landings = landings_text(&loaded.checked.landings);
+    format!("{condition}: yes, to {goal}, which is no landing ({landings}): it will stop (26)")
+}
+
+/// What an event will do.
+fn event_text(loaded: &Loaded, event: u32, r0: u32, state: u32) -> String {
+    let name = loaded.names.word(event);
+    let from = loaded.state_text(state);
+    let Some(next) = loaded.policy.policy().after(state, event) else {
+        return format!("state {from} has no arrow for {name}: it will stop (21)");
+    };
+    let to = loaded.state_text(next);
+    let records = match event < ORDERS {
+        true => {
+            let most = loaded.layout().ceilings[event as usize];
+            let limited = if r0 > most {
+                format!(", limited from {r0}")
+            } else {
+                String::new()
+            };
+            format!("records {}{limited}", r0.min(most))
+        }
+        false => "reads the probe into r0 and records it".to_string(),
+    };
+    format!("{name} {records}; state {from} -> {to}")
+}
+
+/// What the next instruction will do.
+pub fn what(loaded: &Loaded, place: u32, regs: &Registers, state: u32) -> String {
+    let routine = loaded.routine();
+    let word = routine.words.get(place as usize).copied().unwrap_or(0);
+    let bundles = (loaded.checked.commands.len() / BUNDLE_LENGTH) as u32;
+    if let Some(jump) = jump_of(word, regs, bundles) {
+        return jump_text(loaded, place, &jump);
+    }
+    let layout = loaded.layout();
+    let mask = |register: u32| {
+        let address = regs.get(register as usize).copied().unwrap_or(0);
+        format!(
+            "r{register} {address} masks to cell {}",
+            address & layout.high | layout.low
+        )
+    };
+    match instruction_of(word) {
+        Some(Instr::Event { v }) => event_text(loaded, v, regs[0], state),
+        Some(Instr::Load { a, .. } | Instr::Store { a, .. }) => mask(a),
+        _ => format!("no jump: {}", routine.instruction(place)),
+    }
+}

@@ -1,0 +1,330 @@
+//! Routines from text: one instruction a line, in the rules' names.
+
+use super::kinds::{Field, Kind, CONDITIONS, EVENT, GOIF, KINDS};
+use super::objections::objections;
+use super::said::{hint, is_name, lines, quoted, Fault, Faults, Parsed, Place, Said};
+use super::{number, Names};
+use crate::model::words::{word, Fields};
+use crate::names::REGISTERS;
+use std::collections::{BTreeSet, HashMap};
+
+/// The word that marks a landing.
+const LANDING: &str = "landing";
+
+/// How a text wrote an instruction's number.
+#[derive(Clone, Debug, PartialEq, Eq)]
+pub enum Shown {
+    /// As a decimal number, as an event's name, or not at all.
+    Plain,
+    /// As a negative number.
+    Signed,
+    /// As a hexadecimal number.
+    Hex,
+    /// As a label.
+    Label(String),
+}
+
+/// An instruction's part of a text.
+#[derive(Clone, Debug, PartialEq, Eq)]
+pub struct Source {
+    /// The instruction, without its labels.
+    pub place: Place,
+    /// Its operands, each with its field.
+    pub operands: Vec<(Field, Place)>,
+    /// How its number is written.
+    pub shown: Shown,
+}
+
+impl Source {
+    /// Where a field stands, or the whole instruction.
+    pub fn field(&self, field: Field) -> Place {
+        let found = self.operands.iter().find(|(known, _)| *known == field);
+        found.map_or(self.place, |&(_, place)| place)
+    }
+}
+
+/// A routine that was written as text.
+#[derive(Clone, Debug, Default, PartialEq, Eq)]
+pub struct Routine {
+    /// The instructions.
+    pub words: Vec<u64>,
+    /// The text of each instruction.
+    pub sources: Vec<Source>,
+    /// The labels, each with its instruction, in the order of the text.
+    pub labels: Vec<(String, u32)>,
+    /// The instructions that the text marks as landings, rising.
+    pub landings: Vec<u32>,
+}
+
+impl Routine {
+    /// The line of each instruction, counted from 1.
+    pub fn lines(&self) -> Vec<usize> {
+        self.sources
+            .iter()
+            .map(|source| source.place.line)
+            .collect()
+    }
+
+    /// What the library refuses the words for, with the places in the text.
+    pub fn doubts(&self) -> Vec<Fault> {
+        let count = self.words.len();
+        let all = self.words.iter().zip(&self.sources).zip(0..);
+        all.flat_map(|((&word, source), place)| {
+            let found = objections(word, count).into_iter();
+            found.map(move |found| Fault {
+                refusal: Some((found.refusal, place)),
+                ..Fault::new(source.field(found.field), found.message)
+            })
+        })
+        .collect()
+    }
+}
+
+/// Labels, each with its instruction.
+type Labels<'a> = HashMap<&'a str, u32>;
+
+/// What the words of a routine may mean.
+struct Meanings<'a> {
+    names: &'a Names,
+    labels: Labels<'a>,
+}
+
+fn register(said: Said) -> Result<u32, Fault> {
+    let digits = said.text.strip_prefix(['r', 'R']);
+    let named = digits.and_then(|digits| number(digits).ok());
+    match named {
+        // Register 15 has a place in a word: the library refuses it.
+        Some(register) if (register as usize) < REGISTERS => Ok(register),
+        _ if said.text.is_empty() => Err(said.fault("a register is missing")),
+        _ if number(said.text).is_ok() => {
+            let message = format!("{} is a number; a register stands here", quoted(said.text));
+            Err(said.fault(message + ", which SET gives a number"))
+        }
+        _ => Err(said.fault(format!(
+            "{} is no register: they are r0 to r14",
+            quoted(said.text)
+        ))),
+    }
+}
+
+fn condition(said: Said, is_short: bool) -> Result<u32, Fault> {
+    match CONDITIONS.iter().position(|&name| name == said.text) {
+        Some(0) => Ok(0),
+        Some(_) if is_short => Err(said.fault(format!(
+            "{} compares two registers, and none stands before it",
+            quoted(said.text)
+        ))),
+        Some(condition) => Ok(condition as u32),
+        None => {
+            let known = CONDITIONS.join(", ");
+            let near = hint(said.text, CONDITIONS.into_iter());
+            Err(said.fault(format!(
+                "{} is no condition: they are {known}{near}",
+                quoted(said.text)
+            )))
+        }
+    }
+}
+
+/// Whether a word looks like a register's name.
+fn is_register(word: &str) -> bool {
+    let digits = word.strip_prefix(['r', 'R']);
+    digits.is_some_and(|digits| !digits.is_empty() && digits.bytes().all(|c| c.is_ascii_digit()))
+}
+
+impl Meanings<'_> {
+    /// An instruction's number: a number, a label, or for EVENT an event's name.
+    fn value(&self, kind: &Kind, said: Said) -> Result<(u32, Shown), Fault> {
+        let word = said.text;
+        if !is_name(word) {
+            let shown = match (word.starts_with('-'), word.starts_with("0x")) {
+                (true, _) => Shown::Signed,
+                (_, true) => Shown::Hex,
+                _ => Shown::Plain,
+            };
+            return Ok((said.check(number(word))?, shown));
+        }
+        if let (true, Ok(event)) = (kind.name == EVENT, self.names.event(word)) {
+            return Ok((event, Shown::Plain));
+        }
+        match self.labels.get(word) {
+            Some(&instruction) => Ok((instruction, Shown::Label(word.to_string()))),
+            None => Err(said.fault(self.unknown(kind, word))),
+        }
+    }
+
+    /// What is said of a name that means nothing here.
+    fn unknown(&self, kind: &Kind, word: &str) -> String {
+        let near = hint(word, self.labels.keys().copied());
+        match kind.name {
+            EVENT => match self.names.event(word) {
+                Err(message) => message,
+                Ok(_) => String::new(),
+            },
+            GOIF => format!("no line has the label {}{near}", quoted(word)),
+            _ if is_register(word) => {
+                format!("{} is a register; a number stands here", quoted(word))
+            }
+            _ => format!("{} is neither a number nor a label{near}", quoted(word)),
+        }
+    }
+
+    /// The fields of operands, and how the number is written.
+    fn fields(
+        &self,
+        kind: &Kind,
+        form: &[Field],
+        operands: &[Said],
+    ) -> Result<(Fields, Shown), Fault> {
+        let mut fields = Fields::default();
+        let mut shown = Shown::Plain;
+        let is_short = form.len() < kind.forms[kind.forms.len() - 1].len();
+        for (field, &said) in form.iter().zip(operands) {
+            match field {
+                Field::D => fields.d = register(said)?,
+                Field::A => fields.a = register(said)?,
+                Field::B => fields.b = register(said)?,
+                Field::C => fields.c = condition(said, is_short)?,
+                Field::V => (fields.v, shown) = self.value(kind, said)?,
+            }
+        }
+        Ok((fields, shown))
+    }
+
+    /// The word of one statement.
+    fn instruction(&self, said: Said) -> Result<(u64, Source), Fault> {
+        let (name, rest) = match said.split_once(char::is_whitespace) {
+            Some((name, rest)) => (name, Some(rest)),
+            None => (said, None),
+        };
+        let same = |kind: &Kind| kind.name.eq_ignore_ascii_case(name.text);
+        let Some(number) = KINDS.iter().position(same) else {
+            let near = hint(name.text, KINDS.iter().map(|kind| kind.name));
+            return Err(name.fault(format!("{} is no instruction{near}", quoted(name.text))));
+        };
+        let kind = &KINDS[number];
+        let operands = rest.map_or(Vec::new(), |rest| rest.split(','));
+        let form = form_of(kind, name, &operands)?;
+        let (fields, shown) = self.fields(kind, form, &operands)?;
+        let places = operands.iter().map(Said::place);
+        let source = Source {
+            place: said.place(),
+            operands: form.iter().copied().zip(places).collect(),
+            shown,
+        };
+        let kind = number as u32;
+        Ok((word(Fields { kind, ..fields }), source))
+    }
+}
+
+/// The form that has as many operands, or what is wrong with them.
+fn form_of(kind: &Kind, name: Said, operands: &[Said]) -> Result<&'static [Field], Fault> {
+    for operand in operands {
+        if let [_, second, ..] = operand.words()[..] {
+            return Err(second.fault(format!(
+                "a comma is missing before {}, as in '{}'",
+                quoted(second.text),
+                kind.example
+            )));
+        }
+    }
+    let found = kind.forms.iter().find(|form| form.len() == operands.len());
+    if let Some(form) = found {
+        return Ok(form);
+    }
+    let most = kind.forms[kind.forms.len() - 1].len();
+    let message = match operands.get(most) {
+        Some(_) => format!("{} takes no more than '{}'", kind.name, kind.example),
+        None => format!("an operand is missing, as in '{}'", kind.example),
+    };
+    let at = operands.get(most).or(operands.last()).unwrap_or(&name);
+    Err(at.fault(message))
+}
+
+/// The statements of a text, and the labels and landings before them.
+#[derive(Default)]
+struct Statements<'a> {
+    statements: Vec<Said<'a>>,
+    labels: Vec<(&'a str, u32)>,
+    known: Labels<'a>,
+    landings: BTreeSet<u32>,
+}
+
+impl<'a> Statements<'a> {
+    /// Takes a label.
+    fn label(&mut self, label: Said<'a>) -> Result<(), Fault> {
+        let instruction = self.statements.len() as u32;
+        if !is_name(label.text) || is_register(label.text) || label.text == LANDING {
+            return Err(label.fault(format!("{} cannot be a label", quoted(label.text))));
+        }
+        if self.known.insert(label.text, instruction).is_some() {
+            return Err(label.fault(format!("the label {} stands twice", quoted(label.text))));
+        }
+        self.labels.push((label.text, instruction));
+        Ok(())
+    }
+
+    /// Takes a line.
+    fn line(&mut self, mut said: Said<'a>, faults: &mut Faults) {
+        let words = said.words();
+        let is_mark = |word: &Said| word.text.eq_ignore_ascii_case(LANDING);
+        if words.first().is_some_and(is_mark) {
+            self.landings.insert(self.statements.len() as u32);
+            let behind = said.split_once(char::is_whitespace);
+            said = match behind {
+                Some((_, rest)) => rest,
+                None => return,
+            };
+        }
+        while let Some((label, rest)) = said.split_once(|c| c == ':') {
+            faults.keep(self.label(label));
+            said = rest;
+        }
+        if !said.text.is_empty() {
+            self.statements.push(said);
+        }
+    }
+}
+
+/// The words of a routine's text: an instruction a line, labels before a colon,
+/// `landing` before a landing, comments behind #.
+pub fn assemble(text: &[u8], names: &Names) -> Parsed<Routine> {
+    let mut faults = Faults::default();
+    let mut said = Statements::default();
+    for line in lines(text, &mut faults) {
+        said.line(line, &mut faults);
+    }
+    let labels = said.known;
+    let meanings = Meanings { names, labels };
+    let mut routine = Routine {
+        labels: said
+            .labels
+            .iter()
+            .map(|&(name, at)| (name.to_string(), at))
+            .collect(),
+        landings: said.landings.into_iter().collect(),
+        ..Routine::default()
+    };
+    for statement in said.statements {
+        if let Some((word, source)) = faults.keep(meanings.instruction(statement)) {
+            routine.words.push(word);
+            routine.sources.push(source);
+        }
+    }
+    if !faults.is_empty() {
+        // The places in words are not those of the text here, so jumps cannot be judged.
+        let doubts = routine.doubts().into_iter();
+        let lasting = |doubt: &Fault| {
+            doubt
+                .refusal
+                .is_some_and(|(why, _)| why == crate::Refusal::OffRange)
+        };
+        for doubt in doubts.filter(lasting) {
+            faults.add(Fault {
+                refusal: None,
+                ..doubt
+            });
+        }
+    }
+    faults.or(Some(routine))
+}

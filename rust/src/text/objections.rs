@@ -1,0 +1,71 @@
+//! What an instruction is refused for, in words: the verdict is the library's,
+//! and here it is explained.
+
+use super::Field;
+use crate::model::words::fields;
+use crate::model::Instr;
+use crate::names::{GUEST_REGISTERS, TOP_EVENT, TOP_SHIFT};
+use crate::Refusal;
+
+/// What is wrong with one field of an instruction.
+#[derive(Clone, Debug, PartialEq, Eq)]
+pub struct Objection {
+    /// The field.
+    pub field: Field,
+    /// The refusal that it brings.
+    pub refusal: Refusal,
+    /// What is wrong.
+    pub message: String,
+}
+
+fn objection(field: Field, refusal: Refusal, message: String) -> Objection {
+    Objection {
+        field,
+        refusal,
+        message,
+    }
+}
+
+/// What is wrong with an instruction of a routine of so many.
+pub fn objections(word: u64, count: usize) -> Vec<Objection> {
+    let all = fields(word);
+    let named = [(Field::D, all.d), (Field::A, all.a), (Field::B, all.b)];
+    let top = GUEST_REGISTERS - 1;
+    let mut found: Vec<Objection> = named
+        .into_iter()
+        .filter(|&(_, register)| register >= GUEST_REGISTERS)
+        .map(|(field, register)| {
+            let message = format!("r{register} is hidden: a routine has r0 to r{top}");
+            objection(field, Refusal::OffRange, message)
+        })
+        .collect();
+    let (refusal, message) = match Instr::of_kind(all) {
+        Some(Instr::Sar { v, .. }) if v > TOP_SHIFT => (
+            Refusal::OffRange,
+            format!("SAR by {v}: it shifts by 0 to {TOP_SHIFT}"),
+        ),
+        Some(Instr::Event { v }) if v > TOP_EVENT => (
+            Refusal::OffRange,
+            format!("{v} is no event: they are 0 to {TOP_EVENT}"),
+        ),
+        Some(Instr::GoIf { v, .. }) if v as usize > count => (
+            Refusal::BadLanding,
+            format!("{v} lies behind the routine's end, which is {count}"),
+        ),
+        _ => return found,
+    };
+    found.push(objection(Field::V, refusal, message));
+    found
+}
+
+/// What keeps an instruction at a place from the class that always finishes.
+pub fn backward(word: u64, place: u32) -> Option<Objection> {
+    let (field, message) = match Instr::of_kind(fields(word)) {
+        Some(Instr::GoX { .. }) => (Field::D, "a GOX may go back"),
+        Some(Instr::GoIf { v, .. }) if v == place => (Field::V, "it goes to itself"),
+        Some(Instr::GoIf { v, .. }) if v < place => (Field::V, "it goes back"),
+        _ => return None,
+    };
+    let message = format!("{message}, so the routine may never finish");
+    Some(objection(field, Refusal::NotForward, message))
+}

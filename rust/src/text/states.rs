@@ -1,0 +1,173 @@
+//! The lines of a policy file that concern states and their arrows.
+
+use super::policy::{Form, Table};
+use super::said::{hint, is_name, quoted, Fault, Faults, Said};
+use super::Names;
+use crate::names::{EVENTS, MOST_STATES, NO_ARROW};
+
+/// More states than this in a file are no policy that could be refused with its
+/// number: the mark of no arrow would be one of them.
+const MOST_NAMED: usize = 200;
+
+/// The events of a row, as a table's length.
+const ROW: usize = EVENTS as usize;
+
+/// An arrow: its state, its event or `others`, its successors.
+struct Arrow<'a> {
+    state: usize,
+    event: Said<'a>,
+    listed: Vec<Said<'a>>,
+}
+
+/// The states of a file and their arrows, in the order of its lines.
+#[derive(Default)]
+pub(super) struct States<'a> {
+    pub is_drawing: bool,
+    names: Vec<&'a str>,
+    starts: Option<Vec<Said<'a>>>,
+    arrows: Vec<Arrow<'a>>,
+}
+
+impl<'a> States<'a> {
+    /// Whether there is no state.
+    pub fn is_empty(&self) -> bool {
+        self.names.is_empty()
+    }
+
+    /// Takes a line that names a state.
+    pub fn state(&mut self, name: Said<'a>) -> Result<(), Fault> {
+        if !is_name(name.text) || name.text == "none" {
+            return Err(name.fault(format!("{} cannot be a name", quoted(name.text))));
+        }
+        if self.names.contains(&name.text) {
+            return Err(name.fault(format!("the state {} stands twice", quoted(name.text))));
+        }
+        if self.names.len() == MOST_NAMED {
+            return Err(name.fault(format!("too many states: a policy has 1 to {MOST_STATES}")));
+        }
+        self.names.push(name.text);
+        Ok(())
+    }
+
+    /// Takes a line that names the start.
+    pub fn start(&mut self, words: &[Said<'a>]) -> Result<(), Fault> {
+        if self.starts.is_some() {
+            return Err(words[0].fault("a second line with the start"));
+        }
+        self.starts = Some(words[1..].to_vec());
+        Ok(())
+    }
+
+    /// Takes a line with arrows.
+    pub fn arrow(&mut self, words: &[Said<'a>]) -> Result<(), Fault> {
+        let Some(state) = self.names.len().checked_sub(1) else {
+            return Err(
+                words[0].fault("an arrow stands under its state, and no state stands above")
+            );
+        };
+        self.arrows.push(Arrow {
+            state,
+            event: words[0],
+            listed: words[2..].to_vec(),
+        });
+        Ok(())
+    }
+
+    fn numbers(&self, listed: &[Said]) -> Result<Vec<usize>, Fault> {
+        if let [only] = listed {
+            if only.text == "none" {
+                return Ok(Vec::new());
+            }
+        }
+        let number = |said: &Said| {
+            let found = self.names.iter().position(|&known| known == said.text);
+            let near = hint(said.text, self.names.iter().copied());
+            found
+                .ok_or_else(|| said.fault(format!("no state is named {}{near}", quoted(said.text))))
+        };
+        listed.iter().map(number).collect()
+    }
+
+    /// Adds an arrow's successors to those of its state and event.
+    fn add(
+        &self,
+        arrow: &Arrow,
+        names: &Names,
+        found: &mut [Option<Vec<usize>>],
+    ) -> Result<(), Fault> {
+        let numbers = self.numbers(&arrow.listed)?;
+        let event = arrow.event;
+        // The row of a state has a place more, for the others.
+        let place = match event.text {
+            "others" => ROW,
+            name => event.check(names.known_event(name))? as usize,
+        };
+        let slot = &mut found[(ROW + 1) * arrow.state + place];
+        match slot {
+            Some(known) if self.is_drawing => known.extend(numbers),
+            Some(_) => {
+                return Err(event.fault(format!("{} stands twice here", quoted(event.text))));
+            }
+            None if !self.is_drawing && numbers.len() > 1 => {
+                let message = "several arrows: a file that has them says 'drawing' first";
+                return Err(arrow.listed[1].fault(message));
+            }
+            None => *slot = Some(numbers),
+        }
+        Ok(())
+    }
+
+    /// For each state and event the successors, in a list of 16 × states.
+    fn successors(&self, names: &Names, faults: &mut Faults) -> Vec<Vec<usize>> {
+        let mut found: Vec<Option<Vec<usize>>> = vec![None; (ROW + 1) * self.names.len()];
+        for arrow in &self.arrows {
+            faults.keep(self.add(arrow, names, &mut found));
+        }
+        let rows = found.chunks(ROW + 1);
+        rows.flat_map(|row| {
+            let others = row[ROW].clone().unwrap_or_default();
+            let filled = row[..ROW].iter();
+            filled.map(move |known| known.clone().unwrap_or_else(|| others.clone()))
+        })
+        .collect()
+    }
+
+    /// The states that the file names as starts; the first if it names none.
+    fn start_numbers(&self, faults: &mut Faults) -> Option<Vec<usize>> {
+        let Some(listed) = &self.starts else {
+            return Some(vec![0]);
+        };
+        let starts = faults.keep(self.numbers(listed))?;
+        if !self.is_drawing && starts.len() != 1 {
+            let message = "one start, unless the file says 'drawing' first";
+            faults.add(listed[listed.len() - 1].fault(message));
+            return None;
+        }
+        Some(starts)
+    }
+
+    /// The policy or the drawing of these states.
+    pub fn form(&self, names: &Names, faults: &mut Faults) -> Option<Form> {
+        let successors = self.successors(names, faults);
+        let starts = self.start_numbers(faults)?;
+        let states: Vec<String> = self.names.iter().map(|name| name.to_string()).collect();
+        if self.is_drawing {
+            // A state that has no bit is one of too many: the library refuses their count.
+            let map = |states: &Vec<usize>| {
+                let bits = states.iter().filter(|&&state| state < MOST_STATES as usize);
+                bits.fold(0u16, |map, state| map | 1 << state)
+            };
+            return Some(Form::Drawing {
+                states,
+                starts: u32::from(map(&starts)),
+                arrows: successors.iter().map(map).collect(),
+            });
+        }
+        let entry = |states: &Vec<usize>| states.first().map_or(NO_ARROW as u8, |&s| s as u8);
+        Some(Form::States(Table {
+            states,
+            start: *starts.first()? as u32,
+            table: successors.iter().map(entry).collect(),
+        }))
+    }
+}
