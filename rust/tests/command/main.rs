@@ -6,6 +6,8 @@ mod common;
 
 mod damage;
 mod documents;
+mod json;
+mod objects;
 mod policies;
 mod routines;
 mod running;

@@ -1,7 +1,7 @@
 //! What can go wrong, as it is shown, and the statuses.
 
 use super::files;
-use super::json::{object, Json};
+use super::json::Json;
 use super::report::Report;
 use hemdroas::text::Fault;
 use hemdroas::{Ending, Refusal};
@@ -85,16 +85,9 @@ impl Problem {
 
     /// What is said in objects.
     fn json(&self) -> Vec<Json> {
-        let plain = |file: Option<&str>, said: &str| {
-            vec![object([
-                ("type", "error".into()),
-                ("file", file.into()),
-                ("message", said.into()),
-            ])]
-        };
         match self {
-            Problem::Usage(said) => plain(None, said),
-            Problem::File(path, said) => plain(Some(path), said),
+            Problem::Usage(said) => vec![Report::error("", said).json()],
+            Problem::File(path, said) => vec![Report::error(path, said).json()],
             Problem::Refused(reports) => reports.iter().map(Report::json).collect(),
             Problem::Quiet => Vec::new(),
         }

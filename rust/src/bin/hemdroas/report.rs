@@ -134,7 +134,12 @@ impl Report {
         let number = |number: usize| is_placed.then_some(number);
         object([
             ("type", self.level.word().into()),
-            ("file", self.file.as_str().into()),
+            (
+                "file",
+                Some(self.file.as_str())
+                    .filter(|file| !file.is_empty())
+                    .into(),
+            ),
             ("line", number(self.place.line).into()),
             ("column", number(self.place.column).into()),
             ("length", number(self.place.length).into()),
