@@ -288,6 +288,53 @@ fn shown_and_drawn() {
         .starts_with("digraph policy {\n"));
 }
 
+/// The elements of an SVG text are closed in their order.
+fn is_well_formed(svg: &str) -> bool {
+    let mut open = Vec::new();
+    for tag in svg.split('<').skip(1) {
+        let (inside, _) = tag.split_once('>').expect("a tag ends");
+        let name = inside.split(' ').next().expect("a tag has a name");
+        match name.strip_prefix('/') {
+            Some(closed) if open.pop() != Some(closed) => return false,
+            Some(_) => (),
+            None if inside.ends_with('/') => (),
+            None => open.push(name),
+        }
+    }
+    open.is_empty()
+}
+
+#[test]
+fn drawn_as_svg() {
+    command(&["policy", "draw", "sample.policy", "--drum", "sample.drum"])
+        .printed(0, include_str!("stored/sample.svg"));
+    let folder = folder("svg");
+    let text = "event 0 gas\nevent 1 air\nstate idle\n  gas -> warm\n  others -> idle\n  3 -> none\n\
+                state warm\n  gas -> idle\n  air -> idle\nstate attic\n  others -> idle\nceiling gas 80\n";
+    let policy = file(&folder, "policy", text);
+    let drawn = command(&["policy", "draw", &policy]).out;
+    assert!(is_well_formed(&drawn), "{drawn}");
+    // Parallel arrows are one, and 'others' leaves out what is none.
+    for text in [
+        ">gas, air<",
+        ">others<",
+        ">not 3<",
+        ">ceilings: gas at most 80<",
+    ] {
+        assert_eq!(drawn.matches(text).count(), 1, "{text} in {drawn}");
+    }
+    assert!(!drawn.contains("attic"), "{drawn}");
+    for name in [
+        "exporter.policy",
+        "order.policy",
+        "roast.policy",
+        "profile.policy",
+    ] {
+        let drawn = command(&["policy", "draw", name, "--drum=roast.drum"]).out;
+        assert!(is_well_formed(&drawn), "{drawn}");
+    }
+}
+
 #[test]
 fn the_sample_is_the_rules_policy() {
     let drum = text::drum(&fs::read(crate::examples().join("sample.drum")).unwrap()).unwrap();
