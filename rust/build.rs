@@ -9,10 +9,12 @@ fn main() {
     }
     let package = std::env::var("CARGO_MANIFEST_DIR").expect("cargo names the package's folder");
     let folder = Path::new(&package).join("../target/staticlib");
+    let library = folder.join("libcapi.a");
+    println!("cargo:rerun-if-changed={}", library.display());
+    if !library.exists() {
+        println!("cargo::error=the proved library is missing: run 'rt staticlib capi' first");
+        return;
+    }
     println!("cargo:rustc-link-search=native={}", folder.display());
-    println!(
-        "cargo:rerun-if-changed={}",
-        folder.join("libcapi.a").display()
-    );
     println!("cargo:rustc-link-lib=static=capi");
 }

@@ -4,9 +4,11 @@
 #[path = "../common/mod.rs"]
 mod common;
 
+mod building;
 mod damage;
 mod documents;
 mod json;
+mod keys;
 mod objects;
 mod policies;
 mod routines;

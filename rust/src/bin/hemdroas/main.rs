@@ -8,6 +8,7 @@ mod check;
 mod commands;
 mod dot;
 mod drums;
+mod editing;
 mod endings;
 mod files;
 mod graph;
@@ -33,6 +34,7 @@ mod sources;
 mod step;
 mod stretch;
 mod svg;
+mod terminal;
 mod warnings;
 mod what;
 

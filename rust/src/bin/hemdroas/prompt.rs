@@ -1,14 +1,51 @@
 //! Asking for a line. Questions go to standard error.
 
+use super::editing::{key, Editor, Typed};
 use super::files;
 use super::problem::Problem;
+use super::terminal::Keys;
+use std::cell::RefCell;
 use std::io::{self, BufRead, IsTerminal, Read};
 
 /// The most bytes of a line that is typed.
 const LONGEST_LINE: u64 = 1 << 16;
 
-/// Asks for a line of standard input; none at its end.
-pub fn ask(question: &str) -> Result<Option<String>, Problem> {
+/// The columns of a terminal that a line is shown in.
+const COLUMNS: usize = 79;
+
+thread_local! {
+    /// The lines that were typed at a terminal.
+    static TYPED: RefCell<Vec<String>> = const { RefCell::new(Vec::new()) };
+}
+
+/// A line of a terminal that gives keys; none if the person leaves.
+fn edit(question: &str) -> Option<String> {
+    let before = TYPED.with_borrow(|typed| typed.clone());
+    let mut editor = Editor::new(&before);
+    let mut bytes = io::stdin().lock().bytes().map_while(Result::ok);
+    let typed = loop {
+        files::complain(&editor.drawn(question, COLUMNS));
+        let Some(key) = key(&mut bytes) else {
+            break Typed::Left;
+        };
+        if let Some(typed) = editor.press(key) {
+            break typed;
+        }
+    };
+    files::complain("\n");
+    match typed {
+        Typed::Left => None,
+        Typed::Line(line) => {
+            if !line.trim().is_empty() {
+                TYPED.with_borrow_mut(|typed| typed.push(line.clone()));
+            }
+            Some(line)
+        }
+    }
+}
+
+/// A line as it comes; none at the end of standard input.
+fn plain(question: &str) -> Result<Option<String>, Problem> {
     files::complain(question);
     let mut line = Vec::new();
     let mut limited = io::stdin().lock().take(LONGEST_LINE);
@@ -24,6 +61,16 @@ pub fn ask(question: &str) -> Result<Option<String>, Problem> {
         files::complain(&format!("{line}\n"));
     }
     Ok(Some(line))
+}
+
+/// Asks for a line; none if the person leaves.
+pub fn ask(question: &str) -> Result<Option<String>, Problem> {
+    let is_dumb = std::env::var("TERM").map_or(true, |name| name == "dumb");
+    let has_keys = io::stdin().is_terminal() && io::stderr().is_terminal() && !is_dumb;
+    match has_keys.then(Keys::new).flatten() {
+        Some(_keys) => Ok(edit(question).map(|line| line.trim().to_string())),
+        None => plain(question),
+    }
 }
 
 /// Words with commas or blanks between them.

@@ -1,0 +1,197 @@
+//! A line as it is typed: keys, what they do to it, and the lines before.
+
+/// A key, or what it asks for.
+#[derive(Clone, Copy, Debug, PartialEq, Eq)]
+pub enum Key {
+    Letter(char),
+    Left,
+    Right,
+    First,
+    Last,
+    Earlier,
+    Later,
+    Backspace,
+    Delete,
+    /// Control-U, -K and -W: what stands before, behind, and the word before.
+    CutBefore,
+    CutBehind,
+    CutWord,
+    Enter,
+    /// Control-C.
+    Leave,
+    /// Control-D, which leaves an empty line.
+    End,
+    Unknown,
+}
+
+/// The letter whose key sends this byte with Control.
+const fn control(letter: u8) -> u8 {
+    letter & 0x1f
+}
+
+/// The key of a sequence behind the escape key.
+fn escaped(bytes: &mut impl Iterator<Item = u8>) -> Option<Key> {
+    if !matches!(bytes.next()?, b'[' | b'O') {
+        return Some(Key::Unknown);
+    }
+    let key = bytes.next()?;
+    if key.is_ascii_digit() {
+        // Such a sequence goes on to a ~.
+        while bytes.next()? != b'~' {}
+    }
+    Some(match key {
+        b'A' => Key::Earlier,
+        b'B' => Key::Later,
+        b'C' => Key::Right,
+        b'D' => Key::Left,
+        b'H' | b'1' | b'7' => Key::First,
+        b'F' | b'4' | b'8' => Key::Last,
+        b'3' => Key::Delete,
+        _ => Key::Unknown,
+    })
+}
+
+/// The letter whose first byte this is.
+fn letter(first: u8, bytes: &mut impl Iterator<Item = u8>) -> Option<Key> {
+    let more = match first {
+        0xc0..=0xdf => 1,
+        0xe0..=0xef => 2,
+        0xf0..=0xff => 3,
+        _ => 0,
+    };
+    let mut all = vec![first];
+    for _ in 0..more {
+        all.push(bytes.next()?);
+    }
+    let text = std::str::from_utf8(&all).ok();
+    let letter = text.and_then(|text| text.chars().next());
+    Some(letter.map_or(Key::Unknown, Key::Letter))
+}
+
+/// The next key of a terminal's bytes; none at their end.
+pub fn key(bytes: &mut impl Iterator<Item = u8>) -> Option<Key> {
+    const A: u8 = control(b'A');
+    const B: u8 = control(b'B');
+    const C: u8 = control(b'C');
+    const D: u8 = control(b'D');
+    const E: u8 = control(b'E');
+    const F: u8 = control(b'F');
+    const H: u8 = control(b'H');
+    const K: u8 = control(b'K');
+    const N: u8 = control(b'N');
+    const P: u8 = control(b'P');
+    const U: u8 = control(b'U');
+    const W: u8 = control(b'W');
+    const ESCAPE: u8 = control(b'[');
+    const ERASE: u8 = 0x7f;
+    Some(match bytes.next()? {
+        b'\n' | b'\r' => Key::Enter,
+        A => Key::First,
+        B => Key::Left,
+        C => Key::Leave,
+        D => Key::End,
+        E => Key::Last,
+        F => Key::Right,
+        H | ERASE => Key::Backspace,
+        K => Key::CutBehind,
+        N => Key::Later,
+        P => Key::Earlier,
+        U => Key::CutBefore,
+        W => Key::CutWord,
+        ESCAPE => return escaped(bytes),
+        byte if byte < b' ' => Key::Unknown,
+        byte => return letter(byte, bytes),
+    })
+}
+
+/// How a line came to its end.
+#[derive(Debug, PartialEq, Eq)]
+pub enum Typed {
+    Line(String),
+    Left,
+}
+
+/// A line that is being typed.
+pub struct Editor<'a> {
+    pub line: Vec<char>,
+    pub at: usize,
+    /// The lines before, the last one last.
+    before: &'a [String],
+    /// Which of them is shown; all of them behind the last.
+    shown: usize,
+}
+
+impl<'a> Editor<'a> {
+    pub fn new(before: &'a [String]) -> Editor<'a> {
+        Editor {
+            line: Vec::new(),
+            at: 0,
+            before,
+            shown: before.len(),
+        }
+    }
+
+    /// Shows one of the lines before, or an empty one behind the last.
+    fn show(&mut self, shown: usize) {
+        self.shown = shown.min(self.before.len());
+        let line = self.before.get(self.shown);
+        self.line = line.map_or(Vec::new(), |line| line.chars().collect());
+        self.at = self.line.len();
+    }
+
+    /// Cuts letters out.
+    fn cut(&mut self, from: usize, to: usize) {
+        self.line.drain(from..to.min(self.line.len()));
+        self.at = from;
+    }
+
+    /// Where the word before begins.
+    fn word(&self) -> usize {
+        let before = &self.line[..self.at];
+        let end = before
+            .iter()
+            .rposition(|c| *c != ' ')
+            .map_or(0, |last| last + 1);
+        before[..end]
+            .iter()
+            .rposition(|c| *c == ' ')
+            .map_or(0, |blank| blank + 1)
+    }
+
+    /// Does what a key asks for; how the line is ended, if it is.
+    pub fn press(&mut self, key: Key) -> Option<Typed> {
+        let (at, end) = (self.at, self.line.len());
+        match key {
+            Key::Letter(letter) => {
+                self.line.insert(at, letter);
+                self.at += 1;
+            }
+            Key::Left => self.at = at.saturating_sub(1),
+            Key::Right => self.at = (at + 1).min(end),
+            Key::First => self.at = 0,
+            Key::Last => self.at = end,
+            Key::Earlier => self.show(self.shown.saturating_sub(1)),
+            Key::Later => self.show(self.shown + 1),
+            Key::Backspace => self.cut(at.saturating_sub(1), at),
+            Key::Delete | Key::End if at < end => self.cut(at, at + 1),
+            Key::CutBefore => self.cut(0, at),
+            Key::CutBehind => self.cut(at, end),
+            Key::CutWord => self.cut(self.word(), at),
+            Key::Enter => return Some(Typed::Line(self.line.iter().collect())),
+            Key::Leave => return Some(Typed::Left),
+            Key::End if end == 0 => return Some(Typed::Left),
+            Key::End | Key::Delete | Key::Unknown => (),
+        }
+        None
+    }
+
+    /// What a terminal is sent to show the line behind a question: the part of it
+    /// around the cursor that has room.
+    pub fn drawn(&self, question: &str, width: usize) -> String {
+        let room = width.saturating_sub(question.chars().count() + 1).max(8);
+        let from = self.at.saturating_sub(room);
+        let part: String = self.line.iter().skip(from).take(room).collect();
+        let column = question.chars().count() + self.at - from;
+        format!("\r{question}{part}\x1b[K\r\x1b[{column}C")
+    }
+}
