@@ -12,6 +12,7 @@ mod names;
 mod numbers;
 mod objections;
 mod policy;
+mod refused_bytes;
 mod said;
 mod states;
 
@@ -23,4 +24,5 @@ pub use names::Names;
 pub use numbers::{number, scaled, scaled_text};
 pub use objections::{backward, objections, Objection};
 pub use policy::{policy, policy_text, Form, PolicyFile, Table};
+pub use refused_bytes::refused_bytes;
 pub use said::{Fault, Parsed, Place, LONGEST_LINE};

@@ -83,7 +83,13 @@ fn landings_of(word: &str) -> Result<Vec<u32>, String> {
                 false => Err(format!("{} is no range up to {top}", quoted(word))),
             }
         }
-        _ => Ok(vec![number(word)?]),
+        _ => match number(word) {
+            Ok(landing) => Ok(vec![landing]),
+            Err(_) => Err(format!(
+                "{} is no landing: they are numbers, ranges such as 3-7, all, none or routine",
+                quoted(word)
+            )),
+        },
     }
 }
 
@@ -233,10 +239,14 @@ impl Reader {
     /// The drum, if nothing is missing.
     fn drum(self, faults: &mut Faults) -> Option<Drum> {
         let whole = |message: String| Fault::new(Place::default(), message);
-        for (letter, number) in LETTERS.iter().zip(&self.numbers) {
-            if number.is_none() && *letter != LETTERS[STATES] {
-                faults.add(whole(format!("{letter} is missing")));
-            }
+        let missing = LETTERS.iter().zip(&self.numbers);
+        let missing =
+            missing.filter(|(letter, number)| number.is_none() && **letter != LETTERS[STATES]);
+        let missing: Vec<&str> = missing.map(|(&letter, _)| letter).collect();
+        match missing[..] {
+            [] => (),
+            [letter] => faults.add(whole(format!("{letter} is missing"))),
+            _ => faults.add(whole(format!("{} are missing", missing.join(", ")))),
         }
         if self.landings.is_none() {
             let message = "landings are missing: all, none, routine or a list";

@@ -74,7 +74,9 @@ impl Faults {
         match value {
             Some(value) if self.is_empty() => Ok(value),
             _ => {
-                self.0.sort_by_key(|fault| fault.place);
+                // What is wrong with the whole text comes last.
+                self.0
+                    .sort_by_key(|fault| (fault.place.line == 0, fault.place));
                 Err(self.0)
             }
         }

@@ -8,11 +8,13 @@ mod building;
 mod damage;
 mod documents;
 mod json;
+mod junk;
 mod keys;
 mod objects;
 mod policies;
 mod routines;
 mod running;
+mod writing;
 
 use std::fs;
 use std::io::Write;

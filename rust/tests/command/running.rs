@@ -140,7 +140,11 @@ fn steps_are_asked_for() {
     );
     let came = command(&with("step", SAMPLE, &[]));
     assert_eq!(came.status, 5);
-    assert!(came.out.contains("left: 0 instructions"), "{}", came.out);
+    assert!(
+        came.out.contains("left by you: 0 instructions"),
+        "{}",
+        came.out
+    );
 }
 
 #[test]

@@ -71,7 +71,9 @@ impl DrumFile {
                 wrong.message,
             )
         };
-        Problem::Refused(wrong.map(report).collect())
+        let mut reports: Vec<Report> = wrong.map(report).collect();
+        reports.sort_by_key(|report| report.place);
+        Problem::Refused(reports)
     }
 
     /// The first landing that is above all or does not rise.

@@ -90,8 +90,8 @@ impl<'a> End<'a> {
                 let bundles = (loaded.checked.commands.len() / BUNDLE_LENGTH) as u32;
                 let target = jump_of(word, &self.regs, bundles).map_or(0, |jump| jump.target);
                 format!(
-                    "it would go to {}, which is no landing; landings {}",
-                    routine.place(target),
+                    "it would go to {}, which is no landing; the landings are {}",
+                    routine.target(target),
                     landings_text(&loaded.checked.landings)
                 )
             }
@@ -110,7 +110,7 @@ impl<'a> End<'a> {
     pub fn text(&self) -> String {
         let head = match self.ending {
             Some(ending) => format!("ending {} {ending}", ending.number()),
-            None => "left".to_string(),
+            None => "left by you".to_string(),
         };
         let reason = self
             .why()

@@ -79,7 +79,7 @@ pub fn wrong(layout: &Layout) -> Vec<Wrong> {
             format!("the sandbox has {room} cells, SH - SL + 1, which is no power of two"),
         ),
         (
-            room == 0 || low.is_multiple_of(room),
+            !room.is_power_of_two() || low.is_multiple_of(room),
             SL,
             format!("SL is {low}, no multiple of the sandbox's {room} cells"),
         ),

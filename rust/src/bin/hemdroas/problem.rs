@@ -108,7 +108,8 @@ impl Problem {
     /// In few words, for a line among others.
     pub fn short(&self) -> String {
         match self {
-            Problem::Usage(said) | Problem::File(_, said) => said.clone(),
+            Problem::Usage(said) => said.clone(),
+            Problem::File(..) => "cannot be read".to_string(),
             Problem::Quiet => String::new(),
             Problem::Refused(reports) => {
                 let refusal = reports.iter().find_map(|report| report.refusal);

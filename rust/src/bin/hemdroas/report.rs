@@ -4,6 +4,10 @@ use super::json::{object, Json};
 use hemdroas::text::{Fault, Place};
 use hemdroas::Refusal;
 
+/// The most characters of a line that is shown, and those of them that are none.
+const LONGEST_SHOWN: usize = 200;
+const MOST_ODD: usize = 3;
+
 /// Whether something keeps a file from being taken.
 #[derive(Clone, Copy, PartialEq, Eq)]
 pub enum Level {
@@ -69,20 +73,14 @@ impl Report {
 
     /// The same, at a place of the file's text.
     pub fn at(self, content: &[u8], place: Place) -> Report {
-        let bytes = content
-            .split(|&byte| byte == b'\n')
-            .nth(place.line.wrapping_sub(1));
-        let plain = |c: char| {
-            if c.is_control() && c != '\t' {
-                '\u{fffd}'
-            } else {
-                c
-            }
-        };
-        let source = bytes.map(|bytes| {
-            let bytes = bytes.strip_suffix(b"\r").unwrap_or(bytes);
-            String::from_utf8_lossy(bytes).chars().map(plain).collect()
-        });
+        let mut lines = content.split(|&byte| byte == b'\n');
+        let line = lines.nth(place.line.wrapping_sub(1)).unwrap_or_default();
+        let line = line.strip_suffix(b"\r").unwrap_or(line);
+        let is_odd = |c: char| c.is_control() && c != '\t' || c == '\u{feff}';
+        let text = String::from_utf8_lossy(line).replace(is_odd, "\u{fffd}");
+        // What is no text at all is not shown.
+        let is_shown = text.matches('\u{fffd}').count() <= MOST_ODD && text.len() <= LONGEST_SHOWN;
+        let source = is_shown.then_some(text);
         Report {
             place,
             source,
@@ -96,6 +94,8 @@ impl Report {
             format!("; refused as {refusal} ({})", refusal.number())
         });
         match &self.instruction {
+            // Its line stands before it.
+            Some((_, None)) if self.refusal.is_none() => refused,
             Some((place, None)) => format!("{refused}, instruction {place}"),
             Some((place, Some(text))) => format!("{refused}, instruction {place}: {text}"),
             None => refused,
@@ -115,11 +115,7 @@ impl Report {
             return format!("{file}: {said}");
         }
         let head = format!("{file}:{line}:{column}: {said}");
-        let Some(source) = self
-            .source
-            .as_ref()
-            .filter(|source| source.chars().count() <= 200)
-        else {
+        let Some(source) = &self.source else {
             return head;
         };
         // Tabs stay tabs, so that the marks stand under the words.

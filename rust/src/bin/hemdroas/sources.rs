@@ -5,7 +5,7 @@ use super::files;
 use super::problem::{faulty, meaning, Problem};
 use super::report::{Level, Report};
 use hemdroas::names::{MOST_COMMANDS, MOST_INSTRUCTIONS};
-use hemdroas::text::{self, backward, objections, Listed, Names, Objection};
+use hemdroas::text::{self, backward, objections, refused_bytes, Listed, Names, Objection};
 use hemdroas::{native, Answer, Layout, Refusal};
 
 /// A routine, from text or bytes.
@@ -185,7 +185,12 @@ impl Routine {
         if !found.is_empty() {
             return Problem::Refused(found);
         }
-        let report = Report::refusal(&self.path, refusal, meaning(refusal));
+        let why = match self.text {
+            Some(_) => None,
+            None => refused_bytes(&self.content, refusal, place),
+        };
+        let why = why.unwrap_or(meaning(refusal).to_string());
+        let report = Report::refusal(&self.path, refusal, why);
         let is_placed = matches!(
             refusal,
             Refusal::Short | Refusal::Foreign | Refusal::UnknownKind | Refusal::OffRange

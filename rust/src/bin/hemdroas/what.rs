@@ -73,7 +73,7 @@ fn jump_text(loaded: &Loaded, place: u32, jump: &Jump) -> String {
         return format!("{condition}: yes, to {goal}");
     }
     let landings = landings_text(&loaded.checked.landings);
-    format!("{condition}: yes, to {goal}, which is no landing ({landings}): it will stop (26)")
+    format!("{condition}: yes, to {goal}, which is no landing; the landings are {landings}: it will stop (26)")
 }
 
 /// What an event will do.

@@ -1,0 +1,327 @@
+//! Every subcommand on files that are none, and on outputs that cannot be used.
+
+use crate::{command, examples, file, folder, Came};
+use std::fs;
+use std::io::pipe;
+use std::path::Path;
+use std::process::{Command, Stdio};
+
+/// The subcommands with files that they take, each with its status on them.
+const GOOD: [(&[&str], i32); 12] = [
+    (
+        &[
+            "assemble",
+            "sample.routine",
+            "--drum=sample.drum",
+            "-o",
+            "-",
+        ],
+        0,
+    ),
+    (
+        &[
+            "list",
+            "sample.routine",
+            "--drum",
+            "sample.drum",
+            "--bundles",
+        ],
+        0,
+    ),
+    (
+        &[
+            "check",
+            "sample.routine",
+            "--drum",
+            "sample.drum",
+            "--policy",
+            "sample.policy",
+        ],
+        0,
+    ),
+    (&["forward", "sample.routine", "--drum", "sample.drum"], 0),
+    (
+        &[
+            "run",
+            "sample.routine",
+            "--drum",
+            "sample.drum",
+            "--policy",
+            "sample.policy",
+        ],
+        4,
+    ),
+    (
+        &[
+            "preview",
+            "sample.routine",
+            "--drum",
+            "sample.drum",
+            "--policy",
+            "sample.policy",
+        ],
+        4,
+    ),
+    (
+        &[
+            "step",
+            "sample.routine",
+            "--drum",
+            "sample.drum",
+            "--policy",
+            "sample.policy",
+            "--all",
+        ],
+        4,
+    ),
+    (
+        &[
+            "policy",
+            "precedence",
+            "order.policy",
+            "--drum",
+            "roast.drum",
+        ],
+        0,
+    ),
+    (
+        &[
+            "policy",
+            "merge",
+            "roast.policy",
+            "exporter.policy",
+            "--drum",
+            "roast.drum",
+        ],
+        0,
+    ),
+    (
+        &[
+            "policy",
+            "determinise",
+            "exporter.policy",
+            "--drum",
+            "roast.drum",
+        ],
+        0,
+    ),
+    (
+        &["policy", "show", "exporter.policy", "--drum", "roast.drum"],
+        0,
+    ),
+    (
+        &["policy", "draw", "exporter.policy", "--drum", "roast.drum"],
+        0,
+    ),
+];
+
+/// Whether an argument names a file of the examples, behind an option too.
+fn named(word: &str) -> Option<&str> {
+    let name = word.split('=').next_back()?;
+    let is_file = [".routine", ".drum", ".policy"]
+        .iter()
+        .any(|end| name.ends_with(end));
+    is_file.then_some(name)
+}
+
+/// The same arguments with one of their files replaced, for each of them.
+fn replaced(args: &[&str], by: impl Fn(&str) -> String) -> Vec<Vec<String>> {
+    let places = (0..args.len()).filter(|&place| named(args[place]).is_some());
+    places
+        .map(|place| {
+            let mut words: Vec<String> = args.iter().map(|word| word.to_string()).collect();
+            let name = named(args[place]).expect("it names a file");
+            words[place] = args[place].replace(name, &by(name));
+            words
+        })
+        .collect()
+}
+
+fn run(words: &[String]) -> Came {
+    let output = Command::new(env!("CARGO_BIN_EXE_hemdroas"))
+        .args(words)
+        .current_dir(examples())
+        .stdin(Stdio::null())
+        .output()
+        .expect("the command runs");
+    let text = |bytes: &[u8]| String::from_utf8_lossy(bytes).into_owned();
+    let came = Came {
+        status: output.status.code().expect("no signal ended the command"),
+        out: text(&output.stdout),
+        error: text(&output.stderr),
+    };
+    assert!(
+        !came.error.contains("panicked"),
+        "{words:?}: {}",
+        came.error
+    );
+    came
+}
+
+/// Files that are none, each with the status and what is said of it.
+fn junk(folder: &Path) -> Vec<(String, i32, &'static str)> {
+    let bytes: Vec<u8> = (0..4000u32)
+        .map(|i| (i.wrapping_mul(2_654_435_761) >> 13) as u8)
+        .collect();
+    let noise = [b"\x7fELF".as_slice(), &bytes].concat();
+    vec![
+        (file(folder, "empty", ""), 1, ": error: "),
+        (file(folder, "blank", "\n \t\n"), 1, ": error: "),
+        (file(folder, "binary", noise), 1, ": error: "),
+        (file(folder, "zeros", [0; 600]), 1, ": error: "),
+        (
+            file(folder, "huge", vec![b'#'; 2 << 20]),
+            3,
+            "longer than 1048576 bytes",
+        ),
+        (
+            file(folder, "latin", b"HALT # 20\xb0\n"),
+            1,
+            ":1:10: error: not UTF-8 text",
+        ),
+        (
+            file(folder, "mark", "\u{feff}HALT\n"),
+            1,
+            ":1:1: error: a byte-order mark",
+        ),
+        (
+            file(folder, "bell", "HALT\n \x07\n"),
+            1,
+            ":2:2: error: a control character, U+0007",
+        ),
+        (
+            file(folder, "utf16", b"\xff\xfeH\0"),
+            1,
+            ":1:1: error: UTF-16 text",
+        ),
+        (
+            folder.join("missing").to_str().unwrap().to_string(),
+            3,
+            "No such file or directory",
+        ),
+        (folder.to_str().unwrap().to_string(), 3, "Is a directory"),
+    ]
+}
+
+#[test]
+fn files_that_are_none() {
+    let folder = folder("junk");
+    let mut tried = 0;
+    for (path, status, said) in junk(&folder) {
+        for (args, _) in GOOD {
+            for words in replaced(args, |_| path.clone()) {
+                let came = run(&words);
+                assert_eq!(came.status, status, "{words:?}: {}", came.error);
+                came.ended(status, said);
+                tried += 1;
+            }
+        }
+    }
+    assert_eq!(tried, 11 * 29, "every file of every subcommand");
+}
+
+#[test]
+fn lines_may_end_as_on_windows() {
+    let folder = folder("crlf");
+    for (args, status) in GOOD {
+        let plain = command(args);
+        assert_eq!(plain.status, status, "{args:?}: {}", plain.error);
+        let windows = |name: &str| {
+            let text = fs::read_to_string(examples().join(name)).unwrap();
+            file(&folder, name, text.replace('\n', "\r\n"))
+        };
+        for words in replaced(args, windows) {
+            let came = run(&words);
+            let same = came
+                .out
+                .replace(folder.to_str().unwrap(), "")
+                .replace('/', "");
+            assert_eq!(
+                (same, came.status),
+                (plain.out.replace('/', ""), status),
+                "{words:?}"
+            );
+        }
+    }
+}
+
+#[test]
+fn an_output_that_nobody_reads_ends_quietly() {
+    for (args, _) in GOOD {
+        let (reader, writer) = pipe().expect("a pipe can be made");
+        drop(reader);
+        let output = Command::new(env!("CARGO_BIN_EXE_hemdroas"))
+            .args(args)
+            .current_dir(examples())
+            .stdin(Stdio::null())
+            .stdout(writer)
+            .stderr(Stdio::piped())
+            .spawn()
+            .and_then(|child| child.wait_with_output())
+            .expect("the command runs");
+        let error = String::from_utf8_lossy(&output.stderr);
+        assert_eq!(
+            (output.status.code(), error.as_ref()),
+            (Some(3), ""),
+            "{args:?}"
+        );
+    }
+}
+
+#[test]
+fn an_output_that_is_closed_changes_nothing() {
+    for (args, status) in GOOD {
+        let line = format!(
+            "exec '{}' {} >&-",
+            env!("CARGO_BIN_EXE_hemdroas"),
+            args.join(" ")
+        );
+        let output = Command::new("sh")
+            .args(["-c", &line])
+            .current_dir(examples())
+            .stdin(Stdio::null())
+            .output()
+            .expect("a shell runs");
+        let error = String::from_utf8_lossy(&output.stderr);
+        assert_eq!(
+            (output.status.code(), error.as_ref()),
+            (Some(status), ""),
+            "{args:?}"
+        );
+    }
+}
+
+#[test]
+fn an_output_that_is_an_input_is_refused() {
+    let folder = folder("same");
+    for (args, _) in GOOD {
+        let takes_output =
+            !["check", "forward", "run", "preview", "step"].contains(&args[0]) && args[1] != "show";
+        if !takes_output {
+            continue;
+        }
+        let text = |name: &str| fs::read(examples().join(name)).unwrap();
+        let copy = |name: &str| file(&folder, name, text(name));
+        for words in replaced(args, copy) {
+            let words: Vec<String> = words
+                .into_iter()
+                .filter(|word| word != "-o" && word != "-")
+                .collect();
+            let input = words
+                .iter()
+                .find_map(|word| word.split('=').find(|part| part.contains("same")));
+            let input = input.expect("a file was copied");
+            let name = Path::new(input).file_name().unwrap().to_str().unwrap();
+            let (hard, soft) = (folder.join("hard"), folder.join("soft"));
+            let _ = (fs::remove_file(&hard), fs::remove_file(&soft));
+            fs::hard_link(input, &hard).unwrap();
+            std::os::unix::fs::symlink(input, &soft).unwrap();
+            for out in [input, hard.to_str().unwrap(), soft.to_str().unwrap()] {
+                let words = [&words[..], &["-o".to_string(), out.to_string()]].concat();
+                let came = run(&words);
+                came.ended(3, "it is the input *, and would be overwritten");
+                assert_eq!(fs::read(input).unwrap(), text(name), "{words:?}");
+            }
+        }
+    }
+}

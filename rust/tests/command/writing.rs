@@ -1,0 +1,273 @@
+//! What people write: labels as numbers, landings, warnings, and all errors at
+//! once.
+
+use crate::{command, examples, file, folder};
+use hemdroas::text::{assemble, drum, Names, Routine};
+use std::fs;
+
+/// The names of the profile's drum.
+fn names() -> Names {
+    let content = fs::read(examples().join("profile.drum")).unwrap();
+    drum(&content).unwrap().names
+}
+
+fn assembled(text: &str) -> Routine {
+    assemble(text.as_bytes(), &names()).unwrap_or_else(|faults| panic!("{faults:?}\n{text}"))
+}
+
+#[test]
+fn a_label_stands_for_its_number_everywhere() {
+    let text = "    SET r1, end\n    SAR r1, r1, two\ntwo: GOIF always, end\n    EVENT two\nend:\n";
+    let numbers = "    SET r1, 4\n    SAR r1, r1, 2\n    GOIF always, 4\n    EVENT 2\n";
+    assert_eq!(assembled(text).words, assembled(numbers).words);
+    // An event's name comes first.
+    assert_eq!(
+        assembled("gas: HALT\nEVENT gas\n").words[1],
+        assembled("EVENT 0\n").words[0]
+    );
+}
+
+#[test]
+fn landings_are_marked_in_the_text() {
+    let text = "landing HALT\nHALT\nlanding a: b: HALT\nlanding\n# a comment\nc:\nHALT\nLanding\n";
+    assert_eq!(assembled(text).landings, [0, 2, 3, 4]);
+    let folder = folder("landings");
+    let drum_text = fs::read_to_string(examples().join("profile.drum")).unwrap();
+    let check = |drum: &str, routine: &str| command(&["check", routine, "--drum", drum]);
+    for (line, listed) in [
+        ("landings routine", "landings 17-20"),
+        ("landings none", "landings none"),
+        ("landings all", "landings all"),
+        ("landings 3\nlandings 5-7 9", "landings 3 5-7 9"),
+    ] {
+        let drum = file(&folder, "drum", drum_text.replace("landings routine", line));
+        let came = check(&drum, "profile.routine");
+        assert!(came.out.contains(listed), "{}", came.out);
+    }
+    for line in [
+        "landings routine 3",
+        "landings 3\nlandings routine",
+        "landings routine\nlandings 3",
+    ] {
+        let drum = file(&folder, "drum", drum_text.replace("landings routine", line));
+        check(&drum, "profile.routine").refused("'landings routine' stands alone");
+    }
+    // Bytes mark none.
+    let bytes = file(&folder, "bytes", "");
+    command(&[
+        "assemble",
+        "profile.routine",
+        "--drum",
+        "profile.drum",
+        "-o",
+        &bytes,
+    ])
+    .printed(0, "");
+    let came = check("profile.drum", &bytes);
+    came.ended(0, "there are no landings: a GOX that is taken stops the routine (26)*instruction 16: GOX r10, always");
+    assert!(came.out.contains("landings none"), "{}", came.out);
+}
+
+#[test]
+fn a_phase_table_survives_an_inserted_line() {
+    let folder = folder("inserted");
+    let readings =
+        "--readings=150 175 185 190 195 150 110 95 98 120 140 158 165 172 178 190 200 207 209 212";
+    let record = |routine: &str| {
+        let files = [
+            "run",
+            routine,
+            "--drum=profile.drum",
+            "--policy=profile.policy",
+        ];
+        let came = command(&[&files[..], &["--budget=3000", readings]].concat());
+        assert_eq!(came.status, 0, "{}{}", came.out, came.error);
+        let rows = came.out.lines().filter(|line| line.starts_with("  "));
+        rows.map(str::to_string).collect::<Vec<_>>()
+    };
+    let text = fs::read_to_string(examples().join("profile.routine")).unwrap();
+    let whole = record("profile.routine");
+    assert_eq!(whole.len(), 27);
+    let lines: Vec<&str> = text.lines().collect();
+    for place in [7, 13, 20, 34, 47] {
+        let longer = [&lines[..place], &["SET r14, 9"], &lines[place..]]
+            .concat()
+            .join("\n");
+        assert_eq!(
+            record(&file(&folder, "longer", longer)),
+            whole,
+            "line {place}"
+        );
+    }
+}
+
+/// Texts are listed as texts of the same words, labels and landings.
+#[test]
+fn listed_texts_are_taken_back() {
+    let folder = folder("listed");
+    let odd = "gas: landing: x"; // no text of a routine
+    assert!(assemble(odd.as_bytes(), &names()).is_err());
+    let odd = file(&folder, "odd", "landing a: b: SET r1, -7\nlanding\nSET r2, 0xFF\nSET r3, b\nGOIF always, 2\nGOIF always, end\nEVENT 3\nend:\n");
+    for path in ["profile.routine", "roast.routine", "sample.routine", &odd] {
+        let text = fs::read_to_string(examples().join(path)).unwrap();
+        let came = command(&["list", path, "--drum", "profile.drum"]);
+        assert_eq!(came.status, 0, "{}", came.error);
+        let (one, other) = (assembled(&text), assembled(&came.out));
+        assert_eq!(
+            (one.words, one.landings, one.labels),
+            (other.words, other.landings, other.labels)
+        );
+        let shown = |routine: Vec<hemdroas::text::Source>| -> Vec<_> {
+            routine.into_iter().map(|source| source.shown).collect()
+        };
+        assert_eq!(shown(one.sources), shown(other.sources), "{}", came.out);
+        // Numbered from 0.
+        let numbers = came
+            .out
+            .lines()
+            .filter_map(|line| line.split("# ").nth(1)?.parse().ok());
+        let count = assembled(&text).words.len();
+        assert_eq!(
+            numbers.collect::<Vec<usize>>(),
+            (0..count).collect::<Vec<_>>()
+        );
+    }
+}
+
+#[test]
+fn all_errors_are_shown_at_once_with_their_words_underlined() {
+    let folder = folder("underlined");
+    let text = "SET r15, 1\n\tSET r1 200\nJUMP\nloop: ADD r1, r2\nGOIF r1, r2, abvoe, lop\nSET r1, loopp # far\nGOX r1, equal\nEVENT gsa\nloop: HALT\n";
+    let path = file(&folder, "text", text);
+    let came = command(&["assemble", &path, "--drum", "profile.drum", "-o", "-"]);
+    let expected = "\
+text:1:5: error: r15 is hidden: a routine has r0 to r14
+SET r15, 1
+    ^^^
+text:2:9: error: a comma is missing before '200', as in 'SET r1, 200'
+\tSET r1 200
+\t       ^^^
+text:3:1: error: 'JUMP' is no instruction
+JUMP
+^^^^
+text:4:15: error: an operand is missing, as in 'ADD r3, r1, r2'
+loop: ADD r1, r2
+              ^^
+text:5:14: error: 'abvoe' is no condition: they are always, equal, below, less
+GOIF r1, r2, abvoe, lop
+             ^^^^^
+text:6:9: error: 'loopp' is neither a number nor a label; did you mean 'loop'?
+SET r1, loopp # far
+        ^^^^^
+text:7:9: error: 'equal' compares two registers, and none stands before it
+GOX r1, equal
+        ^^^^^
+text:8:7: error: no event is named 'gsa'; did you mean 'gas'?
+EVENT gsa
+      ^^^
+text:9:1: error: the label 'loop' stands twice
+loop: HALT
+^^^^
+";
+    let said = came.error.replace(&format!("{}/", folder.display()), "");
+    assert_eq!((said.as_str(), came.status), (expected, 1));
+    let drum = file(
+        &folder,
+        "drum",
+        "U 1o\nSL 2\nSL 3\nevent 16 a\nscale gas 7\nlandings some\n",
+    );
+    let came = command(&["check", "sample.routine", "--drum", &drum]);
+    assert_eq!(came.error.matches(": error: ").count(), 6, "{}", came.error);
+    let policy = file(
+        &folder,
+        "policy",
+        "event 0 gas\nstate a\n gsa -> b\n gas -> bb\nstate bb\nstate a\nceiling 9 1\n",
+    );
+    let came = command(&["policy", "show", &policy]);
+    assert_eq!(came.error.matches(": error: ").count(), 4, "{}", came.error);
+    let many = file(&folder, "many", "JUMP\n".repeat(60));
+    let came = command(&["assemble", &many, "-o", "-"]);
+    assert!(
+        came.error.ends_with("and 10 errors more\n"),
+        "{}",
+        came.error
+    );
+}
+
+#[test]
+fn check_warns() {
+    let folder = folder("warned");
+    let text = "EVENT cool\nGOX r1, always\nSET r1, 1\nHALT\nend: GOIF r1, r1, equal, end\n";
+    let path = file(&folder, "odd", text);
+    let came = command(&[
+        "check",
+        &path,
+        "--drum=roast.drum",
+        "--policy=profile.policy",
+    ]);
+    came.ended(0, "odd:2:5: warning: there are no landings");
+    came.ended(0, "odd:3:1: warning: instructions 2 to 4 are never reached");
+    assert_eq!(came.error.matches("warning").count(), 2, "{}", came.error);
+    // Events that some state allows are fine, and those of states that are never reached are not.
+    let policy = file(
+        &folder,
+        "policy",
+        "event 4 cool\nstate a\n 0 -> a\nstate attic\n cool -> a\n",
+    );
+    let came = command(&["check", &path, "--drum=roast.drum", "--policy", &policy]);
+    came.ended(
+        0,
+        "odd:1:7: warning: the policy never allows cool: the routine stops here (21)",
+    );
+    for (routine, drum, policy) in [
+        ("sample.routine", "sample.drum", "sample.policy"),
+        ("roast.routine", "roast.drum", "roast.policy"),
+        ("profile.routine", "profile.drum", "profile.policy"),
+    ] {
+        let came = command(&["check", routine, "--drum", drum, "--policy", policy]);
+        assert_eq!((came.status, came.error.as_str()), (0, ""));
+    }
+}
+
+#[test]
+fn check_takes_many_files() {
+    let folder = folder("many");
+    let refused = file(&folder, "refused", "SET r15, 1\n");
+    let good = [
+        "check",
+        "sample.routine",
+        "--drum",
+        "roast.drum",
+        "roast.routine",
+    ];
+    let statuses = [
+        (vec![], 0),
+        (vec![refused.as_str()], 1),
+        (vec!["missing", &refused], 3),
+    ];
+    for (more, status) in statuses {
+        let came = command(&[&good[..], &more].concat());
+        assert_eq!(came.status, status, "{}", came.error);
+        assert_eq!(came.out.lines().count(), 2 + more.len(), "{}", came.out);
+    }
+}
+
+#[test]
+fn empty_files_are_refused_alike() {
+    let folder = folder("alike");
+    for (name, content) in [("empty", ""), ("blank", " \n\n")] {
+        let path = file(&folder, name, content);
+        for args in [
+            vec!["assemble", &path, "-o", "-"],
+            vec!["check", &path, "--drum", "sample.drum"],
+            vec!["list", &path],
+            vec!["forward", &path],
+        ] {
+            command(&args).refused("the file is empty*refused as short weight (1)");
+        }
+    }
+    let comment = file(&folder, "comment", "# nothing\n");
+    command(&["assemble", &comment, "-o", "-"]).printed(0, "\0\0");
+    let came = command(&["check", &comment, "--drum", "sample.drum"]);
+    assert_eq!(came.status, 0, "{}", came.error);
+}
