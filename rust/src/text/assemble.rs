@@ -175,24 +175,34 @@ impl Meanings<'_> {
         kind: &Kind,
         form: &[Field],
         operands: &[Said],
-    ) -> Result<(Fields, Shown), Fault> {
+        faults: &mut Faults,
+    ) -> (Fields, Shown) {
         let mut fields = Fields::default();
         let mut shown = Shown::Plain;
         let is_short = form.len() < kind.forms[kind.forms.len() - 1].len();
         for (field, &said) in form.iter().zip(operands) {
+            let found = match field {
+                Field::D | Field::A | Field::B => register(said),
+                Field::C => condition(said, is_short),
+                Field::V => self.value(kind, said).map(|(value, how)| {
+                    shown = how;
+                    value
+                }),
+            };
+            let value = faults.keep(found).unwrap_or(0);
             match field {
-                Field::D => fields.d = register(said)?,
-                Field::A => fields.a = register(said)?,
-                Field::B => fields.b = register(said)?,
-                Field::C => fields.c = condition(said, is_short)?,
-                Field::V => (fields.v, shown) = self.value(kind, said)?,
+                Field::D => fields.d = value,
+                Field::A => fields.a = value,
+                Field::B => fields.b = value,
+                Field::C => fields.c = value,
+                Field::V => fields.v = value,
             }
         }
-        Ok((fields, shown))
+        (fields, shown)
     }
 
     /// The word of one statement.
-    fn instruction(&self, said: Said) -> Result<(u64, Source), Fault> {
+    fn instruction(&self, said: Said, faults: &mut Faults) -> Result<(u64, Source), Fault> {
         let (name, rest) = match said.split_once(char::is_whitespace) {
             Some((name, rest)) => (name, Some(rest)),
             None => (said, None),
@@ -205,7 +215,7 @@ impl Meanings<'_> {
         let kind = &KINDS[number];
         let operands = rest.map_or(Vec::new(), |rest| rest.split(','));
         let form = form_of(kind, name, &operands)?;
-        let (fields, shown) = self.fields(kind, form, &operands)?;
+        let (fields, shown) = self.fields(kind, form, &operands, faults);
         let places = operands.iter().map(Said::place);
         let source = Source {
             place: said.place(),
@@ -306,7 +316,8 @@ pub fn assemble(text: &[u8], names: &Names) -> Parsed<Routine> {
         ..Routine::default()
     };
     for statement in said.statements {
-        if let Some((word, source)) = faults.keep(meanings.instruction(statement)) {
+        let found = meanings.instruction(statement, &mut faults);
+        if let Some((word, source)) = faults.keep(found) {
             routine.words.push(word);
             routine.sources.push(source);
         }

@@ -73,19 +73,21 @@ impl<'a> States<'a> {
         Ok(())
     }
 
-    fn numbers(&self, listed: &[Said]) -> Result<Vec<usize>, Fault> {
+    /// The numbers of states that are listed by name.
+    fn numbers(&self, listed: &[Said], faults: &mut Faults) -> Vec<usize> {
         if let [only] = listed {
             if only.text == "none" {
-                return Ok(Vec::new());
+                return Vec::new();
             }
         }
         let number = |said: &Said| {
             let found = self.names.iter().position(|&known| known == said.text);
             let near = hint(said.text, self.names.iter().copied());
-            found
-                .ok_or_else(|| said.fault(format!("no state is named {}{near}", quoted(said.text))))
+            let unknown = || said.fault(format!("no state is named {}{near}", quoted(said.text)));
+            found.ok_or_else(unknown)
         };
-        listed.iter().map(number).collect()
+        let known = listed.iter().filter_map(|said| faults.keep(number(said)));
+        known.collect()
     }
 
     /// Adds an arrow's successors to those of its state and event.
@@ -94,8 +96,9 @@ impl<'a> States<'a> {
         arrow: &Arrow,
         names: &Names,
         found: &mut [Option<Vec<usize>>],
+        faults: &mut Faults,
     ) -> Result<(), Fault> {
-        let numbers = self.numbers(&arrow.listed)?;
+        let numbers = self.numbers(&arrow.listed, faults);
         let event = arrow.event;
         // The row of a state has a place more, for the others.
         let place = match event.text {
@@ -121,7 +124,8 @@ impl<'a> States<'a> {
     fn successors(&self, names: &Names, faults: &mut Faults) -> Vec<Vec<usize>> {
         let mut found: Vec<Option<Vec<usize>>> = vec![None; (ROW + 1) * self.names.len()];
         for arrow in &self.arrows {
-            faults.keep(self.add(arrow, names, &mut found));
+            let added = self.add(arrow, names, &mut found, faults);
+            faults.keep(added);
         }
         let rows = found.chunks(ROW + 1);
         rows.flat_map(|row| {
@@ -137,8 +141,8 @@ impl<'a> States<'a> {
         let Some(listed) = &self.starts else {
             return Some(vec![0]);
         };
-        let starts = faults.keep(self.numbers(listed))?;
-        if !self.is_drawing && starts.len() != 1 {
+        let starts = self.numbers(listed, faults);
+        if !self.is_drawing && (starts.len() > 1 || starts.is_empty() && listed[0].text == "none") {
             let message = "one start, unless the file says 'drawing' first";
             faults.add(listed[listed.len() - 1].fault(message));
             return None;

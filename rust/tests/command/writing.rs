@@ -156,6 +156,9 @@ loop: ADD r1, r2
 text:5:14: error: 'abvoe' is no condition: they are always, equal, below, less
 GOIF r1, r2, abvoe, lop
              ^^^^^
+text:5:21: error: no line has the label 'lop'; did you mean 'loop'?
+GOIF r1, r2, abvoe, lop
+                    ^^^
 text:6:9: error: 'loopp' is neither a number nor a label; did you mean 'loop'?
 SET r1, loopp # far
         ^^^^^
