@@ -6,6 +6,7 @@ use super::said::{hint, is_name, lines, quoted, Fault, Faults, Parsed, Place, Sa
 use super::{number, Names};
 use crate::model::words::{word, Fields};
 use crate::names::REGISTERS;
+use crate::Refusal;
 use std::collections::{BTreeSet, HashMap};
 
 /// The word that marks a landing.
@@ -296,6 +297,17 @@ impl<'a> Statements<'a> {
     }
 }
 
+/// What the library refuses of the lines that were read, beside lines that were
+/// not. Their places among the words are not the text's, so jumps are not judged.
+fn other_doubts(routine: &Routine) -> impl Iterator<Item = Fault> {
+    let is_lasting = |doubt: &Fault| matches!(doubt.refusal, Some((Refusal::OffRange, _)));
+    let lasting = routine.doubts().into_iter().filter(is_lasting);
+    lasting.map(|doubt| Fault {
+        refusal: None,
+        ..doubt
+    })
+}
+
 /// The words of a routine's text: an instruction a line, labels before a colon,
 /// `landing` before a landing, comments behind #.
 pub fn assemble(text: &[u8], names: &Names) -> Parsed<Routine> {
@@ -306,12 +318,9 @@ pub fn assemble(text: &[u8], names: &Names) -> Parsed<Routine> {
     }
     let labels = said.known;
     let meanings = Meanings { names, labels };
+    let listed = said.labels.into_iter();
     let mut routine = Routine {
-        labels: said
-            .labels
-            .iter()
-            .map(|&(name, at)| (name.to_string(), at))
-            .collect(),
+        labels: listed.map(|(name, at)| (name.to_string(), at)).collect(),
         landings: said.landings.into_iter().collect(),
         ..Routine::default()
     };
@@ -323,19 +332,7 @@ pub fn assemble(text: &[u8], names: &Names) -> Parsed<Routine> {
         }
     }
     if !faults.is_empty() {
-        // The places in words are not those of the text here, so jumps cannot be judged.
-        let doubts = routine.doubts().into_iter();
-        let lasting = |doubt: &Fault| {
-            doubt
-                .refusal
-                .is_some_and(|(why, _)| why == crate::Refusal::OffRange)
-        };
-        for doubt in doubts.filter(lasting) {
-            faults.add(Fault {
-                refusal: None,
-                ..doubt
-            });
-        }
+        other_doubts(&routine).for_each(|doubt| faults.add(doubt));
     }
     faults.or(Some(routine))
 }

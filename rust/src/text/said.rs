@@ -162,49 +162,53 @@ impl<'a> Said<'a> {
     }
 }
 
-/// What a line says before its comment.
-fn statement(line: usize, bytes: &[u8]) -> Result<Said<'_>, Fault> {
-    let fault = |column, message: String| {
-        let length = 1;
-        Err(Fault::new(
-            Place {
-                line,
-                column,
-                length,
-            },
-            message,
-        ))
-    };
+/// The text of a line, or the column and the message of what makes it none.
+fn plain(line: usize, bytes: &[u8]) -> Result<&str, (usize, String)> {
+    let fault = |column, message: &str| Err((column, message.to_string()));
     if bytes.len() > LONGEST_LINE {
-        return fault(1, format!("longer than {LONGEST_LINE} characters"));
+        return fault(1, &format!("longer than {LONGEST_LINE} characters"));
     }
     if line == 1 && (bytes.starts_with(&[0xff, 0xfe]) || bytes.starts_with(&[0xfe, 0xff])) {
-        return fault(1, "UTF-16 text: save the file as UTF-8".to_string());
+        return fault(1, "UTF-16 text: save the file as UTF-8");
     }
     let bytes = bytes.strip_suffix(b"\r").unwrap_or(bytes);
     let text = match std::str::from_utf8(bytes) {
         Ok(text) => text,
         Err(error) => {
             let good = String::from_utf8_lossy(&bytes[..error.valid_up_to()]);
-            let message = "not UTF-8 text: save the file as UTF-8";
-            return fault(good.chars().count() + 1, message.to_string());
+            let column = good.chars().count() + 1;
+            return fault(column, "not UTF-8 text: save the file as UTF-8");
         }
     };
     if line == 1 && text.starts_with('\u{feff}') {
-        let message = "a byte-order mark: save the file as UTF-8 without one";
-        return fault(1, message.to_string());
+        return fault(1, "a byte-order mark: save the file as UTF-8 without one");
     }
-    let control = text
-        .chars()
-        .enumerate()
-        .find(|(_, c)| c.is_control() && *c != '\t');
-    if let Some((before, found)) = control {
-        let code = u32::from(found);
-        return fault(
-            before + 1,
-            format!("a control character, U+{code:04X}: delete it"),
-        );
+    let is_control = |(_, c): &(usize, char)| c.is_control() && *c != '\t';
+    match text.chars().enumerate().find(is_control) {
+        Some((before, found)) => {
+            let code = u32::from(found);
+            fault(
+                before + 1,
+                &format!("a control character, U+{code:04X}: delete it"),
+            )
+        }
+        None => Ok(text),
     }
+}
+
+/// What a line says before its comment.
+fn statement(line: usize, bytes: &[u8]) -> Result<Said<'_>, Fault> {
+    let text = plain(line, bytes).map_err(|(column, message)| {
+        let length = 1;
+        Fault::new(
+            Place {
+                line,
+                column,
+                length,
+            },
+            message,
+        )
+    })?;
     let text = text.split('#').next().unwrap_or("");
     let column = 1;
     Ok(Said { text, line, column }.trim())

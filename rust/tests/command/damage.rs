@@ -295,7 +295,24 @@ fn refusals_leave_files_as_they_were() {
 
 #[test]
 fn bad_usage() {
-    let uses: [&[&str]; 16] = [
+    let uses: [&[&str]; 20] = [
+        &["help", "roast"],
+        &["forward", "sample.routine", "--json=yes"],
+        &[
+            "assemble",
+            "sample.routine",
+            "-o=-",
+            "--drum=sample.drum",
+            "--",
+            "sample.drum",
+        ],
+        &[
+            "run",
+            "sample.routine",
+            "--drum=sample.drum",
+            "--policy=sample.policy",
+            "--readings=hot",
+        ],
         &[],
         &["roast"],
         &["policy", "burn", "sample.policy"],
@@ -330,6 +347,31 @@ fn bad_usage() {
         );
         assert!(!came.error.is_empty(), "{args:?}");
     }
+}
+
+#[test]
+fn the_version_and_the_families() {
+    let version = format!("hemdroas {}\n", env!("CARGO_PKG_VERSION"));
+    command(&["--version"]).printed(0, &version);
+    let overview = command(&["help"]).out;
+    for args in [["--help"], ["-h"]] {
+        command(&args).printed(0, &overview);
+    }
+    let family = command(&["policy"]);
+    assert_eq!(family.status, 0, "{}", family.error);
+    assert!(family.out.lines().count() >= 5, "{}", family.out);
+    assert!(
+        family.out.lines().all(|line| line.starts_with("  policy ")),
+        "{}",
+        family.out
+    );
+    for args in [["help", "policy"], ["policy", "--help"]] {
+        command(&args).printed(0, &family.out);
+    }
+    let page = command(&["help", "policy", "draw"]);
+    command(&["policy", "draw", "--help"]).printed(0, &page.out);
+    // Behind -- every word is a file.
+    command(&["list", "--", "--drum"]).ended(3, "--drum: No such file");
 }
 
 #[test]

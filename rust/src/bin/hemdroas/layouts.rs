@@ -36,32 +36,27 @@ fn shared(regions: &[Region]) -> Option<Wrong> {
     })
 }
 
-/// Why a layout is not right, condition by condition in the rules' order.
-pub fn wrong(layout: &Layout) -> Vec<Wrong> {
-    let [size, low, high, cell, table, states, landings] = [
-        layout.size,
-        layout.low,
-        layout.high,
-        layout.cell,
-        layout.table,
-        layout.states,
-        layout.landings,
-    ]
-    .map(u64::from);
+/// A condition: whether it holds, its letter, and what is wrong if it does not.
+type Condition = (bool, usize, String);
+
+/// The conditions on sizes and on the sandbox.
+fn sizes(layout: &Layout) -> Vec<Condition> {
+    let (size, states) = (layout.size, layout.states);
+    let (low, high) = (u64::from(layout.low), u64::from(layout.high));
     let room = (high + 1).saturating_sub(low);
-    let rows = u64::from(EVENTS) * states;
-    let bits = u64::from(LANDING_CELLS);
-    let most = [u64::from(MOST_CELLS), u64::from(MOST_STATES)];
-    let conditions = [
+    let between = |letter: &str, value: u32, most: u32| {
+        format!("{letter} is {value}, and not from 1 to {most}")
+    };
+    vec![
         (
-            (1..=most[0]).contains(&size),
+            (1..=MOST_CELLS).contains(&size),
             U,
-            format!("U is {size}, and not from 1 to {}", most[0]),
+            between("U", size, MOST_CELLS),
         ),
         (
-            (1..=most[1]).contains(&states),
+            (1..=MOST_STATES).contains(&states),
             S,
-            format!("S is {states}, and not from 1 to {}", most[1]),
+            between("S", states, MOST_STATES),
         ),
         (
             low <= high,
@@ -69,7 +64,7 @@ pub fn wrong(layout: &Layout) -> Vec<Wrong> {
             format!("SH is {high}, below SL, which is {low}"),
         ),
         (
-            high < size,
+            high < size.into(),
             SH,
             format!("SH is {high}, and not below U, which is {size}"),
         ),
@@ -83,35 +78,41 @@ pub fn wrong(layout: &Layout) -> Vec<Wrong> {
             SL,
             format!("SL is {low}, no multiple of the sandbox's {room} cells"),
         ),
+    ]
+}
+
+/// The regions of a layout.
+fn regions(layout: &Layout) -> [Region; 4] {
+    let at = |cell: u32| u64::from(cell);
+    let room = (at(layout.high) + 1).saturating_sub(at(layout.low));
+    let rows = at(EVENTS) * at(layout.states);
+    [
+        ("the sandbox", SL, at(layout.low), room),
+        ("the state cell", M, at(layout.cell), 1),
+        ("the table", P, at(layout.table), rows),
         (
-            cell < size,
-            M,
-            format!("M is {cell}, and not below U, which is {size}"),
-        ),
-        (
-            table + rows <= size,
-            P,
-            format!(
-                "the table of {states} states ends at {}, above U, which is {size}",
-                table + rows
-            ),
-        ),
-        (
-            landings + bits <= size,
+            "the landing cells",
             Q,
-            format!(
-                "the landing cells end at {}, above U, which is {size}",
-                landings + bits
-            ),
+            at(layout.landings),
+            at(LANDING_CELLS),
         ),
-    ];
-    let failed = conditions.into_iter().filter(|(holds, ..)| !holds);
+    ]
+}
+
+/// Why a layout is not right.
+pub fn wrong(layout: &Layout) -> Vec<Wrong> {
+    let regions = regions(layout);
+    let size = u64::from(layout.size);
+    // The sandbox has a condition of its own.
+    let ends = regions[1..].iter().map(|&(name, letter, first, length)| {
+        let last = (first + length).saturating_sub(1);
+        let message = format!("{name} would end at cell {last}, and U is {size}");
+        (first + length <= size, letter, message)
+    });
+    let failed = sizes(layout)
+        .into_iter()
+        .chain(ends)
+        .filter(|(holds, ..)| !holds);
     let failed = failed.map(|(_, letter, message)| Wrong { letter, message });
-    let regions = [
-        ("the sandbox", SL, low, room),
-        ("the state cell", M, cell, 1),
-        ("the table", P, table, rows),
-        ("the landing cells", Q, landings, bits),
-    ];
     failed.chain(shared(&regions)).collect()
 }

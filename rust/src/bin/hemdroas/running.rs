@@ -22,8 +22,15 @@ const USUAL_BUDGET: u32 = 1000;
 /// The cells of a log that is given no length.
 const USUAL_LOG: u32 = 64;
 
-/// What the arguments give a run.
+/// The scale with the most decimals, for a reading whose event is not known yet.
+const FINEST_SCALE: u32 = 1000;
+
+/// What the arguments give a run. Readings are numbers, used or not.
 pub fn given(args: &Args, unit: &'static str) -> Result<Given, Problem> {
+    for reading in readings(args) {
+        let said = scaled(&reading, FINEST_SCALE);
+        said.map_err(|said| Problem::Usage(format!("--readings: {said}")))?;
+    }
     Ok(Given {
         budget: args.number("--budget", USUAL_BUDGET, u32::MAX)?,
         unit,

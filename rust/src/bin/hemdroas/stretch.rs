@@ -67,7 +67,54 @@ impl Stretch {
     }
 }
 
-/// One run or preview of the library.
+/// One run of the library.
+fn run(
+    loaded: &Loaded,
+    stand: &mut Stand,
+    budget: u32,
+    readings: &[u32],
+    log: &mut [u32],
+) -> RunAnswer {
+    native::run(
+        loaded.layout(),
+        &loaded.checked.commands,
+        &mut stand.machine,
+        &mut stand.memory,
+        budget,
+        readings,
+        log,
+    )
+}
+
+/// One preview of the library; the stand becomes the one that a run would leave.
+fn preview(
+    loaded: &Loaded,
+    stand: &mut Stand,
+    budget: u32,
+    readings: &[u32],
+    log: &mut [u32],
+) -> RunAnswer {
+    let record = stand.machine.to_record();
+    let (mut after, mut work) = (record, vec![0; stand.memory.len()]);
+    let answer = native::preview_record(
+        loaded.layout(),
+        &loaded.checked.commands,
+        &record,
+        &stand.memory,
+        &mut work,
+        budget,
+        readings,
+        log,
+        &mut after,
+    );
+    *stand = Stand {
+        machine: after.to_machine(),
+        memory: work,
+    };
+    answer
+}
+
+/// One run or preview. No loaded routine's is refused.
 fn part(
     loaded: &Loaded,
     stand: &mut Stand,
@@ -76,47 +123,16 @@ fn part(
     readings: &[u32],
     log: &mut [u32],
 ) -> Result<RunAnswer, Problem> {
-    let (layout, commands) = (loaded.layout(), &loaded.checked.commands);
     let answer = match how {
-        How::Run => native::run(
-            layout,
-            commands,
-            &mut stand.machine,
-            &mut stand.memory,
-            budget,
-            readings,
-            log,
-        ),
-        How::Preview => {
-            let mut after = stand.machine.to_record();
-            let mut work = vec![0; stand.memory.len()];
-            let record = stand.machine.to_record();
-            let answer = native::preview_record(
-                layout,
-                commands,
-                &record,
-                &stand.memory,
-                &mut work,
-                budget,
-                readings,
-                log,
-                &mut after,
-            );
-            *stand = Stand {
-                machine: after.to_machine(),
-                memory: work,
-            };
-            answer
-        }
+        How::Run => run(loaded, stand, budget, readings, log),
+        How::Preview => preview(loaded, stand, budget, readings, log),
     };
     match answer.ending {
-        // No loaded routine's run is refused.
-        Ending::Refused => Err(Report::refusal(
-            &loaded.routine().path,
-            Refusal::BadLayout,
-            "the run was refused",
-        )
-        .into()),
+        Ending::Refused => {
+            let said = "the run was refused";
+            let path = &loaded.routine().path;
+            Err(Report::refusal(path, Refusal::BadLayout, said).into())
+        }
         _ => Ok(answer),
     }
 }
