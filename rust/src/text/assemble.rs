@@ -38,8 +38,11 @@ pub struct Source {
 
 impl Source {
     /// Where a field stands, or the whole instruction.
-    pub fn field(&self, field: Field) -> Place {
-        let found = self.operands.iter().find(|(known, _)| *known == field);
+    pub fn field(&self, field: Option<Field>) -> Place {
+        let found = self
+            .operands
+            .iter()
+            .find(|(known, _)| Some(*known) == field);
         found.map_or(self.place, |&(_, place)| place)
     }
 }

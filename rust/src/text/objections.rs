@@ -10,8 +10,8 @@ use crate::Refusal;
 /// What is wrong with one field of an instruction.
 #[derive(Clone, Debug, PartialEq, Eq)]
 pub struct Objection {
-    /// The field.
-    pub field: Field,
+    /// The field, or none for the whole instruction.
+    pub field: Option<Field>,
     /// The refusal that it brings.
     pub refusal: Refusal,
     /// What is wrong.
@@ -20,7 +20,7 @@ pub struct Objection {
 
 fn objection(field: Field, refusal: Refusal, message: String) -> Objection {
     Objection {
-        field,
+        field: Some(field),
         refusal,
         message,
     }

@@ -261,7 +261,7 @@ fn distance(one: &str, other: &str) -> usize {
 
 /// A hint at the known word that somebody may have meant: one letter in three
 /// may be wrong.
-pub(super) fn hint<'a>(word: &str, known: impl Iterator<Item = &'a str>) -> String {
+pub fn hint<'a>(word: &str, known: impl Iterator<Item = &'a str>) -> String {
     let near = known.map(|name| (distance(word, name), name));
     let near = near.filter(|&(away, name)| 3 * away <= name.len().min(word.len()));
     match near.min() {

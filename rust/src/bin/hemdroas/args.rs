@@ -2,7 +2,7 @@
 
 use super::commands::{Command, Opt};
 use super::problem::Problem;
-use hemdroas::text::number;
+use hemdroas::text::{hint, number};
 
 /// The arguments of a subcommand, of which it knows every one.
 pub struct Args {
@@ -64,7 +64,8 @@ impl Args {
             name, value: wants, ..
         }) = command.option(name)
         else {
-            return Err(format!("'{name}' is no option here"));
+            let near = hint(name, command.options().map(|option| option.name));
+            return Err(format!("'{name}' is no option here{near}"));
         };
         let value = match (wants, value) {
             ("", None) => String::new(),

@@ -27,10 +27,14 @@ pub struct Command {
 }
 
 impl Command {
+    /// All options.
+    pub fn options(&self) -> impl Iterator<Item = &'static Opt> {
+        self.needed.iter().chain(self.options).copied()
+    }
+
     /// An option by its name.
     pub fn option(&self, name: &str) -> Option<&'static Opt> {
-        let mut all = self.needed.iter().chain(self.options).copied();
-        all.find(|option| option.name == name)
+        self.options().find(|option| option.name == name)
     }
 }
 

@@ -40,6 +40,7 @@ mod what;
 
 use args::Args;
 use commands::{Command, COMMANDS};
+use hemdroas::text::hint;
 use problem::{Done, Problem, Status};
 use std::process::ExitCode;
 
@@ -84,8 +85,9 @@ fn other(words: &[String]) -> Done {
                 } else {
                     word.to_string()
                 };
+                let near = hint(&named, COMMANDS.iter().map(|command| command.name));
                 Err(Problem::Usage(format!(
-                    "'{named}' is no command: see hemdroas help"
+                    "'{named}' is no command, see hemdroas help{near}"
                 )))
             }
         },

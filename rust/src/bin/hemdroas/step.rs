@@ -23,10 +23,11 @@ struct Class<'a> {
     /// Readings that were typed and not yet asked for.
     typed: VecDeque<String>,
     breaks: Vec<Goal>,
+    /// How the routine came to where it stands, if it cannot go on from there.
+    over: Option<Ending>,
+    /// Whether the person has enough.
+    is_left: bool,
 }
-
-/// How a lesson is over: with an ending, or none where the person left.
-type Over = Option<Ending>;
 
 /// How far to go.
 struct Stretch {
@@ -103,23 +104,26 @@ impl Class<'_> {
         }
     }
 
-    /// Goes on; how it is over, if it is.
-    fn advance(&mut self, stretch: &Stretch) -> Result<Option<Over>, Problem> {
+    /// Goes on; the ending, if it comes to one.
+    fn advance(&mut self, stretch: &Stretch) -> Result<Option<Ending>, Problem> {
         let mut count = 0;
         while count < stretch.most {
             if self.lesson.done == self.given.budget {
-                return Ok(Some(Some(Ending::Spent)));
+                return Ok(Some(Ending::Spent));
             }
             let Some(taken) = self.lesson.step()? else {
                 match self.reading()? {
                     true => continue,
-                    false => return Ok(Some(Some(Ending::Silent))),
+                    false => {
+                        self.is_left = true;
+                        return Ok(Some(Ending::Silent));
+                    }
                 }
             };
             count += 1;
             self.show(&taken, stretch.is_brief)?;
             if !self.lesson.is_running() {
-                return Ok(Some(Some(taken.ending)));
+                return Ok(Some(taken.ending));
             }
             let stops = stretch.until.iter().chain(&self.breaks);
             let found = stops.into_iter().any(|goal| self.is_at(goal));
@@ -148,32 +152,57 @@ impl Class<'_> {
             Order::Breaks => {
                 let all = self.breaks.iter().map(|goal| goal.text(lesson.loaded));
                 let all: Vec<String> = all.collect();
-                format!(
-                    "breaks: {}\n",
-                    if all.is_empty() {
-                        "none".to_string()
-                    } else {
-                        all.join(", ")
-                    }
-                )
+                match all.is_empty() {
+                    true => "no breaks\n".to_string(),
+                    false => format!("breaks: {}\n", all.join(", ")),
+                }
             }
             _ => HELP.to_string(),
         }
     }
 
-    /// Does what is asked; how it is over, if it is.
-    fn obey(&mut self, asked: Order) -> Result<Option<Over>, Problem> {
-        let stretch = |most, until: Option<Goal>| Stretch {
+    /// Goes on, unless it is over, and shows how it ends if it does.
+    fn go_on(&mut self, most: u32, until: Option<Goal>) -> Result<(), Problem> {
+        if !self.lesson.is_running() {
+            return self.tell("it is over: 'back' goes back, 'stop' ends the lesson\n");
+        }
+        self.over = self.advance(&Stretch {
             most,
             is_brief: until.is_some(),
             until,
+        })?;
+        match self.over {
+            Some(_) => self.show_end(),
+            None => Ok(()),
+        }
+    }
+
+    /// Shows how and where it stands.
+    fn show_end(&self) -> Result<(), Problem> {
+        let lesson = &self.lesson;
+        let end = End {
+            loaded: lesson.loaded,
+            ending: self.over,
+            given: self.given,
+            count: lesson.done.into(),
+            pairs: lesson.pairs.len(),
+            readings: lesson.used as u64,
+            place: lesson.engine.at,
+            regs: lesson.engine.regs,
+            memory: &lesson.memory,
         };
+        end.show(self.args.is_json())
+    }
+
+    /// Does what is asked.
+    fn obey(&mut self, asked: Order) -> Result<(), Problem> {
         match asked {
-            Order::Stop => return Ok(Some(None)),
-            Order::Steps(most) => return self.advance(&stretch(most, None)),
-            Order::Until(goal) => return self.advance(&stretch(u32::MAX, Some(goal))),
+            Order::Stop => self.is_left = true,
+            Order::Steps(most) => self.go_on(most, None)?,
+            Order::Until(goal) => self.go_on(u32::MAX, Some(goal))?,
             Order::Back(count) => {
                 self.lesson.back(count)?;
+                self.over = None;
                 self.tell(&place_text(&self.lesson))?;
             }
             Order::Break(goal) => {
@@ -188,31 +217,26 @@ impl Class<'_> {
             }
             question => self.tell(&self.answer(&question))?,
         }
-        Ok(None)
+        Ok(())
     }
 
-    /// Goes through the routine until it is over.
-    fn teach(&mut self) -> Result<Over, Problem> {
+    /// Goes through the routine until the person has enough.
+    fn teach(&mut self) -> Result<(), Problem> {
         if self.args.has("--all") {
-            let all = Stretch {
-                most: u32::MAX,
-                until: None,
-                is_brief: false,
-            };
-            return Ok(self.advance(&all)?.unwrap_or(None));
+            return self.go_on(u32::MAX, None);
         }
-        loop {
+        while !self.is_left {
             let Some(line) = ask("step: ")? else {
-                return Ok(None);
+                break;
             };
             match order(self.lesson.loaded, &line) {
-                Ok(asked) => {
-                    if let Some(over) = self.obey(asked)? {
-                        return Ok(over);
-                    }
-                }
+                Ok(asked) => self.obey(asked)?,
                 Err(said) => files::complain(&format!("{said}; 'help' lists what is known\n")),
             }
+        }
+        match self.over {
+            Some(_) => Ok(()),
+            None => self.show_end(),
         }
     }
 }
@@ -226,23 +250,12 @@ pub fn step(args: &Args) -> Done {
         lesson: Lesson::new(&loaded),
         typed: readings(args),
         breaks: Vec::new(),
+        over: None,
+        is_left: false,
     };
     if !args.is_json() {
         files::print(&place_text(&class.lesson))?;
     }
-    let ending = class.teach()?;
-    let lesson = &class.lesson;
-    let end = End {
-        loaded: &loaded,
-        ending,
-        given: &given,
-        count: lesson.done.into(),
-        pairs: lesson.pairs.len(),
-        readings: lesson.used as u64,
-        place: lesson.engine.at,
-        regs: lesson.engine.regs,
-        memory: &lesson.memory,
-    };
-    end.show(args.is_json())?;
-    Ok(ending.map_or(Status::Paused, Status::of))
+    class.teach()?;
+    Ok(class.over.map_or(Status::Paused, Status::of))
 }

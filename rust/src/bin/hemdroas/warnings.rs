@@ -9,7 +9,7 @@ use hemdroas::text::{Field, Names, Objection, Table};
 use hemdroas::Refusal;
 
 /// A warning about an instruction, with the refusal that it is not.
-fn warning(checked: &Checked, place: usize, field: Field, message: String) -> Report {
+fn warning(checked: &Checked, place: usize, field: Option<Field>, message: String) -> Report {
     let found = Objection {
         field,
         refusal: Refusal::NotForward,
@@ -48,7 +48,7 @@ fn never_allowed(checked: &Checked, policy: &Table, names: &Names) -> Vec<Report
     let report = |(place, event): (usize, u32)| {
         let name = names.word(event);
         let message = format!("the policy never allows {name}: the routine stops here (21)");
-        warning(checked, place, Field::V, message)
+        warning(checked, place, Some(Field::V), message)
     };
     never.map(report).collect()
 }
@@ -62,7 +62,7 @@ fn lost_jumps(checked: &Checked) -> Vec<Report> {
     let jumps = words.filter(|(_, &word)| matches!(instruction_of(word), Some(Instr::GoX { .. })));
     let message = "there are no landings: a GOX that is taken stops the routine (26)";
     jumps
-        .map(|(place, _)| warning(checked, place, Field::D, message.to_string()))
+        .map(|(place, _)| warning(checked, place, Some(Field::D), message.to_string()))
         .collect()
 }
 
@@ -100,7 +100,7 @@ fn never_reached(checked: &Checked) -> Vec<Report> {
                 first + length - 1
             ),
         };
-        warning(checked, first, Field::C, message)
+        warning(checked, first, None, message)
     };
     (0..count).filter(begins).map(report).collect()
 }
