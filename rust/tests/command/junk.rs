@@ -7,113 +7,41 @@ use std::path::Path;
 use std::process::{Command, Stdio};
 
 /// The subcommands with files that they take, each with its status on them.
-const GOOD: [(&[&str], i32); 12] = [
+const GOOD: [(&str, i32); 12] = [
+    ("assemble sample.routine --drum=sample.drum -o -", 0),
+    ("list sample.routine --drum sample.drum --bundles", 0),
     (
-        &[
-            "assemble",
-            "sample.routine",
-            "--drum=sample.drum",
-            "-o",
-            "-",
-        ],
+        "check sample.routine --drum sample.drum --policy sample.policy",
         0,
     ),
+    ("forward sample.routine --drum sample.drum", 0),
     (
-        &[
-            "list",
-            "sample.routine",
-            "--drum",
-            "sample.drum",
-            "--bundles",
-        ],
-        0,
-    ),
-    (
-        &[
-            "check",
-            "sample.routine",
-            "--drum",
-            "sample.drum",
-            "--policy",
-            "sample.policy",
-        ],
-        0,
-    ),
-    (&["forward", "sample.routine", "--drum", "sample.drum"], 0),
-    (
-        &[
-            "run",
-            "sample.routine",
-            "--drum",
-            "sample.drum",
-            "--policy",
-            "sample.policy",
-        ],
+        "run sample.routine --drum sample.drum --policy sample.policy",
         4,
     ),
     (
-        &[
-            "preview",
-            "sample.routine",
-            "--drum",
-            "sample.drum",
-            "--policy",
-            "sample.policy",
-        ],
+        "preview sample.routine --drum sample.drum --policy sample.policy",
         4,
     ),
     (
-        &[
-            "step",
-            "sample.routine",
-            "--drum",
-            "sample.drum",
-            "--policy",
-            "sample.policy",
-            "--all",
-        ],
+        "step sample.routine --drum sample.drum --policy sample.policy --all",
         4,
     ),
+    ("policy precedence order.policy --drum roast.drum", 0),
     (
-        &[
-            "policy",
-            "precedence",
-            "order.policy",
-            "--drum",
-            "roast.drum",
-        ],
+        "policy merge roast.policy exporter.policy --drum roast.drum",
         0,
     ),
-    (
-        &[
-            "policy",
-            "merge",
-            "roast.policy",
-            "exporter.policy",
-            "--drum",
-            "roast.drum",
-        ],
-        0,
-    ),
-    (
-        &[
-            "policy",
-            "determinise",
-            "exporter.policy",
-            "--drum",
-            "roast.drum",
-        ],
-        0,
-    ),
-    (
-        &["policy", "show", "exporter.policy", "--drum", "roast.drum"],
-        0,
-    ),
-    (
-        &["policy", "draw", "exporter.policy", "--drum", "roast.drum"],
-        0,
-    ),
+    ("policy determinise exporter.policy --drum roast.drum", 0),
+    ("policy show exporter.policy --drum roast.drum", 0),
+    ("policy draw exporter.policy --drum roast.drum", 0),
 ];
+
+/// The arguments of each, and its status.
+fn good() -> Vec<(Vec<&'static str>, i32)> {
+    GOOD.map(|(line, status)| (line.split(' ').collect(), status))
+        .into()
+}
 
 /// Whether an argument names a file of the examples, behind an option too.
 fn named(word: &str) -> Option<&str> {
@@ -208,8 +136,8 @@ fn files_that_are_none() {
     let folder = folder("junk");
     let mut tried = 0;
     for (path, status, said) in junk(&folder) {
-        for (args, _) in GOOD {
-            for words in replaced(args, |_| path.clone()) {
+        for (args, _) in good() {
+            for words in replaced(&args, |_| path.clone()) {
                 let came = run(&words);
                 assert_eq!(came.status, status, "{words:?}: {}", came.error);
                 came.ended(status, said);
@@ -223,14 +151,14 @@ fn files_that_are_none() {
 #[test]
 fn lines_may_end_as_on_windows() {
     let folder = folder("crlf");
-    for (args, status) in GOOD {
-        let plain = command(args);
+    for (args, status) in good() {
+        let plain = command(&args);
         assert_eq!(plain.status, status, "{args:?}: {}", plain.error);
         let windows = |name: &str| {
             let text = fs::read_to_string(examples().join(name)).unwrap();
             file(&folder, name, text.replace('\n', "\r\n"))
         };
-        for words in replaced(args, windows) {
+        for words in replaced(&args, windows) {
             let came = run(&words);
             let same = came
                 .out
@@ -247,11 +175,11 @@ fn lines_may_end_as_on_windows() {
 
 #[test]
 fn an_output_that_nobody_reads_ends_quietly() {
-    for (args, _) in GOOD {
+    for (args, _) in good() {
         let (reader, writer) = pipe().expect("a pipe can be made");
         drop(reader);
         let output = Command::new(env!("CARGO_BIN_EXE_hemdroas"))
-            .args(args)
+            .args(&args)
             .current_dir(examples())
             .stdin(Stdio::null())
             .stdout(writer)
@@ -270,7 +198,7 @@ fn an_output_that_nobody_reads_ends_quietly() {
 
 #[test]
 fn an_output_that_is_closed_changes_nothing() {
-    for (args, status) in GOOD {
+    for (args, status) in good() {
         let line = format!(
             "exec '{}' {} >&-",
             env!("CARGO_BIN_EXE_hemdroas"),
@@ -294,7 +222,7 @@ fn an_output_that_is_closed_changes_nothing() {
 #[test]
 fn an_output_that_is_an_input_is_refused() {
     let folder = folder("same");
-    for (args, _) in GOOD {
+    for (args, _) in good() {
         let takes_output =
             !["check", "forward", "run", "preview", "step"].contains(&args[0]) && args[1] != "show";
         if !takes_output {
@@ -302,7 +230,7 @@ fn an_output_that_is_an_input_is_refused() {
         }
         let text = |name: &str| fs::read(examples().join(name)).unwrap();
         let copy = |name: &str| file(&folder, name, text(name));
-        for words in replaced(args, copy) {
+        for words in replaced(&args, copy) {
             let words: Vec<String> = words
                 .into_iter()
                 .filter(|word| word != "-o" && word != "-")

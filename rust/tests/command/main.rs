@@ -21,9 +21,31 @@ use std::io::Write;
 use std::path::{Path, PathBuf};
 use std::process::{Command, Output, Stdio};
 
+/// The routine, drum and policy of an example, as arguments.
+macro_rules! files {
+    ($name:literal) => {
+        [
+            concat!($name, ".routine"),
+            "--drum",
+            concat!($name, ".drum"),
+            "--policy",
+            concat!($name, ".policy"),
+        ]
+    };
+}
+
 /// The folder of the example files.
 fn examples() -> PathBuf {
     Path::new(env!("CARGO_MANIFEST_DIR")).join("../examples")
+}
+
+const SAMPLE: [&str; 5] = files!("sample");
+const ROAST: [&str; 5] = files!("roast");
+const PROFILE: [&str; 5] = files!("profile");
+
+/// The arguments of a subcommand that runs one of these.
+fn with<'a>(name: &'a str, files: [&'a str; 5], more: &[&'a str]) -> Vec<&'a str> {
+    [&[name], &files[..], more].concat()
 }
 
 /// A folder for the files of one test, empty at first.

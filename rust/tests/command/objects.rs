@@ -3,31 +3,16 @@
 use crate::common::inputs::{bytes_of, routine, trial_policy, TRIAL};
 use crate::common::{cases, seed, Rng};
 use crate::json::{objects, Value};
-use crate::{command, file, folder, typed};
+use crate::{command, file, folder, typed, with, PROFILE, SAMPLE};
 use hemdroas::model;
 use hemdroas::{Engine, Status};
 use std::collections::BTreeSet;
 
 const FILES: &str = include_str!("../../../docs/FILES.md");
 
-const SAMPLE: [&str; 5] = [
-    "sample.routine",
-    "--drum",
-    "sample.drum",
-    "--policy",
-    "sample.policy",
-];
-
-const PROFILE: [&str; 5] = [
-    "profile.routine",
-    "--drum",
-    "profile.drum",
-    "--policy",
-    "profile.policy",
-];
-
-fn with<'a>(name: &'a str, files: [&'a str; 5], more: &[&'a str]) -> Vec<&'a str> {
-    [&[name], &files[..], &["--json"], more].concat()
+/// The same with --json.
+fn json<'a>(name: &'a str, files: [&'a str; 5], more: &[&'a str]) -> Vec<&'a str> {
+    with(name, files, &[&["--json"], more].concat())
 }
 
 /// The words in backquotes of a cell.
@@ -80,97 +65,33 @@ fn every_documented_object_is_printed() {
     let beware = file(&folder, "beware", "HALT\nGOX r1, always\n");
     let readings = "150 175 185 190 195 150";
     let mut printed = BTreeSet::new();
-    let uses: Vec<(i32, Vec<&str>)> = vec![
-        (4, with("run", SAMPLE, &[])),
-        (5, with("run", PROFILE, &["--readings", readings])),
-        (5, with("preview", PROFILE, &["--readings", readings])),
-        (4, with("step", SAMPLE, &["--all"])),
-        (5, with("step", PROFILE, &["--all", "--readings", readings])),
-        (
-            1,
-            vec![
-                "check",
-                "sample.routine",
-                &wrong,
-                &beware,
-                "--drum",
-                "roast.drum",
-                "--json",
-            ],
-        ),
-        (
-            0,
-            vec![
-                "forward",
-                "sample.routine",
-                "--drum",
-                "sample.drum",
-                "--json",
-            ],
-        ),
-        (
-            1,
-            vec!["forward", "roast.routine", "--drum", "roast.drum", "--json"],
-        ),
-        (
-            0,
-            vec![
-                "policy",
-                "show",
-                "order.policy",
-                "--drum",
-                "roast.drum",
-                "--json",
-            ],
-        ),
-        (
-            0,
-            vec![
-                "policy",
-                "precedence",
-                "order.policy",
-                "--drum",
-                "roast.drum",
-                "--json",
-            ],
-        ),
-        (
-            0,
-            vec![
-                "policy",
-                "determinise",
-                "exporter.policy",
-                "--drum",
-                "roast.drum",
-                "--json",
-            ],
-        ),
-        (
-            0,
-            vec![
-                "policy",
-                "merge",
-                "roast.policy",
-                "exporter.policy",
-                "--drum",
-                "roast.drum",
-                "--json",
-            ],
-        ),
-        (
-            0,
-            vec![
-                "policy",
-                "draw",
-                "exporter.policy",
-                "--drum",
-                "roast.drum",
-                "--json",
-            ],
-        ),
-        (3, vec!["forward", "no-such-file", "--json"]),
-        (2, vec!["forward", "--json"]),
+    let mut uses: Vec<(i32, Vec<&str>)> = vec![
+        (4, json("run", SAMPLE, &[])),
+        (5, json("run", PROFILE, &["--readings", readings])),
+        (5, json("preview", PROFILE, &["--readings", readings])),
+        (4, json("step", SAMPLE, &["--all"])),
+        (5, json("step", PROFILE, &["--all", "--readings", readings])),
     ];
+    let many = format!("check sample.routine {wrong} {beware} --drum roast.drum --json");
+    let lines = [
+        (1, many.as_str()),
+        (0, "forward sample.routine --drum sample.drum --json"),
+        (1, "forward roast.routine --drum roast.drum --json"),
+        (0, "policy show order.policy --drum roast.drum --json"),
+        (0, "policy precedence order.policy --drum roast.drum --json"),
+        (
+            0,
+            "policy determinise exporter.policy --drum roast.drum --json",
+        ),
+        (
+            0,
+            "policy merge roast.policy exporter.policy --drum roast.drum --json",
+        ),
+        (0, "policy draw exporter.policy --drum roast.drum --json"),
+        (3, "forward no-such-file --json"),
+        (2, "forward --json"),
+    ];
+    uses.extend(lines.map(|(status, line)| (status, line.split(' ').collect())));
     for (status, args) in uses {
         let came = command(&args);
         assert_eq!(came.status, status, "{args:?}: {}{}", came.out, came.error);
@@ -192,7 +113,7 @@ fn questions_go_to_standard_error() {
         ("preview", "--log=64"),
         ("step", "--budget=9"),
     ] {
-        let mut args = with(name, PROFILE, &[more]);
+        let mut args = json(name, PROFILE, &[more]);
         if name == "step" {
             args.push("--readings=1");
         }
@@ -209,7 +130,7 @@ fn questions_go_to_standard_error() {
 
 #[test]
 fn a_limited_order_says_so() {
-    let came = command(&with(
+    let came = command(&json(
         "run",
         PROFILE,
         &["--readings", "200 200 200 200 90 90 90 90"],
@@ -240,7 +161,7 @@ fn steps_are_the_models() {
         let files = [path.as_str(), SAMPLE[1], SAMPLE[2], SAMPLE[3], SAMPLE[4]];
         let readings = [1800, 1950, 2100];
         let more = ["--all", "--budget", "100", "--readings", "1800,1950,2100"];
-        let came = command(&with("step", files, &more));
+        let came = command(&json("step", files, &more));
         let policy = trial_policy();
         let mut memory = vec![0; 1024];
         let landings = crate::common::inputs::all_landings();

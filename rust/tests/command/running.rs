@@ -4,32 +4,10 @@ use crate::common::inputs::{
     all_landings, bytes_of, rewritten, routine, trial_policy, TRIAL, TRIAL_READINGS,
 };
 use crate::common::{cases, seed, Rng};
-use crate::{command, file, folder, transcript, typed};
+use crate::{command, file, folder, transcript, typed, with, ROAST, SAMPLE};
 use hemdroas::model::{self, bundles};
 use hemdroas::Ending;
 use std::collections::BTreeMap;
-
-const SAMPLE: [&str; 5] = [
-    "sample.routine",
-    "--drum",
-    "sample.drum",
-    "--policy",
-    "sample.policy",
-];
-const ROAST: [&str; 5] = [
-    "roast.routine",
-    "--drum",
-    "roast.drum",
-    "--policy",
-    "roast.policy",
-];
-
-fn with<'a>(name: &'a str, files: [&'a str; 5], more: &[&'a str]) -> Vec<&'a str> {
-    let mut args = vec![name];
-    args.extend(files);
-    args.extend(more);
-    args
-}
 
 #[test]
 fn the_sample() {

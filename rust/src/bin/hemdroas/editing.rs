@@ -24,11 +24,6 @@ pub enum Key {
     Unknown,
 }
 
-/// The letter whose key sends this byte with Control.
-const fn control(letter: u8) -> u8 {
-    letter & 0x1f
-}
-
 /// The key of a sequence behind the escape key.
 fn escaped(bytes: &mut impl Iterator<Item = u8>) -> Option<Key> {
     if !matches!(bytes.next()?, b'[' | b'O') {
@@ -68,40 +63,41 @@ fn letter(first: u8, bytes: &mut impl Iterator<Item = u8>) -> Option<Key> {
     Some(letter.map_or(Key::Unknown, Key::Letter))
 }
 
+/// What a letter asks for with Control.
+fn control(letter: u8) -> Key {
+    match letter {
+        b'A' => Key::First,
+        b'B' => Key::Left,
+        b'C' => Key::Leave,
+        b'D' => Key::End,
+        b'E' => Key::Last,
+        b'F' => Key::Right,
+        b'H' => Key::Backspace,
+        b'J' | b'M' => Key::Enter,
+        b'K' => Key::CutBehind,
+        b'N' => Key::Later,
+        b'P' => Key::Earlier,
+        b'U' => Key::CutBefore,
+        b'W' => Key::CutWord,
+        _ => Key::Unknown,
+    }
+}
+
+/// The byte of the escape key, and that of the key that erases.
+const ESCAPE: u8 = 0x1b;
+const ERASE: u8 = 0x7f;
+
+/// The bit that Control takes from a letter.
+const TAKEN: u8 = 0x40;
+
 /// The next key of a terminal's bytes; none at their end.
 pub fn key(bytes: &mut impl Iterator<Item = u8>) -> Option<Key> {
-    const A: u8 = control(b'A');
-    const B: u8 = control(b'B');
-    const C: u8 = control(b'C');
-    const D: u8 = control(b'D');
-    const E: u8 = control(b'E');
-    const F: u8 = control(b'F');
-    const H: u8 = control(b'H');
-    const K: u8 = control(b'K');
-    const N: u8 = control(b'N');
-    const P: u8 = control(b'P');
-    const U: u8 = control(b'U');
-    const W: u8 = control(b'W');
-    const ESCAPE: u8 = control(b'[');
-    const ERASE: u8 = 0x7f;
-    Some(match bytes.next()? {
-        b'\n' | b'\r' => Key::Enter,
-        A => Key::First,
-        B => Key::Left,
-        C => Key::Leave,
-        D => Key::End,
-        E => Key::Last,
-        F => Key::Right,
-        H | ERASE => Key::Backspace,
-        K => Key::CutBehind,
-        N => Key::Later,
-        P => Key::Earlier,
-        U => Key::CutBefore,
-        W => Key::CutWord,
-        ESCAPE => return escaped(bytes),
-        byte if byte < b' ' => Key::Unknown,
-        byte => return letter(byte, bytes),
-    })
+    match bytes.next()? {
+        ESCAPE => escaped(bytes),
+        ERASE => Some(Key::Backspace),
+        byte if byte < b' ' => Some(control(byte | TAKEN)),
+        byte => letter(byte, bytes),
+    }
 }
 
 /// How a line came to its end.

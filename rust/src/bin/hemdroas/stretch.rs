@@ -67,33 +67,30 @@ impl Stretch {
     }
 }
 
-/// One run of the library.
-fn run(
-    loaded: &Loaded,
-    stand: &mut Stand,
+/// What one run is lent.
+struct Lent<'a> {
     budget: u32,
-    readings: &[u32],
-    log: &mut [u32],
-) -> RunAnswer {
+    readings: &'a [u32],
+    log: &'a mut [u32],
+}
+
+/// One run of the library.
+fn run(loaded: &Loaded, stand: &mut Stand, lent: Lent) -> RunAnswer {
+    let Stand { machine, memory } = stand;
+    let (layout, commands) = (loaded.layout(), &loaded.checked.commands);
     native::run(
-        loaded.layout(),
-        &loaded.checked.commands,
-        &mut stand.machine,
-        &mut stand.memory,
-        budget,
-        readings,
-        log,
+        layout,
+        commands,
+        machine,
+        memory,
+        lent.budget,
+        lent.readings,
+        lent.log,
     )
 }
 
 /// One preview of the library; the stand becomes the one that a run would leave.
-fn preview(
-    loaded: &Loaded,
-    stand: &mut Stand,
-    budget: u32,
-    readings: &[u32],
-    log: &mut [u32],
-) -> RunAnswer {
+fn preview(loaded: &Loaded, stand: &mut Stand, lent: Lent) -> RunAnswer {
     let record = stand.machine.to_record();
     let (mut after, mut work) = (record, vec![0; stand.memory.len()]);
     let answer = native::preview_record(
@@ -102,9 +99,9 @@ fn preview(
         &record,
         &stand.memory,
         &mut work,
-        budget,
-        readings,
-        log,
+        lent.budget,
+        lent.readings,
+        lent.log,
         &mut after,
     );
     *stand = Stand {
@@ -115,17 +112,10 @@ fn preview(
 }
 
 /// One run or preview. No loaded routine's is refused.
-fn part(
-    loaded: &Loaded,
-    stand: &mut Stand,
-    how: How,
-    budget: u32,
-    readings: &[u32],
-    log: &mut [u32],
-) -> Result<RunAnswer, Problem> {
+fn part(loaded: &Loaded, stand: &mut Stand, how: How, lent: Lent) -> Result<RunAnswer, Problem> {
     let answer = match how {
-        How::Run => run(loaded, stand, budget, readings, log),
-        How::Preview => preview(loaded, stand, budget, readings, log),
+        How::Run => run(loaded, stand, lent),
+        How::Preview => preview(loaded, stand, lent),
     };
     match answer.ending {
         Ending::Refused => {
@@ -174,7 +164,12 @@ pub fn stretch(
 ) -> Result<Stretch, Problem> {
     let mut all = Stretch::new();
     loop {
-        let to_event = part(loaded, stand, how, supply.steps, &[], &mut [])?;
+        let nothing = Lent {
+            budget: supply.steps,
+            readings: &[],
+            log: &mut [],
+        };
+        let to_event = part(loaded, stand, how, nothing)?;
         supply.steps -= to_event.steps;
         all.steps += u64::from(to_event.steps);
         all.ending = to_event.ending;
@@ -186,7 +181,12 @@ pub fn stretch(
         let mut log = [0; PAIR];
         let room = if supply.log as usize >= PAIR { PAIR } else { 0 };
         let r0 = stand.machine.regs[0];
-        let event = part(loaded, stand, how, 1, &readings, &mut log[..room])?;
+        let one_step = Lent {
+            budget: 1,
+            readings: &readings,
+            log: &mut log[..room],
+        };
+        let event = part(loaded, stand, how, one_step)?;
         if event.pairs == 0 {
             all.ending = event.ending;
             return Ok(all);
