@@ -246,6 +246,12 @@ fn form_of(kind: &Kind, name: Said, operands: &[Said]) -> Result<&'static [Field
     if let Some(form) = found {
         return Ok(form);
     }
+    if let Some(empty) = operands.iter().find(|operand| operand.text.is_empty()) {
+        return Err(empty.fault(format!(
+            "a comma is too many: it goes as in '{}'",
+            kind.example
+        )));
+    }
     let most = kind.forms[kind.forms.len() - 1].len();
     let message = match operands.get(most) {
         Some(_) => format!("{} takes no more than '{}'", kind.name, kind.example),

@@ -206,6 +206,12 @@ fn refusals_of_texts_name_their_line() {
             "SET r1 200\n",
             ":1:8: error: a comma is missing before '200', as in 'SET r1, 200'",
         ),
+        (
+            "SET r1,, 5\n",
+            ":1:8: error: a comma is too many: it goes as in 'SET r1, 200'",
+        ),
+        ("SET r1,\n", ":1:8: error: a number is missing"),
+        ("SET , 5\n", ":1:5: error: a register is missing"),
         ("SET r1, +5\n", ":1:*: error: '+5' is no number"),
         ("JUMP loop\n", ":1:*: error: 'JUMP' is no instruction"),
         (

@@ -6,8 +6,8 @@ use super::files;
 use super::load::{load, Loaded, Stand};
 use super::problem::{Done, Problem, Status};
 use super::prompt::{ask, words};
-use super::records::{head, pair_objects, rows};
-use super::running::{all_used, given, supply};
+use super::records::head;
+use super::running::{all_used, given, show_pairs, supply};
 use super::stretch::{event_at, stretch, How, Stretch, Supply};
 use hemdroas::Ending;
 
@@ -20,8 +20,16 @@ pub fn look_ahead(
     stretch(loaded, stand, How::Preview, supply)
 }
 
-/// Shows what a run would do between two stands.
-pub fn show_preview(
+/// Shows that a preview begins.
+fn show_begin(args: &Args, loaded: &Loaded) -> Result<(), Problem> {
+    match args.is_json() {
+        true => Ok(()),
+        false => files::print(&format!("preview: nothing is touched\n{}", head(loaded))),
+    }
+}
+
+/// Shows how a run would come back between two stands.
+fn show_end(
     args: &Args,
     loaded: &Loaded,
     (before, after): (&Stand, &Stand),
@@ -29,17 +37,24 @@ pub fn show_preview(
     given: &Given,
 ) -> Result<(), Problem> {
     let end = End::of(loaded, after, all, given);
-    if args.is_json() {
-        let objects = pair_objects(loaded, 0, &all.pairs);
-        objects.iter().try_for_each(files::print_json)?;
-        return files::print_json(&end.json());
+    end.show(args.is_json())?;
+    match args.is_json() {
+        true => Ok(()),
+        false => files::print(&end.contents(&before.memory)),
     }
-    let mut text = "preview: nothing is touched\n".to_string();
-    text += &head(loaded);
-    text += &rows(loaded, 0, &all.pairs);
-    text += &end.text();
-    text += &end.contents(&before.memory);
-    files::print(&text)
+}
+
+/// Shows what a run would do between two stands.
+pub fn show_preview(
+    args: &Args,
+    loaded: &Loaded,
+    stands: (&Stand, &Stand),
+    all: &Stretch,
+    given: &Given,
+) -> Result<(), Problem> {
+    show_begin(args, loaded)?;
+    show_pairs(args, loaded, 0, all)?;
+    show_end(args, loaded, stands, all, given)
 }
 
 /// Asks for readings that a silent probe waits for; false if there are no more.
@@ -60,13 +75,15 @@ pub fn preview(args: &Args) -> Done {
     let loaded = load(args)?;
     let mut stand = loaded.first.clone();
     let mut all = look_ahead(&loaded, &mut stand, &mut supply)?;
-    if args.has("--readings") {
-        all_used(&mut supply)?;
-    } else {
-        while all.ending == Ending::Silent && more_readings(&loaded, &stand, &mut supply)? {
-            all.add(look_ahead(&loaded, &mut stand, &mut supply)?);
-        }
+    all_used(&mut supply)?;
+    show_begin(args, &loaded)?;
+    show_pairs(args, &loaded, 0, &all)?;
+    let asks = !args.has("--readings");
+    while asks && all.ending == Ending::Silent && more_readings(&loaded, &stand, &mut supply)? {
+        let next = look_ahead(&loaded, &mut stand, &mut supply)?;
+        show_pairs(args, &loaded, all.pairs.len(), &next)?;
+        all.add(next);
     }
-    show_preview(args, &loaded, (&loaded.first, &stand), &all, &given)?;
+    show_end(args, &loaded, (&loaded.first, &stand), &all, &given)?;
     Ok(Status::of(all.ending))
 }

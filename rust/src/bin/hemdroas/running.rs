@@ -140,7 +140,12 @@ fn resume(
 }
 
 /// Shows the pairs of a stretch.
-fn show_pairs(args: &Args, loaded: &Loaded, before: usize, part: &Stretch) -> Result<(), Problem> {
+pub fn show_pairs(
+    args: &Args,
+    loaded: &Loaded,
+    before: usize,
+    part: &Stretch,
+) -> Result<(), Problem> {
     if !args.is_json() {
         return files::print(&rows(loaded, before, &part.pairs));
     }

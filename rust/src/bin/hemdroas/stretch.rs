@@ -155,6 +155,35 @@ fn reading(loaded: &Loaded, stand: &Stand, supply: &mut Supply) -> Vec<u32> {
     }
 }
 
+/// Takes the event at which a stand waits, with a reading if it is one's turn;
+/// the pair, or the pause that keeps it from being recorded.
+fn event(
+    loaded: &Loaded,
+    stand: &mut Stand,
+    how: How,
+    readings: &[u32],
+    room: usize,
+) -> Result<Result<Recorded, Ending>, Problem> {
+    let mut log = [0; PAIR];
+    let r0 = stand.machine.regs[0];
+    let one_step = Lent {
+        budget: 1,
+        readings,
+        log: &mut log[..room],
+    };
+    let answer = part(loaded, stand, how, one_step)?;
+    let [event, value] = log;
+    let wanted = (readings.is_empty() && value != r0).then_some(r0);
+    Ok(match answer.pairs {
+        0 => Err(answer.ending),
+        _ => Ok(Recorded {
+            event,
+            value,
+            wanted,
+        }),
+    })
+}
+
 /// Runs on from a stand with what there is.
 pub fn stretch(
     loaded: &Loaded,
@@ -164,43 +193,31 @@ pub fn stretch(
 ) -> Result<Stretch, Problem> {
     let mut all = Stretch::new();
     loop {
-        let nothing = Lent {
+        let to_event = Lent {
             budget: supply.steps,
             readings: &[],
             log: &mut [],
         };
-        let to_event = part(loaded, stand, how, nothing)?;
-        supply.steps -= to_event.steps;
-        all.steps += u64::from(to_event.steps);
-        all.ending = to_event.ending;
-        let readings = match to_event.ending {
+        let answer = part(loaded, stand, how, to_event)?;
+        supply.steps -= answer.steps;
+        all.steps += u64::from(answer.steps);
+        all.ending = answer.ending;
+        let readings = match answer.ending {
             Ending::Silent => reading(loaded, stand, supply),
             Ending::LogFull => Vec::new(),
             _ => return Ok(all),
         };
-        let mut log = [0; PAIR];
-        let room = if supply.log as usize >= PAIR { PAIR } else { 0 };
-        let r0 = stand.machine.regs[0];
-        let one_step = Lent {
-            budget: 1,
-            readings: &readings,
-            log: &mut log[..room],
-        };
-        let event = part(loaded, stand, how, one_step)?;
-        if event.pairs == 0 {
-            all.ending = event.ending;
-            return Ok(all);
+        let room = PAIR * usize::from(supply.log as usize >= PAIR);
+        match event(loaded, stand, how, &readings, room)? {
+            Ok(pair) => all.pairs.push(pair),
+            Err(ending) => {
+                all.ending = ending;
+                return Ok(all);
+            }
         }
-        supply.steps -= event.steps;
+        supply.steps -= 1;
         supply.log -= PAIR as u32;
-        all.steps += u64::from(event.steps);
-        all.readings += u64::from(event.readings);
-        let [event, value] = log;
-        let wanted = (readings.is_empty() && value != r0).then_some(r0);
-        all.pairs.push(Recorded {
-            event,
-            value,
-            wanted,
-        });
+        all.steps += 1;
+        all.readings += readings.len() as u64;
     }
 }
