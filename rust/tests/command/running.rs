@@ -93,6 +93,22 @@ fn pauses_are_resumed_on_request() {
 }
 
 #[test]
+fn a_full_log_keeps_the_readings() {
+    let readings = ["--readings", "1500 1960 2000 2200"];
+    let whole = command(&with("run", ROAST, &readings));
+    let pairs = |text: &str| -> Vec<String> {
+        let rows = text.lines().filter(|line| line.starts_with("    "));
+        rows.map(str::to_string).collect()
+    };
+    for log in ["2", "3", "4", "6"] {
+        let more = [&readings[..], &["--resume", "--log", log]].concat();
+        let came = typed(&with("run", ROAST, &more), &"\n".repeat(20));
+        assert_eq!(came.status, 0, "{}{}", came.out, came.error);
+        assert_eq!(pairs(&came.out), pairs(&whole.out));
+    }
+}
+
+#[test]
 fn a_preview_asks_for_readings() {
     let came = typed(&with("preview", ROAST, &[]), "1990 2100\n");
     assert_eq!(came.status, 0, "{}", came.error);

@@ -140,11 +140,11 @@ pub fn event_at(loaded: &Loaded, stand: &Stand) -> Option<u32> {
 
 /// The next reading as a number, scaled for the event that waits for it.
 fn reading(loaded: &Loaded, stand: &Stand, supply: &mut Supply) -> Vec<u32> {
-    let Some(typed) = supply.readings.pop_front() else {
+    let Some(typed) = supply.readings.front() else {
         return Vec::new();
     };
     let event = event_at(loaded, stand).unwrap_or(0);
-    match scaled(&typed, loaded.scale(event)) {
+    match scaled(typed, loaded.scale(event)) {
         Ok(number) => vec![number],
         Err(said) => {
             let name = loaded.names.word(event);
@@ -219,5 +219,6 @@ pub fn stretch(
         supply.log -= PAIR as u32;
         all.steps += 1;
         all.readings += readings.len() as u64;
+        supply.readings.drain(..readings.len());
     }
 }
