@@ -1,0 +1,63 @@
+// The two comparisons. Engine and machine, at each bundle's beginning and at every end or pause; and the same commands on another
+// memory, after every command. A row says what was compared, what stands on each side and whether they are equal.
+import { offsetOf } from "../library/header.mjs";
+
+const GUEST_REGISTERS = offsetOf("engine", "index");
+const ALL_REGISTERS = offsetOf("machine", "pc");
+const PC = offsetOf("machine", "pc");
+const STATUS = offsetOf("machine", "status");
+const ENGINE_INDEX = offsetOf("engine", "index");
+const ENGINE_STATUS = offsetOf("engine", "status");
+
+export function same(one, other) {
+  if (one.length !== other.length) return false;
+  for (let i = 0; i < one.length; i++) if (one[i] !== other[i]) return false;
+  return true;
+}
+
+const sandbox = (facts, memory) => memory.subarray(facts.shape.low, facts.shape.high + 1);
+const pairsOf = (side) => side.record.length / 2;
+
+/** The instruction of a machine's pc. */
+export const instructionOf = (facts, machine) => Math.floor((machine[PC] - facts.shape.base) / facts.bundle);
+
+const row = (what, here, there, ok = here === there) => ({ what, here, there, ok });
+
+/** A side: { machine or engine, memory, record, used, ending }. */
+export function agreement(facts, machine, engine) {
+  const cell = facts.shape.state_cell;
+  const registers = (record) => record.subarray(0, GUEST_REGISTERS);
+  const boxes = [machine, engine].map((side) => sandbox(facts, side.memory));
+  const size = `${boxes[0].length} cells`;
+  const rows = [
+    row("record", `${pairsOf(machine)} pairs`, `${pairsOf(engine)} pairs`, same(machine.record, engine.record)),
+    row("readings used", machine.used, engine.used),
+    row("r0 to r14", "15 numbers", "15 numbers", same(registers(machine.machine), registers(engine.engine))),
+    row("sandbox", size, size, same(...boxes)),
+    row("state cell", machine.memory[cell], engine.memory[cell]),
+    row("instruction", instructionOf(facts, machine.machine), engine.engine[ENGINE_INDEX]),
+    row("status", machine.machine[STATUS], engine.engine[ENGINE_STATUS]),
+  ];
+  if (machine.ending) rows.push(row("answer", machine.ending, engine.ending));
+  return rows;
+}
+
+/** The same commands on two memories. */
+export function twinRows(facts, one, other) {
+  const cell = facts.shape.state_cell;
+  const registers = (side) => side.machine.subarray(0, ALL_REGISTERS);
+  const rows = [
+    ["all 16 registers", same(registers(one), registers(other))],
+    ["next command", one.machine[PC] === other.machine[PC]],
+    ["running or not", one.machine[STATUS] === other.machine[STATUS]],
+    ["sandbox", same(sandbox(facts, one.memory), sandbox(facts, other.memory))],
+    ["state cell", one.memory[cell] === other.memory[cell]],
+    ["record", same(one.record, other.record)],
+  ];
+  return rows.map(([what, ok]) => ({ what, ok }));
+}
+
+/** The free cells that are not as their owner wrote them. */
+export const movedCells = (facts, side) => facts.freeCells.filter((cell) => side.memory[cell] !== side.host[cell]);
+
+export const allOk = (rows) => rows.every((r) => r.ok);
