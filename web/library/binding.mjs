@@ -92,6 +92,6 @@ export class Library {
 
   engineRun(layout, routine, engine, memory, { budget, readings, log }) {
     const lent = [place(layout), ...words(routine), place(engine), ...many(memory)];
-    return this.#call("engine", "engine_answer", ...lent, budget, ...many(readings), ...many(log));
+    return this.#call("engine_run", "engine_answer", ...lent, budget, ...many(readings), ...many(log));
   }
 }

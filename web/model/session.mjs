@@ -1,13 +1,14 @@
 // A session: what the viewer has given, the trace of it, and where he stands. Nothing here knows of the page's elements.
-import { offsetOf } from "../library/header.mjs";
-import { isAccess, isJump, kindName, wordAt } from "../library/words.mjs";
+import { ENDING, offsetOf } from "../library/header.mjs";
+import { commandName, isAccess, isJump, kindName, wordAt } from "../library/words.mjs";
 import { askFacts, conditionHolds } from "./facts.mjs";
 import { allOk } from "./compare.mjs";
 import { inSlices } from "./slices.mjs";
 import { lendBench, Trace } from "./trace.mjs";
 
 export const MOST_BUDGET = 10000;
-const HIDDEN = offsetOf("machine", "pc") - 1; // the last register
+const PC = offsetOf("machine", "pc");
+const HIDDEN = PC - 1; // the last register
 
 export class Session {
   constructor(lib, page) {
@@ -196,7 +197,23 @@ export class Session {
     return found;
   }
 
-  isEvent(instruction) {
-    return kindName(this.wordOrHalt(instruction)) === "EVENT";
+  /** The policy's arrow that the last step went along: from one state to another. */
+  get taken() {
+    const { before, facts } = this;
+    const word = before && this.wordOrHalt(before.index);
+    if (!before || kindName(word) !== "EVENT" || !this.frame.isRunning) return null;
+    const isSent = this.byCommand ? ["EVENT", "KEEP"].includes(commandName(wordAt(facts.commands, this.lastCommand))) : true;
+    return isSent ? { from: before.state, to: facts.arrows[before.state][word.v] } : null;
+  }
+
+  /** The place of the command that the last step did. */
+  get lastCommand() {
+    return this.before.machine[PC] - this.facts.shape.base;
+  }
+
+  /** The event that the policy stopped, if one stands there. */
+  get stopped() {
+    const isStopped = !this.frame.isRunning && this.trace.ending === ENDING.NO_ARROW;
+    return isStopped ? this.wordOrHalt(this.frame.index).v : null;
   }
 }

@@ -126,11 +126,8 @@ const COMMAND_TALES = {
 /** One command of a bundle. */
 export function tellCommand(session, format) {
   const { before, now, facts } = session;
-  const command = wordAt(facts.commands, before.machine[PC] - facts.shape.base);
+  const command = wordAt(facts.commands, session.lastCommand);
   const s = { ...scene(session, format, before, now), format };
   const tale = COMMAND_TALES[commandName(command)] ?? ((_, { d }) => `${becomes(s, d)}.`);
   return tale(s, command);
 }
-
-/** The place of the command that the last step did. */
-export const lastCommand = ({ before, facts }) => before.machine[PC] - facts.shape.base;

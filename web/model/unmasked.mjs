@@ -54,7 +54,8 @@ export function differences(trace) {
     registers: differing.map((r) => ({ what: `r${r}`, here: here.machine[r], there: there.machine[r] })),
     cells: sandboxDifferences(trace).map((cell) => ({ cell, here: here.memory[cell], there: there.memory[cell] })),
     moved: movedIn(trace, here).map((cell) => ({ cell, wrote: here.host[cell], now: here.memory[cell] })),
-    sameRecord: here.record.join() === there.record.join(),
+    pairs: pairDifferences(here.record, there.record),
+    isSeen: trace.frames.some((frame) => frame.twins),
     endings: [here.ending, there.ending],
   };
 }
@@ -62,6 +63,13 @@ export function differences(trace) {
 function sandboxDifferences({ facts, sides: { here, there } }) {
   const isShared = (cell) => facts.region[cell] !== "free";
   return Array.from(here.memory.keys()).filter((cell) => isShared(cell) && here.memory[cell] !== there.memory[cell]);
+}
+
+/** The pairs of two records whose events or values differ. */
+function pairDifferences(here, there) {
+  const count = Math.min(here.length, there.length) / 2;
+  const pairs = Array.from({ length: count }, (_, i) => ({ number: i + 1, here: here[2 * i + 1], there: there[2 * i + 1] }));
+  return pairs.filter((pair) => pair.here !== pair.there);
 }
 
 const movedIn = ({ facts }, side) => facts.freeCells.filter((cell) => side.memory[cell] !== side.host[cell]);

@@ -1,0 +1,150 @@
+// The page: opens the library, runs the session and keeps the panels at what it shows.
+import { openLibrary } from "./library/binding.mjs";
+import { countOf } from "./library/words.mjs";
+import { Session } from "./model/session.mjs";
+import { lineOf } from "./model/names.mjs";
+import { fromBase64, readPage } from "./model/page.mjs";
+import { plural } from "./model/numbers.mjs";
+import { byId, h } from "./panels/dom.mjs";
+import { updateChecks } from "./panels/checks.mjs";
+import { buildControls, updateControls } from "./panels/controls.mjs";
+import { buildMemory, updateMemory } from "./panels/memory.mjs";
+import { updateNow } from "./panels/now.mjs";
+import { buildPolicy, updatePolicy } from "./panels/policy.mjs";
+import { buildPreview, updatePreview } from "./panels/preview.mjs";
+import { buildRecord, updateRecord } from "./panels/record.mjs";
+import { buildRegisters, updateRegisters } from "./panels/registers.mjs";
+import { buildRoutine, updateRoutine } from "./panels/routine.mjs";
+import { buildSetup, updateSetup } from "./panels/setup.mjs";
+import { buildUnmasked, chooseAddress, runUnmasked } from "./panels/unmasked.mjs";
+
+const COMMAND_PACE = 140; // milliseconds a command, when it runs by itself
+const INSTRUCTION_PACE = 320;
+
+const BUILDS = [buildControls, buildRoutine, buildRegisters, buildMemory, buildPolicy, buildRecord, buildPreview, buildUnmasked, buildSetup];
+const UPDATES = [updateNow, updateControls, updateRoutine, updateRegisters, updateMemory, updatePolicy, updateRecord, updatePreview, updateChecks, updateSetup];
+
+async function unpack(text) {
+  const packed = new Blob([fromBase64(text)]).stream().pipeThrough(new DecompressionStream("gzip"));
+  return new Response(packed).arrayBuffer();
+}
+
+class App {
+  constructor(session) {
+    this.session = session;
+    this.page = session.page;
+    this.format = "unsigned";
+    this.timer = null;
+    const go = (move) => () => this.move(move);
+    this.acts = {
+      step: go(() => session.step()),
+      back: go(() => session.back()),
+      reset: go(() => session.go(0)),
+      end: go(() => session.go(session.last)),
+      event: go(() => session.nextEvent()),
+      play: () => this.play(),
+    };
+  }
+
+  show() {
+    for (const update of UPDATES) update(this);
+  }
+
+  move(move) {
+    this.stop();
+    move();
+    this.show();
+  }
+
+  get isPlaying() {
+    return this.timer !== null;
+  }
+
+  stop() {
+    clearInterval(this.timer);
+    this.timer = null;
+  }
+
+  play() {
+    const { session } = this;
+    if (this.isPlaying || session.at === session.last) {
+      this.move(() => {});
+      return;
+    }
+    const turn = () => {
+      session.step();
+      if (session.at === session.last || session.isAtBreakpoint) this.stop();
+      this.show();
+    };
+    this.timer = setInterval(turn, session.byCommand ? COMMAND_PACE : INSTRUCTION_PACE);
+    this.show();
+  }
+
+  setByCommand(on) {
+    this.move(() => this.session.setByCommand(on));
+  }
+
+  toggleBreakpoint(instruction) {
+    this.session.toggleBreakpoint(instruction);
+    this.show();
+  }
+
+  runTo(instruction) {
+    let found;
+    this.move(() => (found = this.session.runTo(instruction)));
+    const line = lineOf(this.page, instruction);
+    if (!found) byId("now").append(h("p", { class: "hint" }, `From here on, line ${line} is not reached.`));
+  }
+
+  /** Something that the run is given is new: all is run again, from the installation. */
+  async give(news, { thenStep = false } = {}) {
+    this.stop();
+    Object.assign(this.session.given, news);
+    const bar = byId("bar");
+    const isDone = await this.session.run((done, most) => {
+      bar.hidden = false;
+      bar.querySelector("progress").value = done / most;
+      bar.querySelector("span").textContent = `${plural(done, "command")} of at most ${most} done`;
+    });
+    if (!isDone) return;
+    bar.hidden = true;
+    if (thenStep) this.session.step();
+    this.show();
+    runUnmasked(this);
+  }
+
+  async write(cell, value) {
+    this.session.write(cell, value);
+    await this.give({});
+    const { twins, moved } = this.session.now;
+    const outcome = twins || moved ? "a difference" : "no difference";
+    byId("said").textContent = `Cell ${cell} is now ${value}. The run was done again from here: ${outcome}.`;
+  }
+}
+
+function introduce({ page, facts }) {
+  byId("title").textContent = page.name;
+  byId("files").textContent = `${page.drum}, ${page.policyName}`;
+  const [words, commands] = [facts.words, facts.commands].map(countOf);
+  byId("taken").textContent = `${plural(words, "instruction")}, rewritten into ${commands} commands; the checker passed them, the policy is installed.`;
+}
+
+async function start() {
+  const lib = await openLibrary(await unpack(byId("wasm").textContent));
+  const session = new Session(lib, readPage(byId("data").textContent));
+  const app = new App(session);
+  introduce(session);
+  for (const build of BUILDS) build(app);
+  await app.give({});
+  chooseAddress(app);
+  await runUnmasked(app);
+  document.body.classList.add("ready");
+}
+
+function failed(error) {
+  byId("loud").hidden = false;
+  byId("loud").textContent = `The page cannot run: ${error.message}`;
+  throw error;
+}
+
+start().catch(failed);

@@ -1,0 +1,85 @@
+// Two comparisons at every step: the same commands on another memory, and the engine beside the machine. Were one ever to fail,
+// the page says so above all else.
+import { STATUS, answerText } from "../library/header.mjs";
+import { allOk } from "../model/compare.mjs";
+import { FORMATS, plural } from "../model/numbers.mjs";
+import { cellName } from "../model/names.mjs";
+import { byId, h, spoken, tick } from "./dom.mjs";
+
+const MOST_NAMED = 6;
+const TWIN_ROWS = ["all 16 registers", "next command", "running or not", "sandbox", "state cell", "record"];
+
+const verdict = (ok, yes, no, more) => h("p", { class: `verdict ${ok ? "ok" : "wrong"}` }, ok ? `✓ ${yes}` : `✕ ${no}`, more);
+
+const heads = (...titles) => h("thead", {}, h("tr", {}, titles.map((title, i) => h("th", { scope: "col", class: i ? "num" : "" }, title))));
+
+/** The free cells to show: those with names, those that the viewer wrote, the chosen one. */
+function shownCells({ page, session, selected }) {
+  const written = session.given.writes.filter((write) => write.at <= session.command);
+  const chosen = session.facts.region[selected] === "free" ? [selected] : [];
+  return [...new Set([...page.free, ...written].map((one) => one.cell).concat(chosen))].slice(0, MOST_NAMED);
+}
+
+function freeTable(app) {
+  const { session, page, format } = app;
+  const { now, facts } = session;
+  const show = FORMATS[format];
+  const number = (value) => h("td", { class: "num" }, show(value));
+  const row = (cell) =>
+    h("tr", {}, h("th", { scope: "row" }, cellName(page, cell) ?? `cell ${cell}`), number(now.memory[cell]), number(now.there.memory[cell]));
+  const differ = facts.freeCells.filter((cell) => now.memory[cell] !== now.there.memory[cell]).length;
+  const foot = `≠ ${differ} of ${facts.freeCells.length} free cells differ`;
+  return h("table", {}, heads("free cells", "this", "the other"), h("tbody", {}, shownCells(app).map(row)),
+    h("tfoot", {}, h("tr", {}, h("td", { colspan: 3 }, foot))));
+}
+
+function updateTwin(app) {
+  const { session } = app;
+  const { now, facts } = session;
+  const rows = now.twins ?? TWIN_ROWS.map((what) => ({ what, ok: true }));
+  const item = ({ what, ok }) => h("li", { class: ok ? "ok" : "wrong" }, tick(ok), " ", what);
+  const count = facts.freeCells.length;
+  const kept = now.moved === 0 ? `✓ All ${count} free cells of both memories are as their owner wrote them.` : `✕ ${plural(now.moved, "free cell")} changed!`;
+  byId("twin").replaceChildren(
+    verdict(allOk(rows), "No difference", "A DIFFERENCE"),
+    freeTable(app),
+    h("ul", { class: "ticks" }, rows.map(item)),
+    h("p", { class: now.moved ? "wrong" : "ok" }, kept),
+  );
+}
+
+const statusName = (number) => Object.keys(STATUS).find((name) => STATUS[name] === number)?.toLowerCase() ?? String(number);
+
+function valueText(what, value) {
+  if (what === "answer") return answerText(value);
+  return what === "status" ? statusName(value) : String(value);
+}
+
+function updateAgreement({ session }) {
+  const { at, rows } = session.agreement;
+  const compared = session.trace.frames.filter((frame, k) => k <= at && frame.agree).length;
+  const middle = session.frame.agree || session.at === session.last ? "" : "; now in the middle of a bundle";
+  const row = ({ what, here, there, ok }) =>
+    h("tr", { class: ok ? "" : "wrong" }, h("th", { scope: "row" }, what), h("td", {}, valueText(what, here)),
+      h("td", {}, valueText(what, there)), h("td", { class: ok ? "ok" : "wrong" }, tick(ok)));
+  const columns = ["compared", "machine", "engine"].map((title) => h("th", { scope: "col" }, title));
+  byId("agree").replaceChildren(
+    verdict(allOk(rows), "They agree", "THEY DO NOT AGREE", h("small", {}, `compared ${plural(compared, "time")}${middle}`)),
+    h("table", {}, h("thead", {}, h("tr", {}, columns, h("th", { scope: "col" }, spoken("same?")))), h("tbody", {}, rows.map(row))),
+  );
+}
+
+/** The sentence above all else, were a comparison ever to fail. */
+function updateLoud({ session }) {
+  const { failures } = session;
+  const loud = byId("loud");
+  loud.hidden = failures.length === 0;
+  const said = failures.map(({ what, at }) => `${what}, from command ${at} on.`);
+  loud.textContent = failures.length ? `This should never happen. ${said.join(" ")} Keep this file and tell the maker.` : "";
+}
+
+export function updateChecks(app) {
+  updateTwin(app);
+  updateAgreement(app);
+  updateLoud(app);
+}

@@ -1,0 +1,150 @@
+// A small policy as a column of states, the start on top. An arrow to the next state goes down, one to the same state loops at
+// the right, all others run at the left. Every arrow has its events beside it.
+import { clipped, wrap } from "../model/policy.mjs";
+import { svg } from "./dom.mjs";
+
+const MOST_STATES = 5;
+const MOST_FAR = 4;
+const TOP = 36;
+const TALL = 42; // a state's box
+const LINE = 17;
+const CHARACTER = 6.9;
+const NAME_CHARACTER = 8.9;
+const LONGEST_NAME = 24;
+const LONGEST_FAR = 20;
+const SMALLEST_BOX = 118;
+const BOX_PADDING = 30;
+const LEFT = 16;
+const FAR_LEFT = 74;
+const FAR_STEP = 13;
+const FARTHEST = 6;
+const FAR_LINE = 15;
+const LOOP = 42; // how far a loop reaches to the right
+const LABEL_ROOM = 150;
+const SMALLEST_WIDTH = 350;
+const NEXT_WIDTH = 26;
+const GAP = 44;
+const STOP_RADIUS = 8;
+
+const distance = ({ row }, from, to) => Math.abs(row.get(to) - row.get(from));
+const isNext = ({ row }, from, to) => to !== null && row.get(to) === row.get(from) + 1;
+const isFar = (model, from, { to }) => to !== null && to !== from && !isNext(model, from, to);
+const farOf = (model) => model.order.flatMap((s) => model.groups.get(s).filter((g) => isFar(model, s, g)).map((g) => distance(model, s, g.to)));
+
+/** Whether a policy is small enough for a column in which nothing meets. */
+export const fitsColumn = (model) => model.order.length <= MOST_STATES && farOf(model).length <= MOST_FAR;
+
+/** Where things lie from left to right. */
+function widths(model) {
+  const farthest = Math.max(0, ...farOf(model));
+  const box = Math.max(SMALLEST_BOX, ...model.order.map((s) => clipped(model.name(s), LONGEST_NAME).length * NAME_CHARACTER + BOX_PADDING));
+  const left = farthest ? FAR_LEFT + FAR_STEP * Math.min(FARTHEST, farthest) : LEFT;
+  const right = left + box;
+  const wide = Math.max(SMALLEST_WIDTH, right + LOOP + LABEL_ROOM);
+  return { box, left, right, middle: left + box / 2, wide, characters: Math.floor((wide - right - LOOP) / CHARACTER) };
+}
+
+/** The words beside a state: those of its loop, of events without an arrow, and of the arrow down. */
+function wordsOf(model, state, { characters }) {
+  const groups = model.groups.get(state);
+  const of = (isIt) => groups.find(isIt)?.words;
+  const none = of((g) => g.to === null);
+  return {
+    loop: wrap(of((g) => g.to === state) ?? [], characters).filter(Boolean),
+    none: none ? wrap([`✕ ${none[0]}`, ...none.slice(1)], characters) : [],
+    next: wrap(of((g) => isNext(model, state, g.to)) ?? [], NEXT_WIDTH).filter(Boolean),
+    far: groups.filter((g) => isFar(model, state, g)),
+  };
+}
+
+/** The top of each state's box, and the drawing's height. */
+function heights(model, wide) {
+  const tops = new Map();
+  let y = TOP;
+  for (const state of model.order) {
+    const { loop, none, next, far } = wordsOf(model, state, wide);
+    tops.set(state, y);
+    const below = Math.max(0, (loop.length + none.length) * LINE - TALL, far.length * FAR_LINE - TALL);
+    y += TALL + below + GAP + Math.max(0, next.length - 1) * LINE;
+  }
+  return { tops, height: y };
+}
+
+const label = (x, y, lines, more = {}) =>
+  svg("text", { x, y, ...more }, lines.map((text, i) => svg("tspan", { x, dy: i ? LINE : 0 }, text)));
+
+function loopArrow({ right }, top, lines) {
+  const mid = top + TALL / 2;
+  return [
+    svg("path", { d: `M${right} ${mid - 9}c${LOOP} -17 ${LOOP} 35 7 18` }),
+    svg("path", { class: "head", d: `M${right + 1} ${mid + 8}l10-2-3 9z` }),
+    label(right + LOOP, top + 14, lines),
+  ];
+}
+
+function nextArrow({ middle }, bottom, end, lines) {
+  const y = (bottom + end) / 2 + 4 - ((lines.length - 1) * LINE) / 2;
+  return [
+    svg("path", { d: `M${middle} ${bottom}V${end - 8}` }),
+    svg("path", { class: "head", d: `M${middle} ${end - 1}l-5-9h10z` }),
+    label(middle + 10, y, lines),
+  ];
+}
+
+function farArrow({ left }, from, to, reach, words) {
+  const out = left - LEFT - FAR_STEP * Math.min(FARTHEST, reach);
+  return [
+    svg("path", { d: `M${left + 6} ${from}C${out} ${from} ${out} ${from} ${out} ${(from + to) / 2}S${out} ${to} ${left - 5} ${to}` }),
+    svg("path", { class: "head", d: `M${left + 2} ${to}l-9-5v10z` }),
+    label(left - 5, from + 4, [clipped(words.join(", "), LONGEST_FAR)], { class: "halo", "text-anchor": "end" }),
+  ];
+}
+
+function arrowsOf(model, state, wide, tops, taken) {
+  const words = wordsOf(model, state, wide);
+  const top = tops.get(state);
+  const shape = (group) => {
+    if (group.to === null) return label(wide.right + LOOP, top + 14 + words.loop.length * LINE, words.none, { class: "none" });
+    if (group.to === state) return loopArrow(wide, top, words.loop);
+    if (isNext(model, state, group.to)) return nextArrow(wide, top + TALL, tops.get(group.to), words.next);
+    const from = top + 6 + words.far.indexOf(group) * FAR_LINE;
+    return farArrow(wide, from, tops.get(group.to) + TALL - 7, distance(model, state, group.to), group.words);
+  };
+  const isLit = (group) => taken?.from === state && taken.to === group.to;
+  return model.groups.get(state).map((group) => svg("g", { class: `arrow ${isLit(group) ? "lit" : ""}` }, shape(group)));
+}
+
+function stateBox({ left, middle, box }, top, name, isNow, state) {
+  return svg("g", { class: `state ${isNow ? "now" : ""}`, "data-state": state },
+    svg("rect", { x: left, y: top, width: box, height: TALL, rx: TALL / 2 }),
+    svg("text", { x: middle, y: top + TALL / 2 + 5, "text-anchor": "middle" }, clipped(name, LONGEST_NAME)),
+    svg("title", {}, name));
+}
+
+const startMark = ({ middle }) =>
+  svg("g", { class: "start" },
+    svg("text", { x: middle + 10, y: TOP - 17 }, "start"),
+    svg("path", { d: `M${middle} ${TOP - 28}V${TOP - 8}` }),
+    svg("path", { class: "head", d: `M${middle} ${TOP - 1}l-5-9h10z` }));
+
+function stoppedMark({ left }, bottom, text) {
+  const x = left + 22;
+  const y = bottom + 22;
+  return svg("g", { class: "stopped" },
+    svg("path", { d: `M${x} ${bottom}v14` }),
+    svg("circle", { cx: x, cy: y, r: STOP_RADIUS }),
+    svg("path", { d: `M${x - 4} ${y - 4}l8 8m0-8l-8 8` }),
+    svg("text", { x: x + 14, y: y + 5 }, `${text}: stopped`));
+}
+
+/** present: { state, taken: { from, to } or null, stopped: an event's name or null } */
+export function drawColumn(model, present) {
+  const wide = widths(model);
+  const { tops, height } = heights(model, wide);
+  const { state, taken, stopped } = present;
+  return svg("svg", { id: "automaton", viewBox: `0 0 ${wide.wide} ${height}`, role: "img" },
+    model.order.flatMap((s) => arrowsOf(model, s, wide, tops, taken)),
+    model.order.map((s) => stateBox(wide, tops.get(s), model.name(s), s === state, s)),
+    startMark(wide),
+    stopped && tops.has(state) ? stoppedMark(wide, tops.get(state) + TALL, stopped) : null);
+}

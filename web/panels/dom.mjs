@@ -1,0 +1,47 @@
+// Elements of the page, and sentences at fields.
+
+const SVG = "http://www.w3.org/2000/svg";
+
+function make(element, attributes, children) {
+  for (const [key, value] of Object.entries(attributes)) {
+    if (value === null || value === undefined || value === false) continue;
+    if (key.startsWith("on")) element.addEventListener(key.slice(2), value);
+    else element.setAttribute(key, value === true ? "" : value);
+  }
+  element.append(...children.flat(Infinity).filter((child) => child !== null && child !== undefined && child !== false));
+  return element;
+}
+
+export const h = (name, attributes = {}, ...children) => make(document.createElement(name), attributes, children);
+export const svg = (name, attributes = {}, ...children) => make(document.createElementNS(SVG, name), attributes, children);
+export const byId = (id) => document.getElementById(id);
+
+/** Text that only a screen reader says. */
+export const spoken = (text) => h("span", { class: "spoken" }, text);
+
+/** A sign that a screen reader does not say. */
+export const sign = (text) => h("span", { "aria-hidden": "true" }, text);
+
+export const tick = (ok) => [sign(ok ? "✓" : "✕"), spoken(ok ? "the same" : "different")];
+
+/** Says at a field what is wrong with it, or, with null, that nothing is. */
+export function complain(input, problem) {
+  const id = `${input.id}-problem`;
+  const said = byId(id) ?? h("p", { id, class: "problem", role: "alert" });
+  input.setAttribute("aria-invalid", problem ? "true" : "false");
+  if (!problem) {
+    input.removeAttribute("aria-describedby");
+    said.remove();
+    return;
+  }
+  input.setAttribute("aria-describedby", id);
+  said.textContent = problem;
+  input.closest("label, .field").after(said);
+}
+
+/** Scrolls a box so that what is shown in it can be seen; the page itself stays. */
+export function reveal(box, shown, margin) {
+  const top = shown.getBoundingClientRect().top - box.getBoundingClientRect().top;
+  const bottom = top + Math.min(shown.clientHeight || margin, margin);
+  if (top < 0 || bottom > box.clientHeight) box.scrollTop += top - box.clientHeight / 3;
+}

@@ -1,0 +1,96 @@
+// The whole memory: the map, what the regions are, and the free cells, which the viewer may write at any moment.
+import { FORMATS, readNumber } from "../model/numbers.mjs";
+import { cellName, stateName } from "../model/names.mjs";
+import { byId, complain, h, svg } from "./dom.mjs";
+import { cellAt, changedCells, drawMap } from "./map.mjs";
+import { REGIONS, rangesOf, regionWord } from "./regions.mjs";
+
+const SWATCH = 16;
+
+function regionItem(facts, [name, { title, use }]) {
+  const box = svg("rect", { class: `region ${name}`, x: 1, y: 1, width: SWATCH - 2, height: SWATCH - 2, rx: 2 });
+  const swatch = svg("svg", { viewBox: `0 0 ${SWATCH} ${SWATCH}`, class: "swatch", "aria-hidden": "true" }, box);
+  return h("li", {}, swatch, h("b", {}, title), " ", h("span", { class: "range" }, rangesOf(facts.region, name)), h("small", {}, use));
+}
+
+/** A form that writes a number to a free cell. */
+function writeForm(app, cell, id, label) {
+  const field = h("input", { id, inputmode: "numeric", autocomplete: "off", "data-cell": cell });
+  const write = (submitted) => {
+    submitted.preventDefault();
+    const { value, problem } = readNumber(field.value);
+    complain(field, problem);
+    if (!problem) app.write(cell, value);
+  };
+  return h("form", { class: "write", onsubmit: write }, h("label", {}, label, field), h("button", { type: "submit" }, "Write"));
+}
+
+function select(app, cell) {
+  const { cells } = app.session.facts.shape;
+  app.selected = Math.max(0, Math.min(cells - 1, cell));
+  byId("pick").value = app.selected;
+  app.show();
+}
+
+function buildPicker(app) {
+  const { cells } = app.session.facts.shape;
+  const choose = (e) => {
+    const { value, problem } = readNumber(e.target.value, cells - 1);
+    complain(e.target, problem);
+    if (!problem) select(app, value);
+  };
+  const pick = h("input", { id: "pick", inputmode: "numeric", autocomplete: "off", value: app.selected, onchange: choose });
+  byId("inspect").append(h("label", { class: "picker" }, "Cell ", pick), h("div", { id: "inspected" }));
+  byId("map").addEventListener("click", (e) => select(app, cellAt(e, cells)));
+}
+
+export function buildMemory(app) {
+  const { page, session: { facts } } = app;
+  app.selected = page.free[0]?.cell ?? facts.freeCells[0] ?? 0;
+  byId("regions").append(...Object.entries(REGIONS).map((entry) => regionItem(facts, entry)));
+  const label = ({ name, cell }) => [h("b", {}, name), h("small", {}, `cell ${cell}`)];
+  byId("named").append(...page.free.map((named) => writeForm(app, named.cell, `free-${named.cell}`, label(named))));
+  buildPicker(app);
+  new ResizeObserver(() => app.session.trace && drawMap(app)).observe(byId("map").parentElement);
+}
+
+function inspect(app) {
+  const { page, session, format, selected } = app;
+  const { facts, now } = session;
+  const region = facts.region[selected];
+  const show = FORMATS[format];
+  const name = region === "state" ? stateName(page, now.memory[selected]) : cellName(page, selected);
+  const row = (title, value) => h("div", {}, h("dt", {}, title), h("dd", { class: "num" }, value));
+  const list = h("dl", {},
+    row("Region", `${REGIONS[region].title}${name ? `: ${name}` : ""}`),
+    row("This memory", show(now.memory[selected])),
+    row("The other", show(now.there.memory[selected])));
+  const label = h("span", { class: "spoken" }, `New value of cell ${selected}`);
+  const form = region === "free" ? writeForm(app, selected, "new-value", label) : null;
+  return [list, form ?? h("p", { class: "hint" }, "Only free cells are yours to write: the host must leave the others alone.")];
+}
+
+function touchedText({ session, format }) {
+  const { facts, reach } = session;
+  const where = (cell) => `cell ${cell} (${regionWord(facts.region[cell])})`;
+  const named = reach && reach.named < facts.shape.cells ? where(reach.named) : `address ${FORMATS[format](reach?.named)}`;
+  const reached = reach ? `The routine named ${named}; the mask led it to cell ${reach.hit}. ` : "";
+  const changed = changedCells(session);
+  return `${reached}The last step changed ${changed.length ? changed.map(where).join(", ") : "no cell"}.`;
+}
+
+export function updateMemory(app) {
+  const { session, format, selected } = app;
+  drawMap(app);
+  for (const field of byId("named").querySelectorAll("input")) {
+    if (field !== document.activeElement) field.value = FORMATS[format](session.now.memory[Number(field.dataset.cell)]);
+  }
+  const old = byId("inspected");
+  const isBusy = old.contains(document.activeElement) && old.dataset.cell === String(selected);
+  old.dataset.cell = selected;
+  if (!isBusy) old.replaceChildren(...inspect(app));
+  const touched = touchedText(app);
+  byId("touched").textContent = touched;
+  const label = `Map of all ${session.facts.shape.cells} cells by region. ${touched} Cells can be chosen by number below.`;
+  byId("map").setAttribute("aria-label", label);
+}

@@ -1,0 +1,148 @@
+// The plot: readings above, orders below, over the pairs of the whole run; those to come are left blank. Ceilings are lines.
+import { eventName } from "../model/names.mjs";
+import { byId, h, svg } from "./dom.mjs";
+import { kindClass, mark, swatch } from "./marks.mjs";
+
+const NO_CEILING = 0xffffffff; // any number
+const NARROWEST = 280;
+const LEFT = 54;
+const RIGHT = 16;
+const INDENT = 14; // before the first and behind the last pair
+const TOP = 22;
+const GAP = 34;
+const READINGS_TALL = 120;
+const ORDERS_TALL = 110;
+const TICK_HEIGHT = 32;
+const TICK_WIDTH = 28;
+const HEADROOM = 0.12;
+const FAR_CEILING = 4; // times the largest order: such a ceiling is written, not drawn
+const STEPS = [1, 2, 5, 10];
+const TINY = 1e-6;
+
+/** Round numbers between two others, at most so many. */
+function ticks(low, high, most) {
+  const raw = Math.max((high - low) / most, 1);
+  const unit = 10 ** Math.floor(Math.log10(raw));
+  const step = STEPS.find((m) => m * unit >= raw) * unit;
+  const found = [];
+  for (let t = Math.ceil(low / step) * step; t <= high + step * TINY; t += step) found.push(t);
+  return found;
+}
+
+const eventsOf = (pairs) => [...new Set(pairs.map((pair) => pair.event))].sort((a, b) => a - b);
+
+/** The ceilings that can be drawn, by their height: who has them. */
+function ceilingsOf({ page, session: { facts } }, orders) {
+  const most = Math.max(1, ...orders.map((pair) => pair.value));
+  const by = new Map();
+  for (const event of eventsOf(orders)) {
+    const ceiling = facts.shape.ceilings[event];
+    if (ceiling !== NO_CEILING && ceiling <= FAR_CEILING * most) by.set(ceiling, [...(by.get(ceiling) ?? []), eventName(page, event)]);
+  }
+  return by;
+}
+
+/** A panel's frame: title, grid, axes. */
+function frame(panel, width) {
+  const { title, top, tall, low, high, y } = panel;
+  const lines = ticks(low, high, tall / TICK_HEIGHT).filter(Number.isInteger);
+  const grid = (t) => [
+    svg("path", { class: "grid", d: `M${LEFT} ${y(t)}H${width - RIGHT}` }),
+    svg("text", { class: "tick", x: LEFT - 7, y: y(t) + 4, "text-anchor": "end" }, String(t)),
+  ];
+  return [
+    svg("text", { class: "title", x: LEFT, y: top - 8 }, title),
+    lines.map(grid),
+    svg("path", { class: "axis", d: `M${LEFT} ${top}V${top + tall}H${width - RIGHT}` }),
+  ];
+}
+
+function panelOf(title, top, tall, values) {
+  const [least, most] = [Math.min(...values), Math.max(...values)];
+  const room = (most - least || most || 1) * HEADROOM;
+  const low = title === "orders" ? 0 : Math.max(0, least - room);
+  const high = most + room;
+  const y = (value) => top + tall - ((value - low) / (high - low || 1)) * tall;
+  return { title, top, tall, low, high, y };
+}
+
+/** One event's pairs: a line between readings, steps between orders, and a mark for each. */
+function series(app, event, pairs, x, y) {
+  const { session, page } = app;
+  const own = pairs.map((pair, i) => ({ ...pair, i })).filter((pair) => pair.event === event);
+  const kind = kindClass(session.facts, event);
+  const isReading = kind === "reading";
+  const way = ({ i, value }) => (isReading ? `L${x(i)} ${y(value)}` : `H${x(i)}V${y(value)}`);
+  const [first, ...rest] = own;
+  if (!first) return [];
+  const start = `M${x(first.i)} ${y(first.value)}${rest.map(way).join("")}`;
+  const d = isReading || !rest.length ? start : `${start}H${x(pairs.length - 1)}`;
+  const known = session.before ? session.before.pairs : pairs.length;
+  const point = ({ i, value }) =>
+    svg("g", { class: i >= known ? "fresh" : "" }, mark(session.facts, event, x(i), y(value)),
+      svg("title", {}, `${i + 1}: ${eventName(page, event)} ${value}`));
+  return [svg("path", { class: `line ${kind}`, d }), ...own.map(point)];
+}
+
+function ceilingLines(ceilings, { y }, width, largest) {
+  return [...ceilings].map(([ceiling, who]) => [
+    svg("path", { class: "ceiling", d: `M${LEFT} ${y(ceiling)}H${width - RIGHT}` }),
+    svg("text", { class: "ceiling-text", x: width - RIGHT, y: y(ceiling) - (ceiling < largest / 10 ? 10 : 5), "text-anchor": "end" },
+      `ceiling ${ceiling}: ${who.join(", ")}`),
+  ]);
+}
+
+function legend({ page, session: { facts } }, events, hasCeilings) {
+  const item = (event) => h("li", {}, swatch(facts, event), eventName(page, event));
+  const dash = svg("svg", { viewBox: "0 0 24 16", class: "swatch dash", "aria-hidden": "true" }, svg("path", { class: "ceiling", d: "M0 8H24" }));
+  return h("ul", { class: "legend" }, events.map(item), hasCeilings ? h("li", {}, dash, "ceiling") : null);
+}
+
+/** The numbers of the pairs under the lowest axis. */
+function footer(count, x, width, foot) {
+  const every = Math.max(1, Math.ceil(count / Math.floor((width - LEFT - RIGHT) / TICK_WIDTH)));
+  const numbers = Array.from({ length: count }, (_, i) => i).filter((i) => i % every === 0);
+  const text = (at, said, anchor) => svg("text", { class: "tick", x: at, y: foot + 16, "text-anchor": anchor }, said);
+  return [text(LEFT - 7, "pair", "end"), ...numbers.map((i) => text(x(i), String(i + 1), "middle"))];
+}
+
+function panelsOf(app, all) {
+  const { isReading } = app.session.facts;
+  const readings = all.filter((pair) => isReading[pair.event]);
+  const orders = all.filter((pair) => !isReading[pair.event]);
+  const ceilings = ceilingsOf(app, orders);
+  const panels = [];
+  if (readings.length) panels.push({ ...panelOf("readings", TOP, READINGS_TALL, readings.map((p) => p.value)), pairs: readings });
+  const top = panels.length ? TOP + READINGS_TALL + GAP : TOP;
+  const values = [...orders.map((p) => p.value), ...ceilings.keys(), 1];
+  if (orders.length) panels.push({ ...panelOf("orders", top, ORDERS_TALL, values), pairs: orders, ceilings, largest: Math.max(...values) });
+  return panels;
+}
+
+export function drawPlot(app) {
+  const { session } = app;
+  const box = byId("plot");
+  const all = session.trace.events;
+  if (!box.clientWidth) return;
+  if (!all.length) {
+    box.replaceChildren(h("p", { class: "hint" }, "This run records nothing."));
+    return;
+  }
+  const width = Math.max(NARROWEST, box.clientWidth);
+  const room = width - LEFT - RIGHT - 2 * INDENT;
+  const x = (i) => LEFT + INDENT + (all.length > 1 ? (i * room) / (all.length - 1) : room / 2);
+  const shown = all.slice(0, session.now.pairs);
+  const panels = panelsOf(app, all);
+  const foot = panels.at(-1).top + panels.at(-1).tall;
+  const now = shown.length ? svg("path", { class: "now-line", d: `M${x(shown.length - 1)} 14V${foot}` }) : null;
+  const drawn = panels.map((panel) => [
+    frame(panel, width),
+    panel.ceilings ? ceilingLines(panel.ceilings, panel, width, panel.largest) : null,
+    eventsOf(panel.pairs).map((event) => series(app, event, shown, x, panel.y)),
+  ]);
+  const said = `Plot of the record: ${shown.length} of ${all.length} pairs. The same numbers stand in the table.`;
+  const height = foot + 24;
+  const picture = { viewBox: `0 0 ${width} ${height}`, width, height, role: "img", "aria-label": said };
+  const hasCeilings = panels.some((panel) => panel.ceilings?.size);
+  box.replaceChildren(svg("svg", picture, now, drawn, footer(all.length, x, width, foot)), legend(app, eventsOf(all), hasCeilings));
+}

@@ -1,0 +1,53 @@
+// 'If the next readings were ..': what would be ordered from here, and nothing is touched.
+import { answerText } from "../library/header.mjs";
+import { FORMATS, plural, readNumbers } from "../model/numbers.mjs";
+import { eventName } from "../model/names.mjs";
+import { Preview } from "../model/preview.mjs";
+import { MOST_READINGS } from "../model/trace.mjs";
+import { byId, complain, h } from "./dom.mjs";
+import { kindClass } from "./marks.mjs";
+
+const MOST_PAIRS = 40;
+const MOST_CELLS = 12;
+const WARMER = 15; // than the readings given, as a first question
+const FIRST_READING = 1800;
+
+export function buildPreview(app) {
+  const { readings } = app.page;
+  app.preview = new Preview(app.session.lib, app.session.facts);
+  byId("if").value = readings.length ? readings.map((reading) => reading + WARMER).join(", ") : FIRST_READING;
+  byId("if").addEventListener("input", () => updatePreview(app));
+}
+
+function sandboxText(cells, show) {
+  if (!cells.length) return "The sandbox would stay as it is.";
+  const text = ({ cell, was, then }) => `${cell}: ${show(was)} → ${show(then)}`;
+  const more = cells.length > MOST_CELLS ? `, and ${cells.length - MOST_CELLS} more` : "";
+  return `The sandbox would then hold ${cells.slice(0, MOST_CELLS).map(text).join(", ")}${more}.`;
+}
+
+function foreseen({ page, session, format }, ahead) {
+  const show = FORMATS[format];
+  const item = ({ event, value }) =>
+    h("li", {}, h("span", { class: kindClass(session.facts, event) }, eventName(page, event)), h("b", {}, show(value)));
+  const { pairs } = ahead;
+  const ended = [h("b", {}, answerText(ahead.ending)), ` after ${plural(ahead.steps, "command")}, with ${plural(ahead.readings, "reading")} used.`];
+  const untouched = ahead.isUntouched ? "✓ Memory and registers are as they were." : "✕ Something was touched!";
+  return [
+    h("p", {}, pairs.length ? "From here it would record:" : "From here it would record nothing."),
+    h("ol", { class: "foreseen" }, pairs.slice(0, MOST_PAIRS).map(item)),
+    pairs.length > MOST_PAIRS ? h("p", { class: "hint" }, `and ${pairs.length - MOST_PAIRS} more.`) : "",
+    h("p", {}, "It would come out as ", ended),
+    h("p", { class: "hint" }, sandboxText(ahead.cells, show)),
+    h("p", { class: ahead.isUntouched ? "ok" : "wrong" }, untouched),
+  ];
+}
+
+export function updatePreview(app) {
+  const field = byId("if");
+  const { values, problem } = readNumbers(field.value);
+  const tooMany = values?.length > MOST_READINGS ? `Write ${MOST_READINGS} readings at most.` : null;
+  complain(field, problem ?? tooMany);
+  if (problem ?? tooMany) byId("foreseen").replaceChildren();
+  else byId("foreseen").replaceChildren(...foreseen(app, app.preview.look(app.session.now, app.session.given, values)));
+}
