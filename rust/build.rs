@@ -1,9 +1,14 @@
-//! Links the static library of the C interface when the feature `native` is on.
+//! Links the static library of the C interface when the feature `native` is on,
+//! and joins the page that the command writes.
+
+#[path = "build/page.rs"]
+mod page;
 
 use std::path::Path;
 
 fn main() {
     println!("cargo:rerun-if-changed=build.rs");
+    println!("cargo:rerun-if-changed=build/page.rs");
     if std::env::var_os("CARGO_FEATURE_NATIVE").is_none() {
         return;
     }
@@ -17,4 +22,6 @@ fn main() {
     }
     println!("cargo:rustc-link-search=native={}", folder.display());
     println!("cargo:rustc-link-lib=static=capi");
+    let out = std::env::var("OUT_DIR").expect("cargo names a folder for what is built");
+    page::build(&Path::new(&package).join(".."), Path::new(&out));
 }

@@ -3,7 +3,7 @@ import { openLibrary } from "./library/binding.mjs";
 import { countOf } from "./library/words.mjs";
 import { Session } from "./model/session.mjs";
 import { lineOf } from "./model/names.mjs";
-import { fromBase64, readPage } from "./model/page.mjs";
+import { readPage } from "./model/page.mjs";
 import { plural } from "./model/numbers.mjs";
 import { byId, h } from "./panels/dom.mjs";
 import { updateChecks } from "./panels/checks.mjs";
@@ -23,11 +23,6 @@ const INSTRUCTION_PACE = 320;
 
 const BUILDS = [buildControls, buildRoutine, buildRegisters, buildMemory, buildPolicy, buildRecord, buildPreview, buildUnmasked, buildSetup];
 const UPDATES = [updateNow, updateControls, updateRoutine, updateRegisters, updateMemory, updatePolicy, updateRecord, updatePreview, updateChecks, updateSetup];
-
-async function unpack(text) {
-  const packed = new Blob([fromBase64(text)]).stream().pipeThrough(new DecompressionStream("gzip"));
-  return new Response(packed).arrayBuffer();
-}
 
 class App {
   constructor(session) {
@@ -130,7 +125,7 @@ function introduce({ page, facts }) {
 }
 
 async function start() {
-  const lib = await openLibrary(await unpack(byId("wasm").textContent));
+  const lib = await openLibrary(await (await globalThis.unpack("wasm")).arrayBuffer());
   const session = new Session(lib, readPage(byId("data").textContent));
   const app = new App(session);
   introduce(session);

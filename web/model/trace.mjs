@@ -179,6 +179,6 @@ export class Trace {
     }
     const frame = this.frames[count];
     const isExact = done === count && same(side.machine, frame.machine) && side.record.length === PAIR * frame.pairs;
-    return { memory: side.memory.slice(), machine: side.machine.slice(), host: side.host, isExact };
+    return { memory: side.memory.slice(), machine: side.machine.slice(), host: side.host, record: side.record, isExact };
   }
 }

@@ -1,6 +1,7 @@
 // The same list with one mask taken out, for the school. The checker refuses it; here, and on no drum, it is run all the same.
-import { COUNTS } from "../library/header.mjs";
+import { COUNTS, offsetOf } from "../library/header.mjs";
 import { commandKind, countOf, isAccess, wordAt, wordOf } from "../library/words.mjs";
+import { movedCells } from "./compare.mjs";
 
 export const AS_WRITTEN = null;
 
@@ -43,33 +44,31 @@ export function withoutMask(lib, facts, instruction, cell) {
   return { ...facts, commands, first, answer: lib.check(facts.layout, commands) };
 }
 
-/** Where a finished trace of such a list differs: the first frame, and at its end registers, record, and free cells moved. */
+/**
+ * Where a finished trace of such a list went wrong: the first frame at which something was seen, and what differs there and at
+ * the end. Null if nothing was seen.
+ */
 export function differences(trace) {
-  const { here, there } = trace.sides;
-  const firstFrame = trace.frames.findIndex((frame) => frame.twins || frame.moved);
-  const registers = Array.from(here.machine.subarray(0, COUNTS.EVENTS).keys());
-  const differing = registers.filter((r) => here.machine[r] !== there.machine[r]);
+  const { frames } = trace;
+  const first = frames.findIndex((frame) => frame.twins || frame.moved);
+  if (first < 0) return null;
+  const look = (k) => differencesAt(trace.facts, trace.replay(k, "here"), trace.replay(k, "there"));
+  return { first, isSeen: frames.some((frame) => frame.twins), then: look(first), atEnd: look(frames.length - 1) };
+}
+
+/** What differs between two sides: registers, shared cells and pairs; and this side's free cells that changed. */
+function differencesAt(facts, here, there) {
+  const apart = (what, a, b) => [...a.keys()].filter((i) => a[i] !== b[i]).map((i) => ({ what: what(i), here: a[i], there: b[i] }));
+  const isShared = (cell) => facts.region[cell] !== "free";
+  const shared = (side) => side.memory.map((value, cell) => (isShared(cell) ? value : 0));
+  const values = (side) => side.record.filter((_, i) => i % 2);
+  const registers = (side) => side.machine.subarray(0, offsetOf("machine", "pc"));
   return {
-    firstFrame,
-    registers: differing.map((r) => ({ what: `r${r}`, here: here.machine[r], there: there.machine[r] })),
-    cells: sandboxDifferences(trace).map((cell) => ({ cell, here: here.memory[cell], there: there.memory[cell] })),
-    moved: movedIn(trace, here).map((cell) => ({ cell, wrote: here.host[cell], now: here.memory[cell] })),
-    pairs: pairDifferences(here.record, there.record),
-    isSeen: trace.frames.some((frame) => frame.twins),
-    endings: [here.ending, there.ending],
+    moved: movedCells(facts, here).map((cell) => ({ cell, wrote: here.host[cell], now: here.memory[cell] })),
+    apart: [
+      ...apart((r) => `r${r}`, registers(here), registers(there)),
+      ...apart((cell) => `cell ${cell}`, shared(here), shared(there)),
+      ...apart((i) => `value of pair ${i + 1}`, values(here), values(there)),
+    ],
   };
 }
-
-function sandboxDifferences({ facts, sides: { here, there } }) {
-  const isShared = (cell) => facts.region[cell] !== "free";
-  return Array.from(here.memory.keys()).filter((cell) => isShared(cell) && here.memory[cell] !== there.memory[cell]);
-}
-
-/** The pairs of two records whose events or values differ. */
-function pairDifferences(here, there) {
-  const count = Math.min(here.length, there.length) / 2;
-  const pairs = Array.from({ length: count }, (_, i) => ({ number: i + 1, here: here[2 * i + 1], there: there[2 * i + 1] }));
-  return pairs.filter((pair) => pair.here !== pair.there);
-}
-
-const movedIn = ({ facts }, side) => facts.freeCells.filter((cell) => side.memory[cell] !== side.host[cell]);

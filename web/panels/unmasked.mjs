@@ -77,32 +77,32 @@ function table(titles, rows) {
 }
 
 /** The free cells that were changed, and what differs between the memories. */
-function differenceTables({ page, format }, found) {
+function differenceTables({ page, format }, { moved, apart }) {
   const show = FORMATS[format];
-  const moved = found.moved.map(({ cell, wrote, now }) => [cellName(page, cell) ?? `cell ${cell}`, show(wrote), show(now)]);
-  const apart = [
-    ...found.registers.map(({ what, here, there }) => [what, show(here), show(there)]),
-    ...found.cells.map(({ cell, here, there }) => [`cell ${cell}`, show(here), show(there)]),
-    ...found.pairs.map(({ number, here, there }) => [`pair ${number}`, show(here), show(there)]),
-    ...(found.endings[0] === found.endings[1] ? [] : [["ending", ...found.endings.map(answerText)]]),
-  ];
+  const own = moved.map(({ cell, wrote, now }) => [cellName(page, cell) ?? `cell ${cell}`, show(wrote), show(now)]);
   return [
-    ...table(["the drum’s own cell", "its owner wrote", "now it holds"], moved),
-    ...table(["what the routine does", "this memory", "the other"], apart),
+    ...table(["the drum’s own cell", "its owner wrote", "now it holds"], own),
+    ...table(["the routine’s", "this memory", "the other"], apart.map(({ what, here, there }) => [what, show(here), show(there)])),
   ];
 }
 
 function outcome(app, trace) {
   const found = differences(trace);
   const came = `It came out as ${answerText(trace.ending)}.`;
-  if (found.firstFrame < 0) {
+  if (!found) {
     const why = "This time the address lay in the sandbox, or the line was not reached.";
     return [h("p", { class: "verdict ok" }, "No difference"), h("p", {}, `${why} Choose another address above. ${came}`)];
   }
-  const line = lineOf(app.page, trace.frames[found.firstFrame - 1].index);
-  const seen = `First seen after ${plural(found.firstFrame, "command")}, in line ${line}. ${came} With the mask there is no difference.`;
-  const what = found.isSeen ? "The two memories come out differently" : "The drum’s own cells are changed";
-  return [h("p", { class: "verdict broken" }, `✕ ${what}`), h("p", {}, seen), ...differenceTables(app, found)];
+  const line = lineOf(app.page, trace.frames[found.first - 1].index);
+  const what = found.isSeen ? "The routine sees what is not its own" : "The routine changes what is not its own";
+  const atEnd = differenceTables(app, found.atEnd);
+  return [
+    h("p", { class: "verdict broken" }, `✕ ${what}`),
+    h("p", {}, `First after ${plural(found.first, "command")}, in line ${line}. With the mask there is no difference.`),
+    ...differenceTables(app, found.then),
+    h("p", {}, `${came} ${atEnd.length ? "At its end:" : "At its end nothing of this is left to see."}`),
+    ...atEnd,
+  ];
 }
 
 /** Runs the list without the mask on both memories, in slices, and shows what came of it. */
