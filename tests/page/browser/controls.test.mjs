@@ -1,0 +1,213 @@
+// Every control of the page, by mouse and by key, on the roast.
+import assert from "node:assert/strict";
+import { after, before, beforeEach, afterEach, test } from "node:test";
+import { EXAMPLES, makePage } from "../command.mjs";
+import { browserName, openBrowser } from "./chromium.mjs";
+import { record, see, text } from "./seen.mjs";
+
+const [ROAST, SAMPLE, CURIOUS] = EXAMPLES;
+const DESKTOP = { width: 1280, height: 900 };
+const LAST = 28; // steps of the roast
+
+let browser, page;
+before(async () => (browser = await openBrowser(browserName())));
+beforeEach(async () => (page = await browser.page(makePage(ROAST), DESKTOP)));
+afterEach(() => page.close());
+after(async () => {
+  const complaints = browser.complaints();
+  await browser.close();
+  assert.deepEqual(complaints, []);
+});
+
+const at = () => page.run("Number(document.getElementById('slider').value)");
+const said = (css) => see(page, text, css);
+const nowLine = () => said(".line.now .number");
+const isIdle = () => page.until("document.getElementById('bar').hidden");
+
+test("keys: right, left, space, home, end, e", async () => {
+  for (const [key, where] of [["End", LAST], ["ArrowLeft", LAST - 1], ["Home", 0], ["ArrowRight", 1], ["e", 6]]) {
+    await page.key(key);
+    assert.equal(await at(), where, key);
+  }
+  await page.key(" ");
+  await page.until("document.getElementById('do-play').textContent === 'Pause'");
+  await page.until("Number(document.getElementById('slider').value) > 7");
+  await page.key(" ");
+  assert.equal(await said("#do-play"), "Run");
+});
+
+test("buttons: step, back, next event, end, reset", async () => {
+  for (const [id, where] of [["step", 1], ["step", 2], ["back", 1], ["event", 6], ["end", LAST], ["reset", 0]]) {
+    await page.click(`#do-${id}`);
+    assert.equal(await at(), where, id);
+  }
+});
+
+test("the slider moves over all steps, by key too", async () => {
+  await page.run("document.getElementById('slider').focus()");
+  await page.key("ArrowRight");
+  await page.key("ArrowRight");
+  assert.equal(await at(), 2);
+  await page.key("End");
+  assert.equal(await at(), LAST);
+});
+
+test("a line is run to by a click, and one that is not reached says so", async () => {
+  await page.click("[data-index='11'] button.text");
+  assert.equal(await nowLine(), "15");
+  await page.click("[data-index='0'] button.text");
+  assert.match(await said("#now"), /From here on, line 3 is not reached\./);
+});
+
+test("a run stops at a breakpoint", async () => {
+  await page.click("[data-index='5'] .stop");
+  await page.click("#do-play");
+  await page.until("document.getElementById('do-play').textContent === 'Run'");
+  assert.equal(await nowLine(), "8");
+});
+
+test("a jump that is taken is drawn, with its reason", async () => {
+  await page.click("[data-index='11'] button.text");
+  await page.key("ArrowRight");
+  assert.equal(await said("[data-index='11'] .why"), "1500 below 1950: yes, to heat");
+  assert.equal(await page.run("document.querySelectorAll('#jumps .lit').length"), 1);
+});
+
+test("the switch shows the four commands of each instruction, and steps by command", async () => {
+  await page.click(".switch .track");
+  await page.key("ArrowRight");
+  assert.equal(await said("#where"), "1 of 106 commands");
+  assert.equal(await page.run("document.querySelectorAll('#registers .cell').length"), 16);
+  assert.match(await said("#now .tell"), /r1 becomes 1950/);
+});
+
+test("numbers are signed, unsigned or hexadecimal", async () => {
+  await page.key("ArrowRight");
+  const r1 = () => page.run("document.querySelectorAll('#registers dd')[1].firstChild.data");
+  assert.equal(await r1(), "1950");
+  await page.click("#formats label:nth-of-type(3)");
+  assert.equal(await r1(), "0x79E");
+});
+
+test("a silent probe asks for a reading, and goes on with it", async () => {
+  await page.type("#readings", "1500");
+  await isIdle();
+  await page.click("#do-end");
+  assert.match(await said("#pause"), /The probe is silent\. bean waits for a reading\./);
+  await page.type("#next-reading", "hot");
+  assert.match(await said("#next-reading-problem"), /“hot” is no number/);
+  await page.type("#next-reading", "1960, 2100");
+  await isIdle();
+  await page.click("#do-end");
+  assert.match(await said("#pause .sum"), /^ended \(20\): 106 commands/);
+});
+
+test("a full log is emptied, and a spent budget raised", async () => {
+  await page.type("#log", "4");
+  await isIdle();
+  for (let pairs = 2; pairs < 9; pairs += 2) {
+    await page.click("#do-end");
+    assert.match(await said("#pause"), /The log is full/);
+    assert.equal((await see(page, record)).length, pairs);
+    await page.click("#pause button.main");
+    await isIdle();
+  }
+  await page.click("#do-end");
+  assert.match(await said("#pause .sum"), /^ended \(20\)/);
+  await page.type("#log", "64");
+  await page.type("#budget", "50");
+  await isIdle();
+  await page.click("#do-end");
+  assert.match(await said("#pause"), /The budget is spent\. 50 commands done\./);
+  await page.click("#pause button.main");
+  await isIdle();
+  await page.click("#do-end");
+  assert.match(await said("#pause .sum"), /^ended \(20\)/);
+});
+
+test("bad input gets a sentence at its field", async () => {
+  for (const [field, bad, sentence] of [
+    ["readings", "warm", /“warm” is no number/],
+    ["budget", "10001", /Write a number up to 10000/],
+    ["log", "x", /“x” is no number/],
+    ["pick", "5000", /up to 1023/],
+    ["if", "4294967296", /more than 32 bits/],
+  ]) {
+    await page.type(`#${field}`, bad);
+    assert.match(await said(`#${field}-problem`), sentence);
+    const described = await page.run(`document.getElementById('${field}').getAttribute('aria-describedby')`);
+    assert.equal(described, `${field}-problem`);
+  }
+});
+
+test("a free cell is written in the middle of a run, and nothing differs", async () => {
+  for (let i = 0; i < 10; i++) await page.key("ArrowRight");
+  await page.type("#free-8", "123456");
+  await page.until("document.getElementById('said').textContent !== ''");
+  assert.equal(await said("#said"), "Cell 8 is now 123456. The run was done again from here: no difference.");
+  assert.equal(await page.run("document.getElementById('free-8').blur(), document.getElementById('free-8').value"), "123456");
+  assert.equal(await said("#twin .verdict"), "✓ No difference");
+  await page.key("Home");
+  assert.equal(await page.run("document.getElementById('free-8').value"), "600");
+  await page.click("#forget");
+  await isIdle();
+});
+
+test("a cell is chosen on the map; only free ones can be written", async () => {
+  await page.type("#pick", "300");
+  assert.equal(await page.run("document.querySelectorAll('#inspected form').length"), 0);
+  assert.match(await said("#inspected"), /Sandbox/);
+  await page.type("#pick", "700");
+  await page.type("#new-value", "0x10");
+  await isIdle();
+  await page.until("document.querySelector('#inspected').textContent.includes('16')");
+  assert.equal(await said("#twin .verdict"), "✓ No difference");
+});
+
+test("a look ahead says what would be ordered, and touches nothing", async () => {
+  await page.type("#if", "1500 1960");
+  const shown = await page.run("[...document.querySelectorAll('ol.foreseen li')].map((item) => item.textContent)");
+  assert.deepEqual(shown, ["gas80", "charge1", "bean1500", "bean1960", "gas45"]);
+  assert.match(await said("#foreseen"), /probe silent \(24\)/);
+  assert.match(await said("#foreseen"), /The sandbox would then hold 256: 0 → 1500, 257: 0 → 1960\./);
+  assert.match(await said("#foreseen"), /✓ Memory and registers are as they were\./);
+  assert.equal(await at(), 0);
+});
+
+test("without the mask: the checker refuses the list, and the purge timer is overwritten", async () => {
+  const shown = await said("#unmasked");
+  assert.match(shown, /The checker refuses it as bad bundle \(11\) at bundle 9, line 13\./);
+  assert.match(shown, /The routine changes what is not its own/);
+  assert.match(shown, /purge timer6001500/);
+  await page.run("(() => { const s = document.getElementById('mask-address'); s.selectedIndex = 0; s.dispatchEvent(new Event('change')); })()");
+  await page.until("document.getElementById('unmasked').textContent.includes('No difference')");
+});
+
+test("curious: an address outside the sandbox is drawn, and without its mask the routine sees the purge timer", async () => {
+  await page.close();
+  page = await browser.page(makePage(CURIOUS), DESKTOP);
+  for (let i = 0; i < 5; i++) await page.key("ArrowRight");
+  assert.match(await said("#now .tell"), /Address 8 is not in the sandbox: the mask makes it cell 264; it becomes 4000\./);
+  assert.equal(await page.run("document.querySelectorAll('#map .wanted').length"), 1);
+  const shown = await said("#unmasked");
+  assert.match(shown, /The routine sees what is not its own/);
+  assert.match(shown, /r3600/);
+});
+
+test("sample: the stopped event is shown as such", async () => {
+  await page.close();
+  page = await browser.page(makePage(SAMPLE), DESKTOP);
+  await page.key("End");
+  assert.match(await said("#automaton .stopped"), /gas: stopped/);
+  assert.match(await said("#allowed .stopped"), /gas: stopped/);
+  assert.match(await said("#pause"), /Stopped by the policy\. gas was not sent/);
+});
+
+test("colours are switched", async () => {
+  const back = () => page.run("getComputedStyle(document.body).backgroundColor");
+  const light = await back();
+  await page.click("#theme");
+  assert.notEqual(await back(), light);
+  await page.click("#theme");
+  assert.equal(await back(), light);
+});

@@ -1,0 +1,122 @@
+// The page's form, at five widths, light and dark, in four situations; names of all controls for a screen reader; a policy of 16
+// states; and a run of 10,000 commands that does not freeze the page.
+import assert from "node:assert/strict";
+import { readFileSync } from "node:fs";
+import { after, before, test } from "node:test";
+import { EXAMPLES, makePage, write } from "../command.mjs";
+import { browserName, openBrowser } from "./chromium.mjs";
+import { lookAtForm } from "./form.mjs";
+import { see, text } from "./seen.mjs";
+
+const [ROAST] = EXAMPLES;
+const DESKTOP = { width: 1280, height: 900 };
+const SIZES = [
+  { width: 320, height: 640, isPhone: true },
+  { width: 390, height: 844, isPhone: true },
+  { width: 820, height: 1100 },
+  DESKTOP,
+  { width: 1920, height: 1080 },
+];
+const GOOD = { low: [], cut: [], small: [], isWide: false, hasTexts: true };
+
+/** What is done on the page before it is looked at. */
+const SITUATIONS = {
+  "at first": "",
+  "at the end": "document.getElementById('do-end').click()",
+  "by command": "document.getElementById('do-reset').click(); document.getElementById('by-command').click(); document.getElementById('do-step').click()",
+  "in hexadecimal, arrows as text": "document.querySelector('input[value=hexadecimal]').click(); document.querySelector('details').open = true",
+};
+
+let browser;
+before(async () => (browser = await openBrowser(browserName())));
+after(() => browser.close());
+
+for (const example of EXAMPLES) {
+  for (const isDark of [false, true]) {
+    test(`${example.name}, ${isDark ? "dark" : "light"}: contrast, nothing cut, nothing over another, no sideways scrolling`, async () => {
+      const file = makePage(example);
+      for (const size of SIZES) {
+        const page = await browser.page(file, { ...size, isDark });
+        for (const [situation, code] of Object.entries(SITUATIONS)) {
+          await page.run(`${code}; null`);
+          await page.settle();
+          assert.deepEqual(await see(page, lookAtForm), GOOD, `${size.width} ${situation}`);
+        }
+        await page.close();
+      }
+    });
+  }
+}
+
+const ROLES = ["button", "textbox", "slider", "switch", "radio", "spinbutton", "checkbox", "combobox", "link", "image", "img", "region", "group", "progressbar"];
+
+test("every control has a name for a screen reader", async () => {
+  const page = await browser.page(makePage(ROAST), DESKTOP);
+  await page.call("Accessibility.enable");
+  const { nodes } = await page.call("Accessibility.getFullAXTree");
+  const controls = nodes.filter(({ ignored, role }) => !ignored && ROLES.includes(role?.value));
+  assert.ok(controls.length > 60);
+  assert.deepEqual(controls.filter(({ name }) => !name?.value).map(({ role }) => role.value), []);
+  await page.close();
+});
+
+test("all controls are reached by Tab, and show that they have the focus", async () => {
+  const page = await browser.page(makePage(ROAST), DESKTOP);
+  const wanted = await page.run("[...document.querySelectorAll('button:not(:disabled), input, select, summary')].length");
+  const seen = new Set();
+  for (let i = 0; i < 4 * wanted; i++) {
+    await page.key("Tab");
+    const focus = await page.run(`(() => { const e = document.activeElement; const shown = e.matches("[type=checkbox], [type=radio]") ? e.nextElementSibling : e;
+      const s = getComputedStyle(shown); return { key: e.id || e.outerHTML.slice(0, 120), isShown: s.outlineStyle !== "none" && parseFloat(s.outlineWidth) >= 2, isBody: e === document.body }; })()`);
+    if (focus.isBody) break;
+    assert.ok(focus.isShown, focus.key);
+    seen.add(focus.key);
+  }
+  for (const id of ["do-step", "do-event", "do-play", "do-end", "slider", "by-command", "if", "readings", "budget", "log", "pick", "mask-of", "mask-address", "free-8", "theme"]) {
+    assert.ok(seen.has(id), id);
+  }
+  await page.close();
+});
+
+/** The roast's drum with room for a policy of so many states. */
+function drumFor(states) {
+  const [, , drum] = ROAST.files;
+  return write(`${states}.drum`, readFileSync(drum, "utf8").replace(/^S \d+/m, `S ${states}`));
+}
+
+test("a policy of 16 states is drawn legibly, at a phone's width too", async () => {
+  const all = Array.from({ length: 16 }, (_, s) => `state stage-${s}\n  gas -> stage-${(s + 1) % 16}\n  air -> stage-${(s * 5) % 16}\n  door -> stage-0\n  others -> stage-${s}\n`);
+  const policy = write("stages.policy", `${all.join("")}start stage-0\n`);
+  const [routine] = ROAST.files;
+  const file = makePage({ name: "stages", files: [routine, "--drum", drumFor(16), "--policy", policy], readings: ROAST.readings });
+  for (const size of SIZES) {
+    const page = await browser.page(file, size);
+    for (let i = 0; i < 8; i++) await page.key("ArrowRight");
+    await page.settle();
+    assert.equal(await page.run("document.querySelectorAll('#automaton .state').length"), 16);
+    assert.equal(await page.run("document.querySelectorAll('#automaton .state.now').length"), 1);
+    assert.deepEqual(await see(page, lookAtForm), GOOD, String(size.width));
+    await page.close();
+  }
+});
+
+const LOOP = "loop: ADD r1, r1, r2\n STORE r3, r1\n GOIF r0, r0, always, loop\n";
+const LONGEST_GAP = 250; // milliseconds in which the page does not answer
+
+test("10,000 commands: a bar moves, and the page answers all the while", async () => {
+  const files = [write("loop.routine", LOOP), ...ROAST.files.slice(1)];
+  const page = await browser.page(makePage({ name: "loop", files }), DESKTOP);
+  await page.run(`(() => { globalThis.gaps = []; globalThis.bars = new Set(); let last = performance.now();
+    const turn = () => { const now = performance.now(); gaps.push(now - last); last = now; const bar = document.getElementById("bar");
+      if (!bar.hidden) bars.add(bar.querySelector("progress").value); globalThis.timer = setTimeout(turn); }; turn(); })()`);
+  await page.type("#budget", "10000");
+  await page.until("document.getElementById('bar').hidden && document.getElementById('where').textContent.includes('of 3333')");
+  const { longest, bars } = await page.run("({ longest: Math.max(...gaps), bars: [...bars] })");
+  assert.ok(bars.length > 2, `${bars}`);
+  assert.ok(longest < LONGEST_GAP, `${longest} ms`);
+  await page.click("#do-end");
+  assert.match(await see(page, text, "#pause"), /This page stops at 10000 commands/);
+  await page.close();
+});
+
+test("no error in the console, no request to anything", () => assert.deepEqual(browser.complaints(), []));

@@ -1,0 +1,43 @@
+// Were the library ever wrong, the page says so above all else: it is opened with a library that was spoilt on its way in.
+import assert from "node:assert/strict";
+import { readFileSync, writeFileSync } from "node:fs";
+import { after, before, test } from "node:test";
+import { EXAMPLES, makePage } from "../command.mjs";
+import { browserName, openBrowser } from "./chromium.mjs";
+import { see, text } from "./seen.mjs";
+
+const DESKTOP = { width: 1280, height: 900 };
+
+let browser;
+before(async () => (browser = await openBrowser(browserName())));
+after(() => browser.close());
+
+/** A page whose library does something more after a call: `code` sees the call's arguments and the memory's numbers. */
+function spoiltPage(name, call, code) {
+  const hook = `<script>{ const real = WebAssembly.instantiate; WebAssembly.instantiate = async (...given) => {
+    const { instance } = await real(...given); const exports = { ...instance.exports };
+    exports.${call} = (...args) => { instance.exports.${call}(...args); const numbers = new Uint32Array(exports.memory.buffer); ${code} };
+    return { instance: { exports } }; }; }</script>`;
+  const file = makePage({ ...EXAMPLES[0], name });
+  writeFileSync(file, readFileSync(file, "utf8").replace("<header>", `${hook}<header>`));
+  return file;
+}
+
+/** Where a call's pointers stand among its arguments, as in the header. */
+const ENGINE_RECORD = 3;
+const MACHINE_RECORD = 3;
+const MEMORY = 4;
+
+for (const [what, call, code, sentence] of [
+  ["an engine that adds one", "hemdroas_engine_run", `numbers[args[${ENGINE_RECORD}] / 4 + 3] += 1;`, /Engine and machine do not agree, from command \d+ on/],
+  ["a machine that sees the purge timer", "hemdroas_run", `numbers[args[${MACHINE_RECORD}] / 4 + 9] = numbers[args[${MEMORY}] / 4 + 8];`, /The routine saw the free cells, from command \d+ on/],
+  ["a machine that writes a free cell", "hemdroas_run", `numbers[args[${MEMORY}] / 4 + 600] = 1;`, /A free cell was changed, from command \d+ on/],
+]) {
+  test(`${what} is told loudly`, async () => {
+    const page = await browser.page(spoiltPage(call, call, code), DESKTOP);
+    assert.equal(await page.run("document.getElementById('loud').hidden"), false);
+    assert.match(await see(page, text, "#loud"), sentence);
+    assert.match(await see(page, text, "#loud"), /^This should never happen\./);
+    await page.close();
+  });
+}

@@ -1,0 +1,77 @@
+// The page of each example, opened from a disk and driven by keys and clicks through a whole roast; what it shows is compared
+// with what the command says.
+import assert from "node:assert/strict";
+import { readFileSync } from "node:fs";
+import { after, before, test } from "node:test";
+import { join } from "node:path";
+import { EXAMPLES, dataOf, folder, hemdroas, makePage, objects } from "../command.mjs";
+import { browserName, openBrowser } from "./chromium.mjs";
+import { commands, lastStep, record, see, text } from "./seen.mjs";
+
+const DESKTOP = { width: 1280, height: 900 };
+const MOST_BYTES = 120_000; // of a page without its data
+
+let browser;
+before(async () => (browser = await openBrowser(browserName())));
+after(() => browser.close());
+
+/** What hemdroas step says of each step: only what changed. */
+function changesOf(steps) {
+  let old = Array(15).fill(0);
+  return steps.map(({ line, registers, cells, pair, state }) => {
+    const changed = registers.flatMap((value, r) => (value === old[r] ? [] : [[r, old[r], value]]));
+    old = registers;
+    return { line, registers: changed, cells: cells.map(({ cell, from, to }) => [cell, from, to]), pair: pair && [pair.event, pair.value], state };
+  });
+}
+
+for (const example of EXAMPLES) {
+  test(`${example.name}: a whole roast by the right arrow, as hemdroas step has it`, async () => {
+    const page = await browser.page(makePage(example), DESKTOP);
+    const steps = objects("step", ...example.files, "--readings", example.readings.join(), "--all").filter(({ type }) => type === "step");
+    const seen = [];
+    for (let i = 0; i < steps.length; i++) {
+      await page.key("ArrowRight");
+      seen.push(await see(page, lastStep));
+    }
+    assert.deepEqual(seen, changesOf(steps).map((step) => ({ ...step, line: step.line ?? 0 })));
+    assert.ok(await page.run("document.getElementById('do-step').disabled"));
+    for (let i = steps.length - 2; i >= 0; i--) {
+      await page.key("ArrowLeft");
+      assert.deepEqual(await see(page, lastStep), seen[i]);
+    }
+    await page.close();
+  });
+
+  test(`${example.name}: record, ending and counts as hemdroas run has them`, async () => {
+    const page = await browser.page(makePage(example), DESKTOP);
+    await page.click("#do-end");
+    const all = objects("run", ...example.files, "--readings", example.readings.join());
+    const end = all.at(-1);
+    assert.deepEqual(await see(page, record), all.filter(({ type }) => type === "pair").map(({ event, value }) => [event, value]));
+    const sum = await see(page, text, "#pause .sum");
+    assert.ok(sum.startsWith(`${end.word} (${end.ending}): ${end.steps} command`), sum);
+    assert.match(sum, new RegExp(`${end.pairs} pairs?, ${end.readings} readings? used`));
+    await page.close();
+  });
+
+  test(`${example.name}: the commands as hemdroas list has them`, async () => {
+    const page = await browser.page(makePage(example), DESKTOP);
+    await page.click(".switch .track");
+    const bytes = join(folder, "routine.bytes");
+    const [routine, , drum] = example.files;
+    hemdroas("assemble", routine, "--drum", drum, "-o", bytes);
+    const listed = [...hemdroas("list", bytes, "--drum", drum, "--bundles").out.matchAll(/^ *# +(\d+) {2}(.*)$/gm)].map(([, at, said]) => `${at} ${said}`);
+    const shown = await see(page, commands);
+    assert.ok(shown.length > 0);
+    assert.deepEqual(shown, listed.slice(0, shown.length));
+    await page.close();
+  });
+
+  test(`${example.name}: the page is under 120 KB without its data`, () => {
+    const file = makePage(example);
+    assert.ok(readFileSync(file).length - Buffer.byteLength(dataOf(file)) < MOST_BYTES);
+  });
+}
+
+test("no error in the console, no request to anything", () => assert.deepEqual(browser.complaints(), []));

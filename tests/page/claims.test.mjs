@@ -1,0 +1,176 @@
+// What the page shows of the claims: free cells written at any moment, the loud failure, the list without a mask, the preview,
+// and long runs in slices.
+import assert from "node:assert/strict";
+import { test } from "node:test";
+import { Library } from "../../web/library/binding.mjs";
+import { ENDING, answerText } from "../../web/library/header.mjs";
+import { readNumber, readNumbers } from "../../web/model/numbers.mjs";
+import { policyModel } from "../../web/model/policy.mjs";
+import { Preview } from "../../web/model/preview.mjs";
+import { Session } from "../../web/model/session.mjs";
+import { jumpReason } from "../../web/model/story.mjs";
+import { Trace, lendBench } from "../../web/model/trace.mjs";
+import { AS_WRITTEN, differences, maskedInstructions, withoutMask } from "../../web/model/unmasked.mjs";
+import { EXAMPLES, ROOT, write } from "./command.mjs";
+import { library, open, pageOf, spoiltLibrary } from "./lesson.mjs";
+
+const [ROAST, SAMPLE, CURIOUS] = EXAMPLES;
+const PURGE = 8;
+
+test("a free cell takes what the viewer writes, at any moment, and nothing else changes", async () => {
+  const page = pageOf(CURIOUS);
+  const plain = await open(page);
+  const session = await open(page, { writes: [{ at: 0, cell: PURGE, value: 5 }, { at: 17, cell: PURGE, value: 0 }, { at: 30, cell: 9, value: 77 }] });
+  assert.deepEqual(session.trace.frames.map((f) => f.machine), plain.trace.frames.map((f) => f.machine));
+  assert.deepEqual(session.trace.events, plain.trace.events);
+  session.setByCommand(true);
+  for (const [at, value] of [[0, 5], [16, 5], [17, 0], [40, 0]]) {
+    session.go(at);
+    assert.equal(session.now.memory[PURGE], value);
+    assert.notEqual(session.now.there.memory[PURGE], value);
+    assert.deepEqual(session.failures, []);
+  }
+  assert.equal(session.now.memory[9], 77);
+});
+
+test("a cell that is not free stays as it is, whatever is asked", async () => {
+  const page = pageOf(ROAST);
+  const session = await open(page, { writes: [{ at: 0, cell: page.layout[1], value: 7 }] });
+  assert.equal(session.now.memory[page.layout[1]], 0);
+});
+
+/** What each fault of a library must bring. */
+const FAULTS = {
+  "Engine and machine do not agree": (lib) => {
+    lib.engineRun = function (layout, routine, engine, ...rest) {
+      const answer = Library.prototype.engineRun.call(this, layout, routine, engine, ...rest);
+      engine[3] += 1;
+      return answer;
+    };
+  },
+  "The routine saw the free cells": (lib) => {
+    lib.run = function (layout, commands, machine, memory, stretch) {
+      const answer = Library.prototype.run.call(this, layout, commands, machine, memory, stretch);
+      machine[14] = memory[PURGE];
+      return answer;
+    };
+  },
+  "A free cell was changed": (lib) => {
+    lib.run = function (layout, commands, machine, memory, stretch) {
+      const answer = Library.prototype.run.call(this, layout, commands, machine, memory, stretch);
+      memory[PURGE] = 1;
+      return answer;
+    };
+  },
+  "The run in one go and command by command came out differently": (lib) => {
+    lib.run = function (layout, commands, machine, memory, stretch) {
+      const answer = Library.prototype.run.call(this, layout, commands, machine, memory, stretch);
+      if (stretch.budget > 1) machine[2] += 1;
+      return answer;
+    };
+  },
+};
+
+for (const [what, spoil] of Object.entries(FAULTS)) {
+  test(`a library at fault is noticed: ${what}`, async () => {
+    const session = await open(pageOf(ROAST), {}, await spoiltLibrary(spoil));
+    session.go(session.last);
+    assert.ok(session.failures.some((failure) => failure.what === what), JSON.stringify(session.failures));
+  });
+}
+
+async function unmask(example, instruction, cell) {
+  const session = await open(pageOf(example));
+  const bare = withoutMask(session.lib, session.facts, instruction, cell);
+  const trace = new Trace(session.lib, bare, session.given, lendBench(session.lib, session.facts), { withEngine: false });
+  for (const _ of trace.run()) continue;
+  return { bare, found: differences(trace), trace };
+}
+
+test("without the mask of a LOAD the checker refuses bundle 3, and the routine sees the purge timer", async () => {
+  const { bare, found } = await unmask(CURIOUS, 3, AS_WRITTEN);
+  assert.equal(answerText(bare.answer.number), "bad bundle (11)");
+  assert.equal(bare.answer.place, 3);
+  assert.ok(found.isSeen);
+  const [seen] = found.then.apart;
+  assert.deepEqual([seen.what, seen.here], ["r3", 600]);
+  assert.notEqual(seen.there, 600);
+});
+
+test("without the mask of a STORE the purge timer is overwritten", async () => {
+  const { bare, found } = await unmask(CURIOUS, 4, AS_WRITTEN);
+  assert.equal(bare.answer.place, 4);
+  assert.deepEqual(found.then.moved, [{ cell: PURGE, wrote: 600, now: 4000 }]);
+});
+
+test("a routine that keeps to its sandbox can be aimed at a free cell", async () => {
+  const session = await open(pageOf(ROAST));
+  const [store] = maskedInstructions(session.facts);
+  assert.equal((await unmask(ROAST, store, AS_WRITTEN)).found, null);
+  const { bare, found } = await unmask(ROAST, store, PURGE);
+  assert.equal(bare.answer.place, store);
+  assert.deepEqual(found.then.moved, [{ cell: PURGE, wrote: 600, now: 1500 }]);
+});
+
+test("every mask of every example is refused when it is taken out", async () => {
+  for (const example of [ROAST, SAMPLE, CURIOUS]) {
+    const session = await open(pageOf(example));
+    for (const instruction of maskedInstructions(session.facts)) {
+      const { answer } = withoutMask(session.lib, session.facts, instruction, AS_WRITTEN);
+      assert.deepEqual([answer.number, answer.place], [11, instruction]);
+    }
+  }
+});
+
+test("a preview answers as the run does that follows, and touches nothing", async () => {
+  const session = await open(pageOf(ROAST));
+  session.go(12);
+  const preview = new Preview(session.lib, session.facts);
+  const ahead = preview.look(session.now, session.given, [1960, 2100]);
+  assert.ok(ahead.isUntouched);
+  assert.deepEqual(ahead.pairs, session.trace.events.slice(session.now.pairs).map(({ event, value }) => ({ event, value })));
+  assert.equal(ahead.ending, ENDING.ENDED);
+  const last = session.trace.replay(session.trace.frames.length - 1);
+  assert.deepEqual(ahead.cells.map(({ cell, then }) => [cell, then]), [[257, last.memory[257]], [258, last.memory[258]]]);
+});
+
+test("a jump tells its reason", async () => {
+  const session = await open(pageOf(ROAST));
+  session.go(12);
+  const jump = session.jump(session.before, session.now);
+  assert.deepEqual(jumpReason(session.page, jump, "unsigned"), { full: "1500 below 1950: yes, to heat (line 12)", short: "1500 below 1950: yes, to heat" });
+});
+
+const LOOP = "loop: ADD r1, r1, r2\n STORE r3, r1\n GOIF r0, r0, always, loop\n";
+
+test("10,000 commands are run in slices, and a newer run ends an older one", async () => {
+  const drum = ROAST.files.slice(1);
+  const page = pageOf({ name: "loop", files: [write("loop.routine", LOOP), ...drum], readings: [] }, ["--budget", "10000"]);
+  const session = new Session(await library(), page);
+  const told = [];
+  const older = session.run((done) => told.push(done));
+  assert.equal(await older, true);
+  assert.equal(session.trace.frames.length - 1, 10000);
+  assert.ok(told.length > 2 && told.every((done, i) => i === 0 || done > told[i - 1]), `${told}`);
+  const [first, second] = await Promise.all([session.run(), session.run()]);
+  assert.deepEqual([first, second], [false, true]);
+});
+
+test("a policy of 16 states is drawn with all that events lead to", async () => {
+  const order = write("order.policy", "gas before air\nair before door\ndoor before charge\n");
+  const [routine, , drumFile] = ROAST.files;
+  const page = pageOf({ name: "order", files: [routine, "--drum", write("wide.drum", wideDrum(drumFile)), "--policy", order] });
+  const session = await open(page);
+  const model = policyModel(page, session.facts);
+  assert.equal(model.order.length + model.leftOut, 16);
+});
+
+test("a field's text is read, or a sentence says what is wrong with it", () => {
+  assert.deepEqual(readNumbers("1500, 0x10 -1;7"), { values: [1500, 16, 4294967295, 7] });
+  assert.match(readNumbers("1500 hot").problem, /“hot” is no number/);
+  assert.match(readNumbers("4294967296").problem, /more than 32 bits/);
+  assert.deepEqual(readNumber("12", 12), { value: 12 });
+  assert.match(readNumber("13", 12).problem, /up to 12/);
+  assert.match(readNumber("").problem, /Write a number/);
+  assert.match(readNumber("1 2").problem, /one number only/);
+});
