@@ -17,7 +17,7 @@ mod said;
 mod states;
 
 pub use assemble::{assemble, Routine, Shown, Source};
-pub use drum::{drum, landings_text, Drum, Landings, Scales, LETTERS};
+pub use drum::{drum, landings_text, Drum, Landings, NamedCell, Scales, LETTERS};
 pub use kinds::{condition_name, Field};
 pub use listing::{command, instruction, listing, Listed};
 pub use names::Names;

@@ -11,7 +11,7 @@ import { Session } from "../../web/model/session.mjs";
 import { jumpReason } from "../../web/model/story.mjs";
 import { Trace, lendBench } from "../../web/model/trace.mjs";
 import { AS_WRITTEN, differences, maskedInstructions, withoutMask } from "../../web/model/unmasked.mjs";
-import { EXAMPLES, ROOT, write } from "./command.mjs";
+import { EXAMPLES, write } from "./command.mjs";
 import { library, open, pageOf, spoiltLibrary } from "./lesson.mjs";
 
 const [ROAST, SAMPLE, CURIOUS] = EXAMPLES;
@@ -158,8 +158,8 @@ test("10,000 commands are run in slices, and a newer run ends an older one", asy
 
 test("a policy of 16 states is drawn with all that events lead to", async () => {
   const order = write("order.policy", "gas before air\nair before door\ndoor before charge\n");
-  const [routine, , drumFile] = ROAST.files;
-  const page = pageOf({ name: "order", files: [routine, "--drum", write("wide.drum", wideDrum(drumFile)), "--policy", order] });
+  const [routine, , drum] = ROAST.files;
+  const page = pageOf({ name: "order", files: [routine, "--drum", drum, "--policy", order] });
   const session = await open(page);
   const model = policyModel(page, session.facts);
   assert.equal(model.order.length + model.leftOut, 16);

@@ -6,7 +6,7 @@ import { join, resolve } from "node:path";
 
 export const ROOT = resolve(import.meta.dirname, "../..");
 export const WASM = join(ROOT, "target/portable/wasm32-unknown-unknown/hemdroas.wasm");
-const COMMAND = process.env.HEMDROAS ?? join(ROOT, "rust/target/release/hemdroas");
+const COMMAND = process.env.HEMDROAS ?? join(ROOT, "target/rust/release/hemdroas");
 
 /** Runs the command: its status and what it said. */
 export function hemdroas(...args) {
@@ -30,7 +30,7 @@ const example = (name, { drum = name, policy = drum } = {}) => ({
 export const EXAMPLES = [
   { ...example("roast"), readings: [1500, 1960, 2100] },
   { ...example("sample"), readings: [1800, 1950, 2100] },
-  { ...example("curious"), readings: [1500, 4100] },
+  { ...example("curious", { drum: "roast" }), readings: [1500, 4100] },
 ];
 
 export const folder = mkdtempSync(join(tmpdir(), "hemdroas-page-"));

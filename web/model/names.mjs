@@ -11,13 +11,8 @@ export const labelOf = (page, instruction) => Object.keys(page.labels).find((lab
 /** The line of an instruction, from 1; null behind the last. */
 export const lineOf = (page, instruction) => page.lines[instruction] ?? null;
 
-/** An instruction as its line has it, without label and comment. */
-export function instructionText(page, instruction) {
-  const line = lineOf(page, instruction);
-  if (line === null) return "HALT";
-  const [said] = page.source[line - 1].split("#");
-  return said.replace(/^\s*([^\s:]+:\s*)*/, "").trim();
-}
+/** An instruction as its line has it, without label and comment; behind the last stands HALT. */
+export const instructionText = (page, instruction) => page.texts[instruction] ?? "HALT";
 
 export function placeText(page, instruction) {
   const line = lineOf(page, instruction);

@@ -8,7 +8,7 @@ import { byId, h, reveal, sign, spoken } from "./dom.mjs";
 import { drawJumps } from "./jumps.mjs";
 
 const PC = offsetOf("machine", "pc");
-const LINE = /^(\s*(?:[^\s:#]+:)?)([^#]*)(#.*)?$/;
+const LINE = /^(\s*(?:landing\b\s*)?(?:[^\s:#]+:\s*)*)([^#]*)(#.*)?$/i; // marks and labels, instruction, comment
 const INDENT = 2;
 const REVEAL_MARGIN = 70;
 
@@ -16,7 +16,7 @@ const REVEAL_MARGIN = 70;
 function coloured(text) {
   const [, label, code, comment] = text.match(LINE);
   const [, space, name, rest] = code.match(/^(\s*)(\S*)(.*?)\s*$/);
-  const isIndent = (label + space).trim() === "";
+  const isIndent = label.trim() === "";
   const start = isIndent ? " ".repeat(Math.min(INDENT, (label + space).length)) : [h("span", { class: "label" }, label), space];
   const note = comment ? h("span", { class: name ? "comment beside" : "comment" }, comment) : null;
   return [start, h("span", { class: "op" }, name), rest, note];

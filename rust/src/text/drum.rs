@@ -1,4 +1,5 @@
-//! Drum files: a layout, its landings, ceilings and scales, and names of events.
+//! Drum files: a layout, its landings, ceilings and scales, and names of events
+//! and of the drum's own cells.
 
 use super::said::{lines, quoted, Fault, Faults, Parsed, Place, Said};
 use super::{number, Names};
@@ -28,6 +29,19 @@ impl Landings {
 /// are tenths.
 pub type Scales = [u32; EVENTS as usize];
 
+/// A cell of the drum's own that the file names.
+#[derive(Clone, Debug, PartialEq, Eq)]
+pub struct NamedCell {
+    /// Its address.
+    pub cell: u32,
+    /// Where the file has the address.
+    pub place: Place,
+    /// What it holds before a routine is installed.
+    pub value: u32,
+    /// Its name, of one or more words.
+    pub name: String,
+}
+
 /// The layout's numbers, in the rules' order.
 pub const LETTERS: [&str; 8] = ["U", "SL", "SH", "M", "P", "S", "B", "Q"];
 
@@ -53,6 +67,8 @@ pub struct Drum {
     pub names: Names,
     /// The scales of events.
     pub scales: Scales,
+    /// The drum's own cells that have names.
+    pub cells: Vec<NamedCell>,
 }
 
 impl Drum {
@@ -166,6 +182,7 @@ struct Reader {
     ceilings: Ceilings,
     scales: Scales,
     names: Names,
+    cells: Vec<NamedCell>,
 }
 
 impl Reader {
@@ -179,10 +196,11 @@ impl Reader {
                 set_ceiling(&mut self.ceilings, &self.names, words[1], words[2])
             }
             ["scale", _, _] => self.scale(words[1], words[2]),
+            ["cell", _, _, _, ..] => self.cell(words[1], words[2], &texts[3..].join(" ")),
             [letter, _] if LETTERS.contains(&letter) => self.number(words[0], words[1]),
             _ => Err(words[0].fault(format!(
                 "{} begins no line of a drum: they are U 1024 (or SL SH M P S B Q), landings 0 3 8-15, \
-                 ceiling EVENT 100, scale EVENT 10, event 0 NAME",
+                 ceiling EVENT 100, scale EVENT 10, event 0 NAME, cell 8 600 NAME",
                 quoted(words[0].text)
             ))),
         }
@@ -218,6 +236,21 @@ impl Reader {
                 listed.truncate(2 * MOST_BUNDLES);
             }
         }
+        Ok(())
+    }
+
+    fn cell(&mut self, address: Said, value: Said, name: &str) -> Result<(), Fault> {
+        let cell = address.check(number(address.text))?;
+        let value = value.check(number(value.text))?;
+        if self.cells.iter().any(|named| named.cell == cell) {
+            return Err(address.fault(format!("cell {cell} stands twice")));
+        }
+        self.cells.push(NamedCell {
+            cell,
+            place: address.place(),
+            value,
+            name: name.to_string(),
+        });
         Ok(())
     }
 
@@ -273,6 +306,7 @@ impl Reader {
             landings: self.landings?,
             names: self.names,
             scales: self.scales.map(|scale| scale.max(1)),
+            cells: self.cells,
         })
     }
 }
@@ -288,6 +322,7 @@ pub fn drum(text: &[u8]) -> Parsed<Drum> {
         ceilings: UNLIMITED,
         scales: [0; EVENTS as usize],
         names,
+        cells: Vec::new(),
     };
     for words in &said {
         faults.keep(reader.line(words));

@@ -1,7 +1,6 @@
 // The page's form, at five widths, light and dark, in four situations; names of all controls for a screen reader; a policy of 16
 // states; and a run of 10,000 commands that does not freeze the page.
 import assert from "node:assert/strict";
-import { readFileSync } from "node:fs";
 import { after, before, test } from "node:test";
 import { EXAMPLES, makePage, write } from "../command.mjs";
 import { browserName, openBrowser } from "./chromium.mjs";
@@ -78,17 +77,11 @@ test("all controls are reached by Tab, and show that they have the focus", async
   await page.close();
 });
 
-/** The roast's drum with room for a policy of so many states. */
-function drumFor(states) {
-  const [, , drum] = ROAST.files;
-  return write(`${states}.drum`, readFileSync(drum, "utf8").replace(/^S \d+/m, `S ${states}`));
-}
-
 test("a policy of 16 states is drawn legibly, at a phone's width too", async () => {
   const all = Array.from({ length: 16 }, (_, s) => `state stage-${s}\n  gas -> stage-${(s + 1) % 16}\n  air -> stage-${(s * 5) % 16}\n  door -> stage-0\n  others -> stage-${s}\n`);
   const policy = write("stages.policy", `${all.join("")}start stage-0\n`);
-  const [routine] = ROAST.files;
-  const file = makePage({ name: "stages", files: [routine, "--drum", drumFor(16), "--policy", policy], readings: ROAST.readings });
+  const [routine, , drum] = ROAST.files;
+  const file = makePage({ name: "stages", files: [routine, "--drum", drum, "--policy", policy], readings: ROAST.readings });
   for (const size of SIZES) {
     const page = await browser.page(file, size);
     for (let i = 0; i < 8; i++) await page.key("ArrowRight");

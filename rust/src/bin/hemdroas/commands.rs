@@ -2,7 +2,7 @@
 
 use super::args::{Args, Files};
 use super::problem::Done;
-use super::{check, policies, preview, routines, running, step};
+use super::{check, page, policies, preview, routines, running, step};
 
 /// An option: its value's name is empty for a flag.
 pub struct Opt {
@@ -132,6 +132,18 @@ pub const COMMANDS: &[Command] = &[
         needed: &[&DRUM, &POLICY],
         options: &[&READINGS, &INSTRUCTIONS, &ALL, &JSON],
         run: step::step,
+    },
+    Command {
+        name: "page",
+        operands: "FILE",
+        line: "writes one HTML file in which the proved library runs a routine",
+        about: "A browser opens it from the disk: it needs no network and no other file. A routine that\n\
+                check refuses is refused in the same words, and nothing is written. A page takes up to\n\
+                10000 steps, 4096 cells of log and 4096 readings; the viewer can change them.\n",
+        files: Files::Exactly(1),
+        needed: &[&DRUM, &POLICY, &OUT],
+        options: &[&READINGS, &STEPS, &LOG],
+        run: page::page,
     },
     Command {
         name: "policy precedence",

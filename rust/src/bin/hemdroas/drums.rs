@@ -7,7 +7,7 @@ use super::problem::{faulty, Problem};
 use super::report::Report;
 use super::sources::Routine;
 use hemdroas::names::{BUNDLE_LENGTH, MOST_BUNDLES};
-use hemdroas::text::{self, Drum, Landings, Names, Place};
+use hemdroas::text::{self, Drum, Landings, NamedCell, Names, Place};
 use hemdroas::{Answer, Layout, Refusal};
 
 /// The place of B among the letters of a drum's file.
@@ -56,6 +56,30 @@ impl DrumFile {
             Refusal::BadLandings => Err(self.bad_landings().into()),
             _ => Err(routine.refused(refusal, place)),
         }
+    }
+
+    /// Writes what the drum's own cells hold at first. They must be free: outside
+    /// the sandbox, and not among those that installing made equal in two
+    /// memories which differed everywhere.
+    pub fn write_cells(
+        &self,
+        layout: &Layout,
+        memory: &mut [u32],
+        other: &[u32],
+    ) -> Result<(), Problem> {
+        for NamedCell { cell, place, value, .. } in &self.drum.cells {
+            let at = *cell as usize;
+            let is_written = memory.get(at) == other.get(at);
+            if is_written || (layout.low..=layout.high).contains(cell) {
+                let message = format!(
+                    "cell {cell} is not the drum's own: name one below U and outside sandbox, \
+                     state cell, table and landing cells"
+                );
+                return Err(Report::error(&self.path, message).at(&self.content, *place).into());
+            }
+            memory[at] = *value;
+        }
+        Ok(())
     }
 
     fn report(&self, refusal: Refusal, place: Place, message: String) -> Report {

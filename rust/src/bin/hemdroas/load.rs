@@ -150,6 +150,9 @@ impl Setup {
             return Err(Report::refusal(&policy.path, Refusal::BadPolicy, message).into());
         }
         self.drum.taken(layout, &checked.routine, answer)?;
+        let mut other = vec![u32::MAX; memory.len()];
+        let _ = native::install(layout, &table.policy(), &checked.landings, &mut other);
+        self.drum.write_cells(layout, &mut memory, &other)?;
         Ok(Loaded {
             names: self.names.clone(),
             scales: self.drum.drum.scales,

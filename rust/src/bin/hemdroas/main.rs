@@ -18,6 +18,7 @@ mod layouts;
 mod load;
 mod making;
 mod orders;
+mod page;
 mod placed;
 mod policies;
 mod preview;

@@ -7,15 +7,9 @@ use super::json::object;
 use super::problem::{Done, Problem, Status};
 use super::report::{Level, Report};
 use super::sources::{commands, Routine};
-use hemdroas::names::{BUNDLE_LENGTH, MOST_INSTRUCTIONS};
+use hemdroas::names::BUNDLE_LENGTH;
 use hemdroas::text::{command, listing, objections, Names};
 use hemdroas::{model, native, Answer, Refusal};
-
-/// The most bytes of an instruction: a map, five fields of one byte, one of four.
-const LONGEST_INSTRUCTION: usize = 10;
-
-/// The most bytes of a routine.
-const LONGEST_ROUTINE: usize = 2 + LONGEST_INSTRUCTION * MOST_INSTRUCTIONS;
 
 /// Warns of jumps behind the end: such a routine has bytes, but no drum takes it.
 fn warn_of_jumps(routine: &Routine) {
@@ -41,9 +35,7 @@ pub fn assemble(args: &Args) -> Done {
         let said = "the file holds bytes already; 'hemdroas list' prints them as text";
         return Err(Report::error(args.file(0), said).into());
     }
-    let mut bytes = vec![0; LONGEST_ROUTINE];
-    let count = routine.taken(native::write(&routine.words, &mut bytes))?;
-    files::write(out, &bytes[..count as usize])?;
+    files::write(out, &routine.bytes()?)?;
     warn_of_jumps(&routine);
     Ok(Status::Well)
 }

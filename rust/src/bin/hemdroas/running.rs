@@ -17,10 +17,10 @@ use std::collections::VecDeque;
 const LARGEST_LOG: u32 = 1 << 20;
 
 /// The steps of a run that is given no budget.
-const USUAL_BUDGET: u32 = 1000;
+pub const USUAL_BUDGET: u32 = 1000;
 
 /// The cells of a log that is given no length.
-const USUAL_LOG: u32 = 64;
+pub const USUAL_LOG: u32 = 64;
 
 /// The scale with the most decimals, for a reading whose event is not known yet.
 const FINEST_SCALE: u32 = 1000;

@@ -8,6 +8,12 @@ use hemdroas::names::{MOST_COMMANDS, MOST_INSTRUCTIONS};
 use hemdroas::text::{self, backward, objections, refused_bytes, Listed, Names, Objection};
 use hemdroas::{native, Answer, Layout, Refusal};
 
+/// The most bytes of an instruction: a map, five fields of one byte, one of four.
+const LONGEST_INSTRUCTION: usize = 10;
+
+/// The most bytes of a routine.
+const LONGEST_ROUTINE: usize = 2 + LONGEST_INSTRUCTION * MOST_INSTRUCTIONS;
+
 /// A routine, from text or bytes.
 pub struct Routine {
     pub path: String,
@@ -78,6 +84,22 @@ impl Routine {
         };
         routine.taken(answer)?;
         Ok(routine)
+    }
+
+    /// The routine's bytes.
+    pub fn bytes(&self) -> Result<Vec<u8>, Problem> {
+        let mut bytes = vec![0; LONGEST_ROUTINE];
+        let count = self.taken(native::write(&self.words, &mut bytes))?;
+        bytes.truncate(count as usize);
+        Ok(bytes)
+    }
+
+    /// The routine's text: as it was written, or as its bytes are listed.
+    pub fn source(&self) -> String {
+        match self.text {
+            Some(_) => String::from_utf8_lossy(&self.content).into_owned(),
+            None => text::listing(&self.listed(false), |_| Vec::new()),
+        }
     }
 
     /// How the routine is listed.
