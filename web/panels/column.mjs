@@ -24,7 +24,8 @@ const LABEL_ROOM = 150;
 const SMALLEST_WIDTH = 350;
 const NEXT_WIDTH = 26;
 const GAP = 44;
-const STOP_RADIUS = 8;
+const STOP_RADIUS = 7;
+const STOP_LINES = 1; // room for the event that is stopped
 
 const distance = ({ row }, from, to) => Math.abs(row.get(to) - row.get(from));
 const isNext = ({ row }, from, to) => to !== null && row.get(to) === row.get(from) + 1;
@@ -64,7 +65,7 @@ function heights(model, wide) {
   for (const state of model.order) {
     const { loop, none, next, far } = wordsOf(model, state, wide);
     tops.set(state, y);
-    const below = Math.max(0, (loop.length + none.length) * LINE - TALL, far.length * FAR_LINE - TALL);
+    const below = Math.max(0, (loop.length + none.length + STOP_LINES) * LINE - TALL - GAP / 2, far.length * FAR_LINE - TALL);
     y += TALL + below + GAP + Math.max(0, next.length - 1) * LINE;
   }
   return { tops, height: y };
@@ -127,14 +128,15 @@ const startMark = ({ middle }) =>
     svg("path", { d: `M${middle} ${TOP - 28}V${TOP - 8}` }),
     svg("path", { class: "head", d: `M${middle} ${TOP - 1}l-5-9h10z` }));
 
-function stoppedMark({ left }, bottom, text) {
-  const x = left + 22;
-  const y = bottom + 22;
+/** Under the words beside the present state. */
+function stoppedMark(model, state, wide, top, event) {
+  const { loop, none } = wordsOf(model, state, wide);
+  const x = wide.right + LOOP + STOP_RADIUS;
+  const y = top + 12 + (loop.length + none.length) * LINE;
   return svg("g", { class: "stopped" },
-    svg("path", { d: `M${x} ${bottom}v14` }),
     svg("circle", { cx: x, cy: y, r: STOP_RADIUS }),
-    svg("path", { d: `M${x - 4} ${y - 4}l8 8m0-8l-8 8` }),
-    svg("text", { x: x + 14, y: y + 5 }, `${text}: stopped`));
+    svg("path", { d: `M${x - 3} ${y - 3}l6 6m0-6l-6 6` }),
+    svg("text", { x: x + STOP_RADIUS + 5, y: y + 4 }, `${event}: stopped`));
 }
 
 /** present: { state, taken: { from, to } or null, stopped: an event's name or null } */
@@ -146,5 +148,5 @@ export function drawColumn(model, present) {
     model.order.flatMap((s) => arrowsOf(model, s, wide, tops, taken)),
     model.order.map((s) => stateBox(wide, tops.get(s), model.name(s), s === state, s)),
     startMark(wide),
-    stopped && tops.has(state) ? stoppedMark(wide, tops.get(state) + TALL, stopped) : null);
+    stopped && tops.has(state) ? stoppedMark(model, state, wide, tops.get(state), stopped) : null);
 }

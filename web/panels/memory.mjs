@@ -15,7 +15,7 @@ function regionItem(facts, [name, { title, use }]) {
 
 /** A form that writes a number to a free cell. */
 function writeForm(app, cell, id, label) {
-  const field = h("input", { id, inputmode: "numeric", autocomplete: "off", "data-cell": cell });
+  const field = h("input", { id, inputmode: "numeric", autocomplete: "off", placeholder: "new value", "data-cell": cell });
   const write = (submitted) => {
     submitted.preventDefault();
     const { value, problem } = readNumber(field.value);
@@ -40,7 +40,7 @@ function buildPicker(app) {
     if (!problem) select(app, value);
   };
   const pick = h("input", { id: "pick", inputmode: "numeric", autocomplete: "off", value: app.selected, onchange: choose });
-  byId("inspect").append(h("label", { class: "picker" }, "Cell ", pick), h("div", { id: "inspected" }));
+  byId("inspect").append(h("label", { class: "picker" }, "Cell ", pick), h("dl", { id: "inspected" }), h("div", { id: "writer" }));
   byId("map").addEventListener("click", (e) => select(app, cellAt(e, cells)));
 }
 
@@ -54,20 +54,30 @@ export function buildMemory(app) {
   new ResizeObserver(() => app.session.trace && drawMap(app)).observe(byId("map").parentElement);
 }
 
-function inspect(app) {
-  const { page, session, format, selected } = app;
+/** What the chosen cell holds, in both memories. */
+function inspect({ page, session, format, selected }) {
   const { facts, now } = session;
   const region = facts.region[selected];
   const show = FORMATS[format];
   const name = region === "state" ? stateName(page, now.memory[selected]) : cellName(page, selected);
   const row = (title, value) => h("div", {}, h("dt", {}, title), h("dd", { class: "num" }, value));
-  const list = h("dl", {},
+  return [
     row("Region", `${REGIONS[region].title}${name ? `: ${name}` : ""}`),
     row("This memory", show(now.memory[selected])),
-    row("The other", show(now.there.memory[selected])));
+    row("The other", show(now.there.memory[selected])),
+  ];
+}
+
+/** The form that writes the chosen cell, made anew only for another cell, so that it keeps the focus. */
+function updateWriter(app) {
+  const { session, selected } = app;
+  const box = byId("writer");
+  if (box.dataset.cell === String(selected)) return;
+  box.dataset.cell = selected;
   const label = h("span", { class: "spoken" }, `New value of cell ${selected}`);
-  const form = region === "free" ? writeForm(app, selected, "new-value", label) : null;
-  return [list, form ?? h("p", { class: "hint" }, "Only free cells are yours to write: the host must leave the others alone.")];
+  const isFree = session.facts.region[selected] === "free";
+  const reason = h("p", { class: "hint" }, "Only free cells are yours to write: the host must leave the others alone.");
+  box.replaceChildren(isFree ? writeForm(app, selected, "new-value", label) : reason);
 }
 
 function touchedText({ session, format }) {
@@ -80,15 +90,13 @@ function touchedText({ session, format }) {
 }
 
 export function updateMemory(app) {
-  const { session, format, selected } = app;
+  const { session, format } = app;
   drawMap(app);
   for (const field of byId("named").querySelectorAll("input")) {
     if (field !== document.activeElement) field.value = FORMATS[format](session.now.memory[Number(field.dataset.cell)]);
   }
-  const old = byId("inspected");
-  const isBusy = old.contains(document.activeElement) && old.dataset.cell === String(selected);
-  old.dataset.cell = selected;
-  if (!isBusy) old.replaceChildren(...inspect(app));
+  byId("inspected").replaceChildren(...inspect(app));
+  updateWriter(app);
   const touched = touchedText(app);
   byId("touched").textContent = touched;
   const label = `Map of all ${session.facts.shape.cells} cells by region. ${touched} Cells can be chosen by number below.`;

@@ -9,6 +9,7 @@ const FLAGS = ["--headless", "--no-sandbox", "--disable-gpu", "--hide-scrollbars
 const [TO_BROWSER, FROM_BROWSER] = [3, 4]; // the pipe's two files
 const READY_MS = 20000;
 const POLL_MS = 50;
+const SHOT_QUALITY = 85;
 const KEY_CODES = { ArrowRight: 39, ArrowLeft: 37, Home: 36, End: 35, " ": 32, Tab: 9, Enter: 13, e: 69 };
 
 export const pause = (ms) => new Promise((done) => setTimeout(done, ms));
@@ -56,8 +57,8 @@ class Page {
     return this.pipe.call(method, params, this.sessionId);
   }
 
-  async resize(height = this.size.height) {
-    const { width, isPhone = false } = this.size;
+  async resize() {
+    const { width, height, isPhone = false } = this.size;
     await this.call("Emulation.setDeviceMetricsOverride", { width, height, deviceScaleFactor: 1, mobile: isPhone });
   }
 
@@ -103,11 +104,10 @@ class Page {
     await this.key("Enter", "\r");
   }
 
-  async shot(isWhole = false) {
-    if (isWhole) await this.resize(await this.run("document.documentElement.scrollHeight"));
+  /** What is seen in the window, as WebP. */
+  async shot() {
     await this.settle();
-    const { data } = await this.call("Page.captureScreenshot", { format: "png" });
-    if (isWhole) await this.resize();
+    const { data } = await this.call("Page.captureScreenshot", { format: "webp", quality: SHOT_QUALITY });
     return Buffer.from(data, "base64");
   }
 

@@ -155,7 +155,7 @@ test("a free cell is written in the middle of a run, and nothing differs", async
 
 test("a cell is chosen on the map; only free ones can be written", async () => {
   await page.type("#pick", "300");
-  assert.equal(await page.run("document.querySelectorAll('#inspected form').length"), 0);
+  assert.equal(await page.run("document.querySelectorAll('#writer form').length"), 0);
   assert.match(await said("#inspected"), /Sandbox/);
   await page.type("#pick", "700");
   await page.type("#new-value", "0x10");
