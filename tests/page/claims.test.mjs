@@ -4,17 +4,16 @@ import assert from "node:assert/strict";
 import { test } from "node:test";
 import { Library } from "../../web/library/binding.mjs";
 import { ENDING, answerText } from "../../web/library/header.mjs";
-import { readNumber, readNumbers } from "../../web/model/numbers.mjs";
+import { readNumber, readNumbers, valueText } from "../../web/model/numbers.mjs";
 import { policyModel } from "../../web/model/policy.mjs";
 import { Preview } from "../../web/model/preview.mjs";
 import { Session } from "../../web/model/session.mjs";
-import { jumpReason } from "../../web/model/story.mjs";
+import { jumpReason, tellInstruction } from "../../web/model/story.mjs";
 import { Trace, lendBench } from "../../web/model/trace.mjs";
 import { AS_WRITTEN, differences, maskedInstructions, withoutMask } from "../../web/model/unmasked.mjs";
-import { EXAMPLES, write } from "./command.mjs";
+import { CURIOUS, EXAMPLES, PROFILES, ROAST, write } from "./command.mjs";
 import { library, open, pageOf, spoiltLibrary } from "./lesson.mjs";
 
-const [ROAST, SAMPLE, CURIOUS] = EXAMPLES;
 const PURGE = 8;
 
 test("a free cell takes what the viewer writes, at any moment, and nothing else changes", async () => {
@@ -113,7 +112,7 @@ test("a routine that keeps to its sandbox can be aimed at a free cell", async ()
 });
 
 test("every mask of every example is refused when it is taken out", async () => {
-  for (const example of [ROAST, SAMPLE, CURIOUS]) {
+  for (const example of EXAMPLES) {
     const session = await open(pageOf(example));
     for (const instruction of maskedInstructions(session.facts)) {
       const { answer } = withoutMask(session.lib, session.facts, instruction, AS_WRITTEN);
@@ -163,6 +162,26 @@ test("a policy of 16 states is drawn with all that events lead to", async () => 
   const session = await open(page);
   const model = policyModel(page, session.facts);
   assert.equal(model.order.length + model.leftOut, 16);
+});
+
+test("a scaled reading is a person's number in the page, and the drum's in the library", async () => {
+  const page = pageOf(PROFILES);
+  assert.deepEqual(page.readings, PROFILES.readings);
+  const session = await open(page);
+  assert.equal(session.readingScale, 10);
+  session.nextEvent();
+  session.nextEvent();
+  assert.match(tellInstruction(session, "unsigned"), /The probe answers 190\.0: r0 becomes 1900, and the record has bean 190\.0\./);
+  assert.deepEqual(readNumbers("196.5, -0.5, 0x10", 10), { values: [1965, 4294967291, 16] });
+  assert.match(readNumbers("196.55", 10).problem, /too many decimals/);
+  assert.equal(valueText(1965, 10), "196.5");
+  assert.equal(valueText(1965, 10, "hexadecimal"), "0x7AD");
+});
+
+test("the policy's ceiling counts where it is the lower one", async () => {
+  const session = await open(pageOf(PROFILES));
+  assert.equal(session.facts.shape.ceilings[0], 80);
+  assert.ok(session.trace.events.some(({ event, value, r0 }) => event === 0 && value === 80 && r0 === 85));
 });
 
 test("a field's text is read, or a sentence says what is wrong with it", () => {

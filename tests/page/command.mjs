@@ -26,12 +26,17 @@ const example = (name, { drum = name, policy = drum } = {}) => ({
   files: [join(ROOT, "examples", `${name}.routine`), "--drum", join(ROOT, "examples", `${drum}.drum`), "--policy", join(ROOT, "examples", `${policy}.policy`)],
 });
 
-/** The three examples, with readings for each. */
-export const EXAMPLES = [
-  { ...example("roast"), readings: [1500, 1960, 2100] },
-  { ...example("sample"), readings: [1800, 1950, 2100] },
-  { ...example("curious", { drum: "roast" }), readings: [1500, 4100] },
-];
+const PROFILE = [1900, 1900, 1900, 1900, 1100, 1100, 1100, 1105, 1700, 1700, 1700, 1700, 2100, 2100, 2100, 2100];
+
+/** The three examples and the stranger's routine: readings as the drum has them, and their scale for a person. */
+export const ROAST = { ...example("roast"), readings: [1500, 1960, 2100], scale: 1 };
+export const SAMPLE = { ...example("sample"), readings: [1800, 1950, 2100], scale: 1 };
+export const PROFILES = { ...example("profile"), readings: PROFILE, scale: 10 };
+export const CURIOUS = { ...example("curious", { drum: "roast" }), readings: [1500, 4100], scale: 1 };
+export const EXAMPLES = [ROAST, SAMPLE, PROFILES, CURIOUS];
+
+/** The option --readings, as a person writes it. */
+export const readingsOption = ({ scale }, readings) => ["--readings", readings.map((reading) => reading / scale).join()];
 
 export const folder = mkdtempSync(join(tmpdir(), "hemdroas-page-"));
 process.on("exit", () => rmSync(folder, { recursive: true, force: true }));
@@ -42,9 +47,9 @@ export function write(name, text) {
 }
 
 /** Writes a page and gives its file. */
-export function makePage({ name, files, readings = [] }, more = []) {
+export function makePage({ name, files, readings = [], scale = 1 }, more = []) {
   const file = join(folder, `${name}.html`);
-  const made = hemdroas("page", ...files, "--readings", readings.join(), ...more, "-o", file);
+  const made = hemdroas("page", ...files, ...readingsOption({ scale }, readings), ...more, "-o", file);
   if (made.status !== 0) throw new Error(`hemdroas page: ${made.said}`);
   return file;
 }

@@ -2,22 +2,22 @@
 import assert from "node:assert/strict";
 import { test } from "node:test";
 import { ENDING } from "../../web/library/header.mjs";
-import { EXAMPLES, objects } from "./command.mjs";
+import { CURIOUS, EXAMPLES, ROAST, SAMPLE, objects, readingsOption } from "./command.mjs";
 import { commandObject, open, pageOf, stepObject } from "./lesson.mjs";
 
 const BUDGET = 1000;
 const LOG = 64;
 
 /** What the run was given and how it must come out, by the command. */
-const ran = ({ files }, readings, log, budget) =>
-  objects("run", ...files, "--readings", readings.join(), "--log", String(log), "--budget", String(budget));
+const ran = (example, readings, log, budget) =>
+  objects("run", ...example.files, ...readingsOption(example, readings), "--log", String(log), "--budget", String(budget));
 
 for (const example of EXAMPLES) {
   const page = pageOf(example);
 
   test(`${example.name}: each instruction as hemdroas step shows it, forwards and back`, async () => {
     const session = await open(page);
-    const steps = objects("step", ...example.files, "--readings", example.readings.join(), "--all");
+    const steps = objects("step", ...example.files, ...readingsOption(example, example.readings), "--all");
     const wanted = steps.filter(({ type }) => type === "step").map(commandObject);
     assert.equal(session.last, wanted.length);
     const seen = [];
@@ -73,7 +73,7 @@ for (const example of EXAMPLES) {
 }
 
 test("every ending that a checked routine can have is among the examples' runs", async () => {
-  const [roast, sample, curious] = EXAMPLES.map((example) => pageOf(example));
+  const [roast, sample, curious] = [ROAST, SAMPLE, CURIOUS].map((example) => pageOf(example));
   const ending = async (page, given) => (await open(page, given)).trace.ending;
   assert.equal(await ending(roast), ENDING.ENDED);
   assert.equal(await ending(sample), ENDING.NO_ARROW);
@@ -84,7 +84,7 @@ test("every ending that a checked routine can have is among the examples' runs",
 });
 
 test("a full log that is emptied, and further readings, lead to the same record", async () => {
-  const page = pageOf(EXAMPLES[0]);
+  const page = pageOf(ROAST);
   const whole = await open(page);
   const parts = await open(page, { log: 4, emptied: 99 });
   assert.deepEqual(parts.trace.events, whole.trace.events);
@@ -97,7 +97,7 @@ test("a full log that is emptied, and further readings, lead to the same record"
 });
 
 test("the next event, a line, a breakpoint and the last step are where they should be", async () => {
-  const session = await open(pageOf(EXAMPLES[0]));
+  const session = await open(pageOf(ROAST));
   session.nextEvent();
   assert.equal(session.now.pairs, 1);
   assert.equal(session.runTo(11), true);

@@ -4,6 +4,7 @@ import { commandText, wordAt } from "../library/words.mjs";
 export const eventName = (page, event) => page.events[event] ?? `event ${event}`;
 export const eventWord = (page, event) => page.events[event] ?? String(event);
 export const stateName = (page, state) => page.policy.names[state] ?? `state ${state}`;
+export const scaleOf = (page, event) => page.scales[event];
 export const cellName = (page, cell) => page.free.find((named) => named.cell === cell)?.name ?? null;
 
 export const labelOf = (page, instruction) => Object.keys(page.labels).find((label) => page.labels[label] === instruction);

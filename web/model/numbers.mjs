@@ -11,16 +11,33 @@ export const FORMATS = {
   hexadecimal: (x) => `0x${(x >>> 0).toString(HEXADECIMAL).toUpperCase()}`,
 };
 
-const WORD = /^(0x[0-9a-f]+|-?\d+)$/i;
+const RAW = /^0x[0-9a-f]+$/i;
+const DECIMAL = /^-?\d+(?:\.(\d+))?$/;
 
-/** Numbers with commas or spaces between them, decimal or 0x: { values }, or { problem }, a sentence for the field. */
-export function readNumbers(text) {
+const placesOf = (scale) => Math.round(Math.log10(scale));
+
+/** A person's word as a number: with scale 10, 196.5 is 1965. Behind 0x it is taken as it is. */
+function readWord(word, scale) {
+  const decimals = word.match(DECIMAL)?.[1] ?? "";
+  if (!RAW.test(word) && !DECIMAL.test(word)) return { problem: `“${word}” is no number. Write decimal numbers, or 0x and hexadecimal.` };
+  if (decimals.length > placesOf(scale)) return { problem: `${word} has too many decimals: ${plural(placesOf(scale), "place")} at most.` };
+  const number = RAW.test(word) ? Number(word) : Math.round(Number(word) * scale);
+  if (number < LOWEST || number >= ABOVE_ALL) return { problem: `${word} has more than 32 bits. Write a smaller number.` };
+  return { value: number >>> 0 };
+}
+
+/** Numbers with commas or spaces between them: { values }, or { problem }, a sentence for the field. */
+export function readNumbers(text, scale = 1) {
   const words = text.replaceAll(MINUS, "-").split(/[\s,;]+/).filter(Boolean);
-  const odd = words.find((word) => !WORD.test(word));
-  if (odd !== undefined) return { problem: `“${odd}” is no number. Write decimal numbers, or 0x and hexadecimal.` };
-  const large = words.find((word) => Number(word) < LOWEST || Number(word) >= ABOVE_ALL);
-  if (large !== undefined) return { problem: `${large} has more than 32 bits. Write a number from −2147483648 to 4294967295.` };
-  return { values: words.map((word) => Number(word) >>> 0) };
+  const read = words.map((word) => readWord(word, scale));
+  const problem = read.find((one) => one.problem)?.problem;
+  return problem ? { problem } : { values: read.map((one) => one.value) };
+}
+
+/** A value as a person reads it: with scale 10, 1965 is 196.5. Hexadecimal numbers are not scaled. */
+export function valueText(value, scale, format = "unsigned") {
+  if (scale === 1 || format === "hexadecimal") return FORMATS[format](value);
+  return ((value | 0) / scale).toFixed(placesOf(scale)).replace("-", MINUS);
 }
 
 /** One number up to `most`: { value } or { problem }. */

@@ -1,8 +1,9 @@
 // A session: what the viewer has given, the trace of it, and where he stands. Nothing here knows of the page's elements.
 import { ENDING, offsetOf } from "../library/header.mjs";
-import { commandName, isAccess, isJump, kindName, wordAt } from "../library/words.mjs";
+import { commandName, countOf, isAccess, isJump, kindName, wordAt } from "../library/words.mjs";
 import { askFacts, conditionHolds } from "./facts.mjs";
 import { allOk } from "./compare.mjs";
+import { scaleOf } from "./names.mjs";
 import { inSlices } from "./slices.mjs";
 import { lendBench, Trace } from "./trace.mjs";
 
@@ -128,6 +129,14 @@ export class Session {
   get event() {
     const from = this.before ? this.before.k : this.command;
     return this.trace.events.find(({ at }) => at > from && at <= this.command) ?? null;
+  }
+
+  /** The scale of a list of readings: that of the probes that the routine reads, if they have the same; else 1. */
+  get readingScale() {
+    const words = Array.from({ length: countOf(this.facts.words) }, (_, i) => this.word(i));
+    const read = words.filter((word) => kindName(word) === "EVENT" && this.facts.isReading[word.v]);
+    const scales = new Set(read.map((word) => scaleOf(this.page, word.v)));
+    return scales.size === 1 ? [...scales][0] : 1;
   }
 
   word(instruction) {

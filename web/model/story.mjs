@@ -1,8 +1,8 @@
 // What the last step did, in a sentence, told from what the library answered: the records and memories before and after it.
 import { CONDITIONS, commandName, kindName, wordAt } from "../library/words.mjs";
 import { offsetOf } from "../library/header.mjs";
-import { FORMATS } from "./numbers.mjs";
-import { eventName, labelOf, placeText, stateName, targetText } from "./names.mjs";
+import { FORMATS, valueText } from "./numbers.mjs";
+import { eventName, labelOf, placeText, scaleOf, stateName, targetText } from "./names.mjs";
 
 const PC = offsetOf("machine", "pc");
 const HIDDEN = PC - 1;
@@ -11,6 +11,7 @@ const HIDDEN = PC - 1;
 const scene = (session, format, before, after) => ({
   page: session.page,
   session,
+  format,
   show: FORMATS[format],
   r: before.machine,
   now: after.machine,
@@ -32,11 +33,13 @@ const moved = ({ page, before, after }) =>
     ? `The state stays ${stateName(page, after.state)}.`
     : `The state goes from ${stateName(page, before.state)} to ${stateName(page, after.state)}.`;
 
-function recorded({ page, show }, { event, value, r0 }) {
-  const name = eventName(page, event);
-  if (r0 === null) return `The probe answers ${show(value)}: r0 takes it, and the record has ${name} ${show(value)}.`;
-  if (r0 === value) return `Recorded: ${name} ${show(value)}.`;
-  return `Recorded: ${name} ${show(value)}, because r0 is ${show(r0)} and the ceiling is lower.`;
+function recorded({ page, format, show }, { event, value, r0 }) {
+  const said = valueText(value, scaleOf(page, event), format);
+  const pair = `${eventName(page, event)} ${said}`;
+  const taken = said === show(value) ? "r0 takes it" : `r0 becomes ${show(value)}`;
+  if (r0 === null) return `The probe answers ${said}: ${taken}, and the record has ${pair}.`;
+  if (r0 === value) return `Recorded: ${pair}.`;
+  return `Recorded: ${pair}, because r0 is ${show(r0)} and the ceiling is lower.`;
 }
 
 /** What a jump asked, as numbers: '1500 below 1950: yes'. */
@@ -127,7 +130,7 @@ const COMMAND_TALES = {
 export function tellCommand(session, format) {
   const { before, now, facts } = session;
   const command = wordAt(facts.commands, session.lastCommand);
-  const s = { ...scene(session, format, before, now), format };
+  const s = scene(session, format, before, now);
   const tale = COMMAND_TALES[commandName(command)] ?? ((_, { d }) => `${becomes(s, d)}.`);
   return tale(s, command);
 }

@@ -1,6 +1,6 @@
 // What the last step did, and, where the run has come to an end or a pause, what can be done there.
 import { ENDING, answerText } from "../library/header.mjs";
-import { plural, readNumbers } from "../model/numbers.mjs";
+import { plural, readNumbers, valueText } from "../model/numbers.mjs";
 import { commandLine, eventName, instructionText, lineOf } from "../model/names.mjs";
 import { MOST_BUDGET } from "../model/session.mjs";
 import { tellCommand, tellInstruction } from "../model/story.mjs";
@@ -8,6 +8,7 @@ import { MOST_READINGS } from "../model/trace.mjs";
 import { byId, complain, h } from "./dom.mjs";
 
 const PAIR = 2; // cells of the log
+const SAMPLE_READING = 1960;
 const PAUSES = [ENDING.LOG_FULL, ENDING.PROBE_SILENT, ENDING.SPENT];
 
 const placeOf = (page, index) => (lineOf(page, index) === null ? "behind the last line" : `line ${lineOf(page, index)}`);
@@ -31,14 +32,17 @@ const said = (strong, rest) => h("p", {}, h("b", {}, `${strong} `), rest);
 const mainButton = (text, act) => h("button", { type: "button", class: "main", onclick: act }, text);
 
 function askReading(app, event) {
-  const field = h("input", { id: "next-reading", name: "reading", inputmode: "numeric", autocomplete: "off", placeholder: "1960" });
+  const { scales, events } = app.page;
+  const scale = scales[events.indexOf(event)] ?? app.session.readingScale;
+  const sample = valueText(SAMPLE_READING, scale);
+  const field = h("input", { id: "next-reading", name: "reading", inputmode: "decimal", autocomplete: "off", placeholder: sample });
   const give = (submitted) => {
     submitted.preventDefault();
-    const { values, problem } = readNumbers(field.value);
+    const { values, problem } = readNumbers(field.value, scale);
     const { readings } = app.session.given;
     const isTooMany = !problem && readings.length + values.length > MOST_READINGS;
     const tooMany = isTooMany ? `This page takes ${MOST_READINGS} readings at most.` : null;
-    const none = !problem && !values.length ? "Write the probe's next reading, such as 1960." : null;
+    const none = !problem && !values.length ? `Write the probe’s next reading, such as ${sample}.` : null;
     complain(field, problem ?? none ?? tooMany);
     if (problem ?? none ?? tooMany) return;
     app.give({ readings: [...readings, ...values] }, { thenStep: true });

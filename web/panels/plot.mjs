@@ -1,5 +1,6 @@
 // The plot: readings above, orders below, over the pairs of the whole run; those to come are left blank. Ceilings are lines.
-import { eventName } from "../model/names.mjs";
+import { eventName, scaleOf } from "../model/names.mjs";
+import { valueText } from "../model/numbers.mjs";
 import { byId, h, svg } from "./dom.mjs";
 import { kindClass, mark, swatch } from "./marks.mjs";
 
@@ -48,13 +49,19 @@ function frame(panel, width) {
   const lines = ticks(low, high, tall / TICK_HEIGHT).filter(Number.isInteger);
   const grid = (t) => [
     svg("path", { class: "grid", d: `M${LEFT} ${y(t)}H${width - RIGHT}` }),
-    svg("text", { class: "tick", x: LEFT - 7, y: y(t) + 4, "text-anchor": "end" }, String(t)),
+    svg("text", { class: "tick", x: LEFT - 7, y: y(t) + 4, "text-anchor": "end" }, String(t / panel.scale)),
   ];
   return [
     svg("text", { class: "title", x: LEFT, y: top - 8 }, title),
     lines.map(grid),
     svg("path", { class: "axis", d: `M${LEFT} ${top}V${top + tall}H${width - RIGHT}` }),
   ];
+}
+
+/** The scale of a panel's axis: that of its events, if they have the same; else 1. */
+function axisScale(page, pairs) {
+  const scales = new Set(pairs.map((pair) => scaleOf(page, pair.event)));
+  return scales.size === 1 ? [...scales][0] : 1;
 }
 
 function panelOf(title, top, tall, values) {
@@ -80,15 +87,15 @@ function series(app, event, pairs, x, y) {
   const known = session.before ? session.before.pairs : pairs.length;
   const point = ({ i, value }) =>
     svg("g", { class: i >= known ? "fresh" : "" }, mark(session.facts, event, x(i), y(value)),
-      svg("title", {}, `${i + 1}: ${eventName(page, event)} ${value}`));
+      svg("title", {}, `${i + 1}: ${eventName(page, event)} ${valueText(value, scaleOf(page, event))}`));
   return [svg("path", { class: `line ${kind}`, d }), ...own.map(point)];
 }
 
-function ceilingLines(ceilings, { y }, width, largest) {
+function ceilingLines({ y, ceilings, largest, scale }, width) {
   return [...ceilings].map(([ceiling, who]) => [
     svg("path", { class: "ceiling", d: `M${LEFT} ${y(ceiling)}H${width - RIGHT}` }),
     svg("text", { class: "ceiling-text", x: width - RIGHT, y: y(ceiling) - (ceiling < largest / 10 ? 10 : 5), "text-anchor": "end" },
-      `ceiling ${ceiling}: ${who.join(", ")}`),
+      `ceiling ${ceiling / scale}: ${who.join(", ")}`),
   ]);
 }
 
@@ -112,10 +119,10 @@ function panelsOf(app, all) {
   const orders = all.filter((pair) => !isReading[pair.event]);
   const ceilings = ceilingsOf(app, orders);
   const panels = [];
-  if (readings.length) panels.push({ ...panelOf("readings", TOP, READINGS_TALL, readings.map((p) => p.value)), pairs: readings });
+  if (readings.length) panels.push({ ...panelOf("readings", TOP, READINGS_TALL, readings.map((p) => p.value)), pairs: readings, scale: axisScale(app.page, readings) });
   const top = panels.length ? TOP + READINGS_TALL + GAP : TOP;
   const values = [...orders.map((p) => p.value), ...ceilings.keys(), 1];
-  if (orders.length) panels.push({ ...panelOf("orders", top, ORDERS_TALL, values), pairs: orders, ceilings, largest: Math.max(...values) });
+  if (orders.length) panels.push({ ...panelOf("orders", top, ORDERS_TALL, values), pairs: orders, scale: axisScale(app.page, orders), ceilings, largest: Math.max(...values) });
   return panels;
 }
 
@@ -137,7 +144,7 @@ export function drawPlot(app) {
   const now = shown.length ? svg("path", { class: "now-line", d: `M${x(shown.length - 1)} 14V${foot}` }) : null;
   const drawn = panels.map((panel) => [
     frame(panel, width),
-    panel.ceilings ? ceilingLines(panel.ceilings, panel, width, panel.largest) : null,
+    panel.ceilings ? ceilingLines(panel, width) : null,
     eventsOf(panel.pairs).map((event) => series(app, event, shown, x, panel.y)),
   ]);
   const said = `Plot of the record: ${shown.length} of ${all.length} pairs. The same numbers stand in the table.`;

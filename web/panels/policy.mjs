@@ -1,6 +1,7 @@
 // The policy: its drawing with the present state lit, the events allowed from here, the ceilings, and all arrows as text. The
 // arrows are what the engine answered for each event in each state.
-import { eventName, stateName } from "../model/names.mjs";
+import { eventName, scaleOf, stateName } from "../model/names.mjs";
+import { valueText } from "../model/numbers.mjs";
 import { policyModel } from "../model/policy.mjs";
 import { drawArcs } from "./arcs.mjs";
 import { drawColumn, fitsColumn } from "./column.mjs";
@@ -22,7 +23,7 @@ function arrowTexts(page, model) {
 
 export function ceilingsText(page, { shape }) {
   const limited = [...shape.ceilings.entries()].filter(([, most]) => most !== NO_CEILING);
-  const texts = limited.map(([event, most]) => `${eventName(page, event)} ${most}`);
+  const texts = limited.map(([event, most]) => `${eventName(page, event)} ${valueText(most, scaleOf(page, event))}`);
   return texts.length ? `Ceilings: ${texts.join(", ")}. A higher order is cut.` : "No order has a ceiling.";
 }
 

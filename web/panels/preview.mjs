@@ -1,7 +1,7 @@
 // 'If the next readings were ..': what would be ordered from here, and nothing is touched.
 import { answerText } from "../library/header.mjs";
-import { FORMATS, plural, readNumbers } from "../model/numbers.mjs";
-import { eventName } from "../model/names.mjs";
+import { FORMATS, plural, readNumbers, valueText } from "../model/numbers.mjs";
+import { eventName, scaleOf } from "../model/names.mjs";
 import { Preview } from "../model/preview.mjs";
 import { MOST_READINGS } from "../model/trace.mjs";
 import { byId, complain, h } from "./dom.mjs";
@@ -10,12 +10,13 @@ import { kindClass } from "./marks.mjs";
 const MOST_PAIRS = 40;
 const MOST_CELLS = 12;
 const WARMER = 15; // than the readings given, as a first question
-const FIRST_READING = 1800;
+const FIRST_READING = 1800; // tenths of a degree
 
 export function buildPreview(app) {
   const { readings } = app.page;
   app.preview = new Preview(app.session.lib, app.session.facts);
-  byId("if").value = readings.length ? readings.map((reading) => reading + WARMER).join(", ") : FIRST_READING;
+  const first = readings.length ? readings.map((reading) => reading + WARMER) : [FIRST_READING];
+  byId("if").value = first.map((reading) => valueText(reading, app.session.readingScale)).join(", ");
   byId("if").addEventListener("input", () => updatePreview(app));
 }
 
@@ -29,7 +30,7 @@ function sandboxText(cells, show) {
 function foreseen({ page, session, format }, ahead) {
   const show = FORMATS[format];
   const item = ({ event, value }) =>
-    h("li", {}, h("span", { class: kindClass(session.facts, event) }, eventName(page, event)), h("b", {}, show(value)));
+    h("li", {}, h("span", { class: kindClass(session.facts, event) }, eventName(page, event)), h("b", {}, valueText(value, scaleOf(page, event), format)));
   const { pairs } = ahead;
   const ended = [h("b", {}, answerText(ahead.ending)), ` after ${plural(ahead.steps, "command")}, with ${plural(ahead.readings, "reading")} used.`];
   const untouched = ahead.isUntouched ? "✓ Memory and registers are as they were." : "✕ Something was touched!";
@@ -45,7 +46,7 @@ function foreseen({ page, session, format }, ahead) {
 
 export function updatePreview(app) {
   const field = byId("if");
-  const { values, problem } = readNumbers(field.value);
+  const { values, problem } = readNumbers(field.value, app.session.readingScale);
   const tooMany = values?.length > MOST_READINGS ? `Write ${MOST_READINGS} readings at most.` : null;
   complain(field, problem ?? tooMany);
   if (problem ?? tooMany) byId("foreseen").replaceChildren();

@@ -1,6 +1,6 @@
 // The record: the pairs so far as a table, and beside it as a plot.
-import { FORMATS } from "../model/numbers.mjs";
-import { eventName } from "../model/names.mjs";
+import { valueText } from "../model/numbers.mjs";
+import { eventName, scaleOf } from "../model/names.mjs";
 import { byId, h } from "./dom.mjs";
 import { swatch } from "./marks.mjs";
 import { drawPlot } from "./plot.mjs";
@@ -11,7 +11,7 @@ export function buildRecord(app) {
 
 function pairRow({ page, session, format }, pair, number, isFresh) {
   const { event, value, r0 } = pair;
-  const show = FORMATS[format];
+  const show = (number) => valueText(number, scaleOf(page, event), format);
   const kind = h("small", {}, r0 === null ? "reading" : "order");
   const cut = r0 !== null && r0 !== value ? h("small", { class: "cut" }, `cut, r0 is ${show(r0)}`) : null;
   const name = h("th", { scope: "row" }, swatch(session.facts, event), h("span", { class: "event" }, eventName(page, event)), kind, cut);

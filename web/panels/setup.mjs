@@ -1,11 +1,11 @@
 // What the run is given: readings, budget, log; and the colours.
-import { readNumber, readNumbers } from "../model/numbers.mjs";
+import { readNumber, readNumbers, valueText } from "../model/numbers.mjs";
 import { MOST_BUDGET } from "../model/session.mjs";
 import { MOST_LOG, MOST_READINGS } from "../model/trace.mjs";
 import { byId, complain } from "./dom.mjs";
 
-function readReadings(text) {
-  const { values, problem } = readNumbers(text);
+function readReadings(text, { readingScale }) {
+  const { values, problem } = readNumbers(text, readingScale);
   const isTooMany = values?.length > MOST_READINGS;
   return { value: values, problem: isTooMany ? `Write ${MOST_READINGS} readings at most.` : problem };
 }
@@ -19,7 +19,7 @@ const FIELDS = {
 export function buildSetup(app) {
   for (const [id, { read, given }] of Object.entries(FIELDS)) {
     byId(id).addEventListener("change", (e) => {
-      const { value, problem } = read(e.target.value);
+      const { value, problem } = read(e.target.value, app.session);
       complain(e.target, problem ?? null);
       if (!problem) app.give(given(value));
     });
@@ -29,8 +29,9 @@ export function buildSetup(app) {
 }
 
 /** The fields as the run is given them, but for one in which the viewer writes or which is not right. */
-export function updateSetup({ session: { given } }) {
-  const texts = { readings: given.readings.join(", "), budget: given.budget, log: given.log };
+export function updateSetup({ session: { given, readingScale } }) {
+  const readings = given.readings.map((reading) => valueText(reading, readingScale)).join(", ");
+  const texts = { readings, budget: given.budget, log: given.log };
   for (const [id, text] of Object.entries(texts)) {
     const field = byId(id);
     if (field !== document.activeElement && field.getAttribute("aria-invalid") !== "true") field.value = text;

@@ -1,11 +1,10 @@
 // Every control of the page, by mouse and by key, on the roast.
 import assert from "node:assert/strict";
 import { after, before, beforeEach, afterEach, test } from "node:test";
-import { EXAMPLES, makePage } from "../command.mjs";
+import { CURIOUS, ROAST, SAMPLE, makePage } from "../command.mjs";
 import { browserName, openBrowser } from "./chromium.mjs";
 import { record, see, text } from "./seen.mjs";
 
-const [ROAST, SAMPLE, CURIOUS] = EXAMPLES;
 const DESKTOP = { width: 1280, height: 900 };
 const LAST = 28; // steps of the roast
 

@@ -2,12 +2,11 @@
 // states; and a run of 10,000 commands that does not freeze the page.
 import assert from "node:assert/strict";
 import { after, before, test } from "node:test";
-import { EXAMPLES, makePage, write } from "../command.mjs";
+import { EXAMPLES, ROAST, makePage, write } from "../command.mjs";
 import { browserName, openBrowser } from "./chromium.mjs";
 import { lookAtForm } from "./form.mjs";
 import { see, text } from "./seen.mjs";
 
-const [ROAST] = EXAMPLES;
 const DESKTOP = { width: 1280, height: 900 };
 const SIZES = [
   { width: 320, height: 640, isPhone: true },

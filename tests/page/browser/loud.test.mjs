@@ -2,7 +2,7 @@
 import assert from "node:assert/strict";
 import { readFileSync, writeFileSync } from "node:fs";
 import { after, before, test } from "node:test";
-import { EXAMPLES, makePage } from "../command.mjs";
+import { ROAST, makePage } from "../command.mjs";
 import { browserName, openBrowser } from "./chromium.mjs";
 import { see, text } from "./seen.mjs";
 
@@ -18,7 +18,7 @@ function spoiltPage(name, call, code) {
     const { instance } = await real(...given); const exports = { ...instance.exports };
     exports.${call} = (...args) => { instance.exports.${call}(...args); const numbers = new Uint32Array(exports.memory.buffer); ${code} };
     return { instance: { exports } }; }; }</script>`;
-  const file = makePage({ ...EXAMPLES[0], name });
+  const file = makePage({ ...ROAST, name });
   writeFileSync(file, readFileSync(file, "utf8").replace("<header>", `${hook}<header>`));
   return file;
 }

@@ -4,7 +4,7 @@ import assert from "node:assert/strict";
 import { readFileSync } from "node:fs";
 import { after, before, test } from "node:test";
 import { join } from "node:path";
-import { EXAMPLES, dataOf, folder, hemdroas, makePage, objects } from "../command.mjs";
+import { EXAMPLES, dataOf, folder, hemdroas, makePage, objects, readingsOption } from "../command.mjs";
 import { browserName, openBrowser } from "./chromium.mjs";
 import { commands, lastStep, record, see, text } from "./seen.mjs";
 
@@ -21,14 +21,14 @@ function changesOf(steps) {
   return steps.map(({ line, registers, cells, pair, state }) => {
     const changed = registers.flatMap((value, r) => (value === old[r] ? [] : [[r, old[r], value]]));
     old = registers;
-    return { line, registers: changed, cells: cells.map(({ cell, from, to }) => [cell, from, to]), pair: pair && [pair.event, pair.value], state };
+    return { line, registers: changed, cells: cells.map(({ cell, from, to }) => [cell, from, to]), pair: pair && [pair.event, pair.shown], state };
   });
 }
 
 for (const example of EXAMPLES) {
   test(`${example.name}: a whole roast by the right arrow, as hemdroas step has it`, async () => {
     const page = await browser.page(makePage(example), DESKTOP);
-    const steps = objects("step", ...example.files, "--readings", example.readings.join(), "--all").filter(({ type }) => type === "step");
+    const steps = objects("step", ...example.files, ...readingsOption(example, example.readings), "--all").filter(({ type }) => type === "step");
     const seen = [];
     for (let i = 0; i < steps.length; i++) {
       await page.key("ArrowRight");
@@ -46,9 +46,9 @@ for (const example of EXAMPLES) {
   test(`${example.name}: record, ending and counts as hemdroas run has them`, async () => {
     const page = await browser.page(makePage(example), DESKTOP);
     await page.click("#do-end");
-    const all = objects("run", ...example.files, "--readings", example.readings.join());
+    const all = objects("run", ...example.files, ...readingsOption(example, example.readings));
     const end = all.at(-1);
-    assert.deepEqual(await see(page, record), all.filter(({ type }) => type === "pair").map(({ event, value }) => [event, value]));
+    assert.deepEqual(await see(page, record), all.filter(({ type }) => type === "pair").map(({ event, shown }) => [event, shown]));
     const sum = await see(page, text, "#pause .sum");
     assert.ok(sum.startsWith(`${end.word} (${end.ending}): ${end.steps} command`), sum);
     assert.match(sum, new RegExp(`${end.pairs} pairs?, ${end.readings} readings? used`));

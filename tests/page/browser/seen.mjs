@@ -13,14 +13,14 @@ export function lastStep() {
     line: number(document.querySelector("#now .step-of").textContent.match(/\d+/)?.[0] ?? "0"),
     registers: changed("registers").map(row),
     cells: changed("sandbox").map(row),
-    pair: pair ? [number(pair.dataset.event), number(pair.querySelector("td.num").textContent)] : null,
+    pair: pair ? [number(pair.dataset.event), pair.querySelector("td.num").textContent] : null,
     state: number(document.querySelector("#automaton .state.now").dataset.state),
   };
 }
 
 /** All pairs in the table: event and value. */
 export const record = () =>
-  [...document.querySelectorAll("#pairs tr")].map((row) => [Number(row.dataset.event), parseInt(row.querySelector("td.num").textContent, 10)]);
+  [...document.querySelectorAll("#pairs tr")].map((row) => [Number(row.dataset.event), row.querySelector("td.num").textContent]);
 
 /** The commands of the listing: address and text. */
 export const commands = () =>

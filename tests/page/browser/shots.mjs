@@ -2,10 +2,9 @@
 // node shots.mjs FOLDER
 import { writeFileSync } from "node:fs";
 import { join } from "node:path";
-import { EXAMPLES, makePage } from "../command.mjs";
+import { CURIOUS, ROAST, makePage } from "../command.mjs";
 import { browserName, openBrowser } from "./chromium.mjs";
 
-const [ROAST, , CURIOUS] = EXAMPLES;
 const MOST_BYTES = 150_000;
 const TOP_OF_MEMORY = "document.getElementById('controls').style.position = 'static'; scrollTo(0, document.getElementById('panel-memory').offsetTop - 12)";
 

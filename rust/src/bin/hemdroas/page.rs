@@ -5,9 +5,10 @@ use super::files;
 use super::json::{list, object, Json};
 use super::load::{Loaded, Setup};
 use super::problem::{Done, Problem, Status};
-use super::running::{USUAL_BUDGET, USUAL_LOG};
-use hemdroas::names::EVENTS;
-use hemdroas::text::{assemble, number};
+use super::running::{readings, USUAL_BUDGET, USUAL_LOG};
+use super::what::event_of;
+use hemdroas::names::{EVENTS, ORDERS};
+use hemdroas::text::{assemble, scaled};
 use hemdroas::Layout;
 use std::path::Path;
 
@@ -90,11 +91,24 @@ fn policy_json(loaded: &Loaded) -> Json {
     ])
 }
 
+/// The scale of a list of readings: that of the probes that the routine reads,
+/// if they have the same; else the numbers are taken as they are.
+fn reading_scale(loaded: &Loaded) -> u32 {
+    let words = loaded.routine().words.iter();
+    let read = words.filter_map(|&word| event_of(word)).filter(|&event| event >= ORDERS);
+    let mut scales: Vec<u32> = read.map(|event| loaded.scale(event)).collect();
+    scales.dedup();
+    match scales[..] {
+        [scale] => scale,
+        _ => 1,
+    }
+}
+
 /// The readings that the arguments list.
-fn readings(args: &Args) -> Result<Vec<u32>, Problem> {
-    let listed = args.value("--readings").unwrap_or("");
-    let words = listed.split([',', ' ', '\t']).filter(|word| !word.is_empty());
-    let numbers: Result<Vec<u32>, String> = words.map(number).collect();
+fn listed_readings(args: &Args, loaded: &Loaded) -> Result<Vec<u32>, Problem> {
+    let scale = reading_scale(loaded);
+    let words = readings(args);
+    let numbers: Result<Vec<u32>, String> = words.iter().map(|word| scaled(word, scale)).collect();
     match numbers {
         Ok(numbers) if numbers.len() <= MOST_READINGS => Ok(numbers),
         Ok(_) => Err(Problem::Usage(format!("--readings: a page takes {MOST_READINGS} at most"))),
@@ -120,7 +134,8 @@ fn data(args: &Args, setup: &Setup, loaded: &Loaded) -> Result<Json, Problem> {
         ("events", list((0..EVENTS).map(|event| loaded.names.of(event)))),
         ("policy", policy_json(loaded)),
         ("free", Json::List(cells.collect())),
-        ("readings", list(readings(args)?)),
+        ("readings", list(listed_readings(args, loaded)?)),
+        ("scales", list(loaded.scales)),
         ("budget", args.number("--budget", USUAL_BUDGET, MOST_BUDGET)?.into()),
         ("log", args.number("--log", USUAL_LOG, MOST_LOG)?.into()),
     ];
