@@ -2,6 +2,7 @@
 // and beside each state that they lead to stand the events that lead there: so nothing meets, with 16 states too.
 import { clipped } from "../model/policy.mjs";
 import { svg } from "./dom.mjs";
+import { BASELINE, headRight } from "./shapes.mjs";
 
 const ROW = 34;
 const TOP = 8;
@@ -13,24 +14,25 @@ const LONGEST_NAME = 14;
 const LONGEST_LABEL = 21;
 const LABEL_GAP = 10;
 const LEAST_BOW = 14;
+const EDGE = 8; // left of the widest arc
+const HEAD_LENGTH = 8;
 
 const middle = (row) => TOP + row * ROW + ROW / 2;
 
 /** An arc from one row to another, the farther the wider. */
 function arc(from, to, rows) {
-  const bow = LEAST_BOW + ((GUTTER - LEAST_BOW - 8) * Math.abs(to - from)) / rows;
+  const bow = LEAST_BOW + ((GUTTER - LEAST_BOW - EDGE) * Math.abs(to - from)) / rows;
   const [y, end] = [middle(from), middle(to)];
   const x = GUTTER - bow;
-  return { d: `M${GUTTER} ${y}C${x} ${y} ${x} ${end} ${GUTTER - 7} ${end}`, head: `M${GUTTER - 1} ${end}l-9-4v8z` };
+  return [svg("path", { d: `M${GUTTER} ${y}C${x} ${y} ${x} ${end} ${GUTTER - HEAD_LENGTH} ${end}` }), headRight(GUTTER - 1, end)];
 }
 
 function arcsFrom(model, state, present) {
   const isNow = state === present.state;
   const drawn = ({ to }) => {
-    const { d, head } = arc(model.row.get(state), model.row.get(to), model.order.length);
     const isTaken = present.taken?.from === state && present.taken.to === to;
     const kind = `arrow ${isNow ? "from-here" : ""} ${isTaken ? "lit" : ""}`;
-    return svg("g", { class: kind }, svg("path", { d }), svg("path", { class: "head", d: head }));
+    return svg("g", { class: kind }, arc(model.row.get(state), model.row.get(to), model.order.length));
   };
   return model.groups.get(state).filter(({ to }) => to !== null && to !== state).map(drawn);
 }
@@ -40,7 +42,7 @@ function labelFor(model, state, present) {
   const group = model.groups.get(present.state)?.find(({ to }) => to === state);
   if (!group) return null;
   const text = `${state === present.state ? "stays: " : "by "}${group.words.join(", ")}`;
-  const at = { class: "leads", x: GUTTER + BOX + LABEL_GAP, y: middle(model.row.get(state)) + 4 };
+  const at = { class: "leads", x: GUTTER + BOX + LABEL_GAP, y: middle(model.row.get(state)) + BASELINE };
   return svg("text", at, clipped(text, LONGEST_LABEL), svg("title", {}, text));
 }
 
@@ -50,7 +52,7 @@ function stateBox(model, state, present) {
   const start = state === model.start ? "▸ " : "";
   return svg("g", { class: `state ${state === present.state ? "now" : ""}`, "data-state": state },
     svg("rect", { x: GUTTER, y: y - TALL / 2, width: BOX, height: TALL, rx: TALL / 2 }),
-    svg("text", { x: GUTTER + BOX / 2, y: y + 5, "text-anchor": "middle" }, start + clipped(name, LONGEST_NAME)),
+    svg("text", { x: GUTTER + BOX / 2, y: y + BASELINE, "text-anchor": "middle" }, start + clipped(name, LONGEST_NAME)),
     svg("title", {}, name));
 }
 

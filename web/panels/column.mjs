@@ -2,6 +2,7 @@
 // the right, all others run at the left. Every arrow has its events beside it.
 import { clipped, wrap } from "../model/policy.mjs";
 import { svg } from "./dom.mjs";
+import { BASELINE, headDown, headRight } from "./shapes.mjs";
 
 const MOST_STATES = 5;
 const MOST_FAR = 4;
@@ -24,6 +25,12 @@ const LABEL_ROOM = 150;
 const SMALLEST_WIDTH = 350;
 const NEXT_WIDTH = 26;
 const GAP = 44;
+const FIRST_LINE = 14; // of the words beside a state, under its top
+const BESIDE = 10; // from an arrow to its words
+const HEAD_LENGTH = 8;
+const FAR_START = 6; // of the first far arrow, under the state's top
+const FAR_END = 7; // above the state's bottom
+const START_LENGTH = 28;
 const STOP_RADIUS = 7;
 const STOP_LINES = 1; // room for the event that is stopped
 
@@ -79,25 +86,25 @@ function loopArrow({ right }, top, lines) {
   return [
     svg("path", { d: `M${right} ${mid - 9}c${LOOP} -17 ${LOOP} 35 7 18` }),
     svg("path", { class: "head", d: `M${right + 1} ${mid + 8}l10-2-3 9z` }),
-    label(right + LOOP, top + 14, lines),
+    label(right + LOOP, top + FIRST_LINE, lines),
   ];
 }
 
 function nextArrow({ middle }, bottom, end, lines) {
-  const y = (bottom + end) / 2 + 4 - ((lines.length - 1) * LINE) / 2;
+  const y = (bottom + end) / 2 + BASELINE - ((lines.length - 1) * LINE) / 2;
   return [
-    svg("path", { d: `M${middle} ${bottom}V${end - 8}` }),
-    svg("path", { class: "head", d: `M${middle} ${end - 1}l-5-9h10z` }),
-    label(middle + 10, y, lines),
+    svg("path", { d: `M${middle} ${bottom}V${end - HEAD_LENGTH}` }),
+    headDown(middle, end),
+    label(middle + BESIDE, y, lines),
   ];
 }
 
 function farArrow({ left }, from, to, reach, words) {
   const out = left - LEFT - FAR_STEP * Math.min(FARTHEST, reach);
   return [
-    svg("path", { d: `M${left + 6} ${from}C${out} ${from} ${out} ${from} ${out} ${(from + to) / 2}S${out} ${to} ${left - 5} ${to}` }),
-    svg("path", { class: "head", d: `M${left + 2} ${to}l-9-5v10z` }),
-    label(left - 5, from + 4, [clipped(words.join(", "), LONGEST_FAR)], { class: "halo", "text-anchor": "end" }),
+    svg("path", { d: `M${left + FAR_START} ${from}C${out} ${from} ${out} ${from} ${out} ${(from + to) / 2}S${out} ${to} ${left - HEAD_LENGTH} ${to}` }),
+    headRight(left + 2, to),
+    label(left - HEAD_LENGTH, from + BASELINE, [clipped(words.join(", "), LONGEST_FAR)], { class: "halo", "text-anchor": "end" }),
   ];
 }
 
@@ -105,11 +112,11 @@ function arrowsOf(model, state, wide, tops, taken) {
   const words = wordsOf(model, state, wide);
   const top = tops.get(state);
   const shape = (group) => {
-    if (group.to === null) return label(wide.right + LOOP, top + 14 + words.loop.length * LINE, words.none, { class: "none" });
+    if (group.to === null) return label(wide.right + LOOP, top + FIRST_LINE + words.loop.length * LINE, words.none, { class: "none" });
     if (group.to === state) return loopArrow(wide, top, words.loop);
     if (isNext(model, state, group.to)) return nextArrow(wide, top + TALL, tops.get(group.to), words.next);
-    const from = top + 6 + words.far.indexOf(group) * FAR_LINE;
-    return farArrow(wide, from, tops.get(group.to) + TALL - 7, distance(model, state, group.to), group.words);
+    const from = top + FAR_START + words.far.indexOf(group) * FAR_LINE;
+    return farArrow(wide, from, tops.get(group.to) + TALL - FAR_END, distance(model, state, group.to), group.words);
   };
   const isLit = (group) => taken?.from === state && taken.to === group.to;
   return model.groups.get(state).map((group) => svg("g", { class: `arrow ${isLit(group) ? "lit" : ""}` }, shape(group)));
@@ -118,25 +125,25 @@ function arrowsOf(model, state, wide, tops, taken) {
 function stateBox({ left, middle, box }, top, name, isNow, state) {
   return svg("g", { class: `state ${isNow ? "now" : ""}`, "data-state": state },
     svg("rect", { x: left, y: top, width: box, height: TALL, rx: TALL / 2 }),
-    svg("text", { x: middle, y: top + TALL / 2 + 5, "text-anchor": "middle" }, clipped(name, LONGEST_NAME)),
+    svg("text", { x: middle, y: top + TALL / 2 + BASELINE, "text-anchor": "middle" }, clipped(name, LONGEST_NAME)),
     svg("title", {}, name));
 }
 
 const startMark = ({ middle }) =>
   svg("g", { class: "start" },
-    svg("text", { x: middle + 10, y: TOP - 17 }, "start"),
-    svg("path", { d: `M${middle} ${TOP - 28}V${TOP - 8}` }),
-    svg("path", { class: "head", d: `M${middle} ${TOP - 1}l-5-9h10z` }));
+    svg("text", { x: middle + BESIDE, y: TOP - START_LENGTH / 2 + BASELINE }, "start"),
+    svg("path", { d: `M${middle} ${TOP - START_LENGTH}V${TOP - HEAD_LENGTH}` }),
+    headDown(middle, TOP));
 
 /** Under the words beside the present state. */
 function stoppedMark(model, state, wide, top, event) {
   const { loop, none } = wordsOf(model, state, wide);
   const x = wide.right + LOOP + STOP_RADIUS;
-  const y = top + 12 + (loop.length + none.length) * LINE;
+  const y = top + FIRST_LINE + (loop.length + none.length) * LINE - BASELINE;
   return svg("g", { class: "stopped" },
     svg("circle", { cx: x, cy: y, r: STOP_RADIUS }),
     svg("path", { d: `M${x - 3} ${y - 3}l6 6m0-6l-6 6` }),
-    svg("text", { x: x + STOP_RADIUS + 5, y: y + 4 }, `${event}: stopped`));
+    svg("text", { x: x + STOP_RADIUS + BASELINE, y: y + BASELINE }, `${event}: stopped`));
 }
 
 /** present: { state, taken: { from, to } or null, stopped: an event's name or null } */

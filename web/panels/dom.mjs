@@ -39,9 +39,11 @@ export function complain(input, problem) {
   input.closest("label, .field").after(said);
 }
 
+const THIRD = 1 / 3; // of a box: where what is shown comes to stand
+
 /** Scrolls a box so that what is shown in it can be seen; the page itself stays. */
 export function reveal(box, shown, margin) {
   const top = shown.getBoundingClientRect().top - box.getBoundingClientRect().top;
   const bottom = top + Math.min(shown.clientHeight || margin, margin);
-  if (top < 0 || bottom > box.clientHeight) box.scrollTop += top - box.clientHeight / 3;
+  if (top < 0 || bottom > box.clientHeight) box.scrollTop += top - box.clientHeight * THIRD;
 }

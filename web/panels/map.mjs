@@ -13,6 +13,7 @@ const COLUMNS = 64;
 const MANY_CELLS = 1024;
 const LARGEST_SQUARE = 18;
 const MANY_ROWS = 20;
+const [FEW_LABELS, MANY_LABELS] = [4, 2]; // rows to a label
 
 function shapeOf(cells, width) {
   const columns = Math.min(cells, width < NARROW && cells <= MANY_CELLS ? FEW_COLUMNS : COLUMNS);
@@ -34,7 +35,7 @@ function drawSquares({ session: { facts } }, map, { columns, rows }) {
   map.setAttribute("viewBox", `0 0 ${columns * SIDE} ${rows * SIDE}`);
   const squares = facts.region.map((region, cell) => square(cell, columns, -GAP, `region ${region}`));
   map.replaceChildren(svg("g", {}, squares), svg("g", { id: "marks" }));
-  const every = rows > MANY_ROWS ? 4 : 2;
+  const every = rows > MANY_ROWS ? FEW_LABELS : MANY_LABELS;
   const label = (_, r) => h("span", {}, r % every ? "" : String(r * columns));
   byId("rows").replaceChildren(...Array.from({ length: rows }, label));
 }

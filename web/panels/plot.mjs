@@ -3,6 +3,7 @@ import { eventName, scaleOf } from "../model/names.mjs";
 import { valueText } from "../model/numbers.mjs";
 import { byId, h, svg } from "./dom.mjs";
 import { kindClass, mark, swatch } from "./marks.mjs";
+import { BASELINE } from "./shapes.mjs";
 
 const NO_CEILING = 0xffffffff; // any number
 const NARROWEST = 280;
@@ -19,6 +20,12 @@ const HEADROOM = 0.12;
 const FAR_CEILING = 4; // times the largest order: such a ceiling is written, not drawn
 const STEPS = [1, 2, 5, 10];
 const TINY = 1e-6;
+const TICK_GAP = 7; // from an axis to its numbers
+const TITLE_GAP = 8; // above a panel
+const FOOT = 24; // under the lowest axis
+const FOOT_TEXT = 16;
+const CEILING_GAP = 5; // above a ceiling's line
+const LOW = 0.1; // of the largest order: a ceiling lower than this has marks on it, and its words stand higher
 
 /** Round numbers between two others, at most so many. */
 function ticks(low, high, most) {
@@ -49,10 +56,10 @@ function frame(panel, width) {
   const lines = ticks(low, high, tall / TICK_HEIGHT).filter(Number.isInteger);
   const grid = (t) => [
     svg("path", { class: "grid", d: `M${LEFT} ${y(t)}H${width - RIGHT}` }),
-    svg("text", { class: "tick", x: LEFT - 7, y: y(t) + 4, "text-anchor": "end" }, String(t / panel.scale)),
+    svg("text", { class: "tick", x: LEFT - TICK_GAP, y: y(t) + BASELINE, "text-anchor": "end" }, String(t / panel.scale)),
   ];
   return [
-    svg("text", { class: "title", x: LEFT, y: top - 8 }, title),
+    svg("text", { class: "title", x: LEFT, y: top - TITLE_GAP }, title),
     lines.map(grid),
     svg("path", { class: "axis", d: `M${LEFT} ${top}V${top + tall}H${width - RIGHT}` }),
   ];
@@ -94,7 +101,7 @@ function series(app, event, pairs, x, y) {
 function ceilingLines({ y, ceilings, largest, scale }, width) {
   return [...ceilings].map(([ceiling, who]) => [
     svg("path", { class: "ceiling", d: `M${LEFT} ${y(ceiling)}H${width - RIGHT}` }),
-    svg("text", { class: "ceiling-text", x: width - RIGHT, y: y(ceiling) - (ceiling < largest / 10 ? 10 : 5), "text-anchor": "end" },
+    svg("text", { class: "ceiling-text", x: width - RIGHT, y: y(ceiling) - (ceiling < LOW * largest ? 2 : 1) * CEILING_GAP, "text-anchor": "end" },
       `ceiling ${ceiling / scale}: ${who.join(", ")}`),
   ]);
 }
@@ -109,8 +116,8 @@ function legend({ page, session: { facts } }, events, hasCeilings) {
 function footer(count, x, width, foot) {
   const every = Math.max(1, Math.ceil(count / Math.floor((width - LEFT - RIGHT) / TICK_WIDTH)));
   const numbers = Array.from({ length: count }, (_, i) => i).filter((i) => i % every === 0);
-  const text = (at, said, anchor) => svg("text", { class: "tick", x: at, y: foot + 16, "text-anchor": anchor }, said);
-  return [text(LEFT - 7, "pair", "end"), ...numbers.map((i) => text(x(i), String(i + 1), "middle"))];
+  const text = (at, said, anchor) => svg("text", { class: "tick", x: at, y: foot + FOOT_TEXT, "text-anchor": anchor }, said);
+  return [text(LEFT - TICK_GAP, "pair", "end"), ...numbers.map((i) => text(x(i), String(i + 1), "middle"))];
 }
 
 function panelsOf(app, all) {
@@ -148,7 +155,7 @@ export function drawPlot(app) {
     eventsOf(panel.pairs).map((event) => series(app, event, shown, x, panel.y)),
   ]);
   const said = `Plot of the record: ${shown.length} of ${all.length} pairs. The same numbers stand in the table.`;
-  const height = foot + 24;
+  const height = foot + FOOT;
   const picture = { viewBox: `0 0 ${width} ${height}`, width, height, role: "img", "aria-label": said };
   const hasCeilings = panels.some((panel) => panel.ceilings?.size);
   box.replaceChildren(svg("svg", picture, now, drawn, footer(all.length, x, width, foot)), legend(app, eventsOf(all), hasCeilings));
