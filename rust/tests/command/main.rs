@@ -11,6 +11,7 @@ mod json;
 mod junk;
 mod keys;
 mod objects;
+mod page;
 mod policies;
 mod routines;
 mod running;
