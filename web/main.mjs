@@ -91,9 +91,10 @@ class App {
     if (!found) byId("now").append(h("p", { class: "hint" }, `From here on, line ${line} is not reached.`));
   }
 
-  /** Something that the run is given is new: all is run again, from the installation. */
-  async give(news, { thenStep = false } = {}) {
+  /** Something that the run is given is new: all is run again, from the installation. Then one stays, or goes a step or to the end. */
+  async give(news, then = "stay") {
     this.stop();
+    const wasAsked = byId("pause").contains(document.activeElement);
     Object.assign(this.session.given, news);
     const bar = byId("bar");
     const isDone = await this.session.run((done, most) => {
@@ -103,8 +104,10 @@ class App {
     });
     if (!isDone) return;
     bar.hidden = true;
-    if (thenStep) this.session.step();
+    if (then === "step") this.session.step();
+    if (then === "end") this.session.go(this.session.last);
     this.show();
+    if (wasAsked) byId("next-reading")?.focus();
     runUnmasked(this);
   }
 

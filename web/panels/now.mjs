@@ -36,8 +36,8 @@ function askReading(app, event) {
   const scale = scales[events.indexOf(event)] ?? app.session.readingScale;
   const sample = valueText(SAMPLE_READING, scale);
   const field = h("input", { id: "next-reading", name: "reading", inputmode: "decimal", autocomplete: "off", placeholder: sample });
-  const give = (submitted) => {
-    submitted.preventDefault();
+  const give = (then) => (pressed) => {
+    pressed.preventDefault();
     const { values, problem } = readNumbers(field.value, scale);
     const { readings } = app.session.given;
     const isTooMany = !problem && readings.length + values.length > MOST_READINGS;
@@ -45,9 +45,11 @@ function askReading(app, event) {
     const none = !problem && !values.length ? `Write the probe’s next reading, such as ${sample}.` : null;
     complain(field, problem ?? none ?? tooMany);
     if (problem ?? none ?? tooMany) return;
-    app.give({ readings: [...readings, ...values] }, { thenStep: true });
+    app.give({ readings: [...readings, ...values] }, then);
   };
-  const form = h("form", { class: "write", onsubmit: give }, h("label", {}, "Next reading ", field), h("button", { type: "submit", class: "main" }, "Give it"));
+  const stepButton = h("button", { type: "submit", class: "main" }, "Give it");
+  const runButton = h("button", { type: "button", onclick: give("end") }, "and run on");
+  const form = h("form", { class: "write", onsubmit: give("step") }, h("label", {}, "Next reading ", field), stepButton, runButton);
   return [said("The probe is silent.", `${event} waits for a reading.`), form];
 }
 
@@ -55,7 +57,7 @@ function offerLog(app, event) {
   const { given } = app.session;
   const told = said("The log is full.", `${event} waits for two free cells.`);
   if (given.log < PAIR) return [told, h("p", {}, "A log of fewer than two cells holds no pair: make it longer below.")];
-  return [told, mainButton("Empty the log and go on", () => app.give({ emptied: given.emptied + 1 }, { thenStep: true }))];
+  return [told, mainButton("Empty the log and go on", () => app.give({ emptied: given.emptied + 1 }, "step"))];
 }
 
 function offerBudget(app) {
@@ -63,7 +65,7 @@ function offerBudget(app) {
   const told = said("The budget is spent.", `${plural(trace.frames.length - 1, "command")} done.`);
   if (given.budget >= MOST_BUDGET) return [told, h("p", {}, `This page stops at ${MOST_BUDGET} commands.`)];
   const more = Math.min(MOST_BUDGET - given.budget, Math.max(1, app.page.budget));
-  return [told, mainButton(`Give ${more} more`, () => app.give({ budget: given.budget + more }, { thenStep: true }))];
+  return [told, mainButton(`Give ${more} more`, () => app.give({ budget: given.budget + more }, "step"))];
 }
 
 const OFFERS = {

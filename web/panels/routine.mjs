@@ -12,12 +12,15 @@ const LINE = /^(\s*(?:landing\b\s*)?(?:[^\s:#]+:\s*)*)([^#]*)(#.*)?$/i; // marks
 const INDENT = 2;
 const REVEAL_MARGIN = 70;
 
-/** A line with its label, name, operands and comment marked. A short indentation is enough here. */
+/** Blanks that put text in columns take too much room here: two are enough. */
+const narrowed = (text) => text.replace(/ {2,}/g, "  ");
+
+/** A line with its label, name, operands and comment marked. */
 function coloured(text) {
-  const [, label, code, comment] = text.match(LINE);
+  const [, label, code, comment] = narrowed(text).match(LINE);
   const [, space, name, rest] = code.match(/^(\s*)(\S*)(.*?)\s*$/);
   const isIndent = label.trim() === "";
-  const start = isIndent ? " ".repeat(Math.min(INDENT, (label + space).length)) : [h("span", { class: "label" }, label), space];
+  const start = isIndent ? " ".repeat(Math.min(INDENT, (label + space).length)) : [h("span", { class: "label" }, label.trim()), " "];
   const note = comment ? h("span", { class: name ? "comment beside" : "comment" }, comment) : null;
   return [start, h("span", { class: "op" }, name), rest, note];
 }

@@ -101,6 +101,20 @@ test("a silent probe asks for a reading, and goes on with it", async () => {
   assert.match(await said("#pause .sum"), /^ended \(20\): 106 commands/);
 });
 
+test("readings are typed one after another, and the field keeps the focus", async () => {
+  await page.type("#readings", "");
+  await isIdle();
+  await page.click("#do-end");
+  for (const reading of ["1500", "1960", "2100"]) {
+    await page.run("(() => { const e = document.querySelector('#next-reading'); e.focus(); e.select(); })()");
+    await page.call("Input.insertText", { text: reading });
+    await page.click("#pause button[type=button]");
+    await isIdle();
+  }
+  assert.match(await said("#pause .sum"), /^ended \(20\): 106 commands/);
+  assert.equal(await at(), LAST);
+});
+
 test("a full log is emptied, and a spent budget raised", async () => {
   await page.type("#log", "4");
   await isIdle();
