@@ -9,7 +9,7 @@ const FLAGS = ["--headless", "--no-sandbox", "--disable-gpu", "--hide-scrollbars
 const [TO_BROWSER, FROM_BROWSER] = [3, 4]; // the pipe's two files
 const READY_MS = 20000;
 const POLL_MS = 50;
-const SHOT_QUALITY = 85;
+const SHOT_QUALITY = 75;
 const KEY_CODES = { ArrowRight: 39, ArrowLeft: 37, Home: 36, End: 35, " ": 32, Tab: 9, Enter: 13, e: 69 };
 
 export const pause = (ms) => new Promise((done) => setTimeout(done, ms));

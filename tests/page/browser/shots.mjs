@@ -10,7 +10,7 @@ const TOP_OF_MEMORY = "document.getElementById('controls').style.position = 'sta
 
 const SHOTS = [
   { name: "roast", example: ROAST, steps: 12, size: { width: 1180, height: 1120 }, then: "scrollTo(0, 0)" },
-  { name: "memory", example: CURIOUS, steps: 5, size: { width: 1180, height: 1120 }, then: TOP_OF_MEMORY },
+  { name: "memory", example: CURIOUS, steps: 5, size: { width: 1180, height: 1290 }, then: TOP_OF_MEMORY },
   { name: "phone", example: ROAST, steps: 26, size: { width: 390, height: 844, isPhone: true, isDark: true }, then: "document.getElementById('panel-policy').scrollIntoView(); scrollBy(0, -170)" },
 ];
 
