@@ -89,6 +89,11 @@ test("a full log that is emptied, and further readings, lead to the same record"
   const parts = await open(page, { log: 4, emptied: 99 });
   assert.deepEqual(parts.trace.events, whole.trace.events);
   assert.equal(parts.trace.ending, ENDING.ENDED);
+  parts.setByCommand(true);
+  for (let at = parts.last; at >= 0; at--) {
+    parts.go(at);
+    assert.deepEqual(parts.failures, []);
+  }
   const silent = await open(page, { readings: page.readings.slice(0, 1) });
   silent.go(silent.last);
   silent.given.readings = page.readings;

@@ -9,7 +9,6 @@ use super::running::{readings, USUAL_BUDGET, USUAL_LOG};
 use super::what::event_of;
 use hemdroas::names::{EVENTS, ORDERS};
 use hemdroas::text::{assemble, scaled};
-use hemdroas::Layout;
 use std::path::Path;
 
 /// The page without what a routine hands in. It is empty if the library for it
@@ -37,21 +36,6 @@ fn file_name(path: &str) -> String {
 /// Text between the tags of a page.
 fn escaped(text: &str) -> String {
     text.replace('&', "&amp;").replace('<', "&lt;").replace('>', "&gt;")
-}
-
-/// The numbers of a layout, in the order of the C struct.
-fn layout_json(layout: &Layout) -> Json {
-    let numbers = [
-        layout.size,
-        layout.low,
-        layout.high,
-        layout.cell,
-        layout.table,
-        layout.states,
-        layout.base,
-        layout.landings,
-    ];
-    list(numbers.into_iter().chain(layout.ceilings))
 }
 
 /// Rising numbers as ranges, each its first and its last.
@@ -129,7 +113,7 @@ fn data(args: &Args, setup: &Setup, loaded: &Loaded) -> Result<Json, Problem> {
         ("name", file_name(args.file(0)).into()),
         ("drum", file_name(args.needed("--drum")?).into()),
         ("policyName", file_name(args.needed("--policy")?).into()),
-        ("layout", layout_json(loaded.layout())),
+        ("layout", list(loaded.layout().to_array())),
         ("landings", ranges_json(&loaded.checked.landings)),
         ("events", list((0..EVENTS).map(|event| loaded.names.of(event)))),
         ("policy", policy_json(loaded)),
