@@ -142,17 +142,29 @@ test("a jump tells its reason", async () => {
 
 const LOOP = "loop: ADD r1, r1, r2\n STORE r3, r1\n GOIF r0, r0, always, loop\n";
 
-test("10,000 commands are run in slices, and a newer run ends an older one", async () => {
+test("10,000 commands are run in slices", async () => {
   const drum = ROAST.files.slice(1);
   const page = pageOf({ name: "loop", files: [write("loop.routine", LOOP), ...drum], readings: [] }, ["--budget", "10000"]);
   const session = new Session(await library(), page);
   const told = [];
-  const older = session.run((done) => told.push(done));
-  assert.equal(await older, true);
+  assert.equal(await session.run((done) => told.push(done)), true);
   assert.equal(session.trace.frames.length - 1, 10000);
   assert.ok(told.length > 2 && told.every((done, i) => i === 0 || done > told[i - 1]), `${told}`);
-  const [first, second] = await Promise.all([session.run(), session.run()]);
-  assert.deepEqual([first, second], [false, true]);
+});
+
+test("a newer run takes over from an older one in its midst, and comes out as if it were alone", async () => {
+  const drum = ROAST.files.slice(1);
+  const page = pageOf({ name: "loop", files: [write("loop.routine", LOOP), ...drum], readings: [] }, ["--budget", "10000"]);
+  const alone = await open(page, { budget: 9000 });
+  const session = new Session(await library(), page);
+  const older = session.run();
+  await new Promise((done) => setTimeout(done));
+  session.given.budget = 9000;
+  const newer = session.run();
+  assert.deepEqual([await older, await newer], [false, true]);
+  session.go(session.last);
+  assert.deepEqual(session.failures, []);
+  assert.deepEqual(session.trace.frames.at(-1).machine, alone.trace.frames.at(-1).machine);
 });
 
 test("a policy of 16 states is drawn with all that events lead to", async () => {

@@ -31,11 +31,8 @@ export class Session {
     const bench = this.benches.find((one) => one !== this.trace?.bench);
     const trace = new Trace(this.lib, this.facts, { ...this.given }, bench);
     const isLatest = () => turn === this.turn;
-    const done = await inSlices(trace.run(), (count) => {
-      if (isLatest()) onSlice(count, this.given.budget);
-      return isLatest();
-    });
-    if (!done) return false;
+    const isDone = await inSlices(trace.run(), isLatest, (count) => onSlice(count, trace.given.budget));
+    if (!isDone) return false;
     const stood = this.trace ? this.command : 0;
     this.trace = trace;
     this.standAt(stood);

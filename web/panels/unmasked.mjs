@@ -114,6 +114,7 @@ export async function runUnmasked(app) {
   const address = byId("mask-address").value;
   const bare = withoutMask(session.lib, session.facts, Number(choice.value), address === WRITTEN ? AS_WRITTEN : Number(address));
   const trace = new Trace(session.lib, bare, { ...session.given }, app.bareBench, { withEngine: false });
-  if (!(await inSlices(trace.run(), () => turn === app.bareTurn))) return;
+  const isLatest = () => turn === app.bareTurn;
+  if (!(await inSlices(trace.run(), isLatest))) return;
   byId("unmasked").replaceChildren(bundleTable(app, bare), checkerText(app, bare), ...outcome(app, trace));
 }
