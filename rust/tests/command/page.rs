@@ -3,7 +3,13 @@
 use super::{command, examples, file, folder};
 use std::fs;
 
-const ROAST: [&str; 5] = ["roast.routine", "--drum", "roast.drum", "--policy", "roast.policy"];
+const ROAST: [&str; 5] = [
+    "roast.routine",
+    "--drum",
+    "roast.drum",
+    "--policy",
+    "roast.policy",
+];
 
 /// The roast's drum with other lines at its end.
 fn drum_with(name: &str, lines: &str) -> String {
@@ -17,7 +23,10 @@ fn a_page_is_written_or_the_missing_library_named() {
     let path = out.to_str().expect("paths are text");
     let came = command(&[&["page"], &ROAST[..], &["-o", path]].concat());
     if came.status != 0 {
-        came.ended(3, "run tools/build-for wasm32-unknown-unknown, then build the command again");
+        came.ended(
+            3,
+            "run tools/build-for wasm32-unknown-unknown, then build the command again",
+        );
         assert!(!out.exists());
         return;
     }
@@ -41,8 +50,20 @@ fn a_refused_routine_makes_no_page() {
 
 #[test]
 fn named_cells_hold_their_value_and_are_the_drums_own() {
-    let run = |drum: &str| command(&["check", "roast.routine", "--drum", drum, "--policy", "roast.policy"]);
-    assert_eq!(run(&drum_with("cells", "cell 20 7 hopper weight")).status, 0);
+    let run = |drum: &str| {
+        command(&[
+            "check",
+            "roast.routine",
+            "--drum",
+            drum,
+            "--policy",
+            "roast.policy",
+        ])
+    };
+    assert_eq!(
+        run(&drum_with("cells", "cell 20 7 hopper weight")).status,
+        0
+    );
     for (cell, said) in [
         ("cell 0 1 x", "cell 0 is not the drum's own"),
         ("cell 300 1 x", "cell 300 is not the drum's own"),

@@ -67,7 +67,10 @@ impl DrumFile {
         memory: &mut [u32],
         other: &[u32],
     ) -> Result<(), Problem> {
-        for NamedCell { cell, place, value, .. } in &self.drum.cells {
+        for NamedCell {
+            cell, place, value, ..
+        } in &self.drum.cells
+        {
             let at = *cell as usize;
             let is_written = memory.get(at) == other.get(at);
             if is_written || (layout.low..=layout.high).contains(cell) {
@@ -75,7 +78,9 @@ impl DrumFile {
                     "cell {cell} is not the drum's own: name one below U and outside sandbox, \
                      state cell, table and landing cells"
                 );
-                return Err(Report::error(&self.path, message).at(&self.content, *place).into());
+                return Err(Report::error(&self.path, message)
+                    .at(&self.content, *place)
+                    .into());
             }
             memory[at] = *value;
         }

@@ -35,7 +35,9 @@ fn file_name(path: &str) -> String {
 
 /// Text between the tags of a page.
 fn escaped(text: &str) -> String {
-    text.replace('&', "&amp;").replace('<', "&lt;").replace('>', "&gt;")
+    text.replace('&', "&amp;")
+        .replace('<', "&lt;")
+        .replace('>', "&gt;")
 }
 
 /// Rising numbers as ranges, each its first and its last.
@@ -56,11 +58,17 @@ fn routine_json(loaded: &Loaded) -> Result<[(&'static str, Json); 5], Problem> {
     let routine = loaded.routine();
     let source = routine.source();
     let text = assemble(source.as_bytes(), &routine.names).unwrap_or_default();
-    let labels = text.labels.iter().map(|(label, place)| (label.clone(), (*place).into()));
+    let labels = text
+        .labels
+        .iter()
+        .map(|(label, place)| (label.clone(), (*place).into()));
     Ok([
         ("source", list(source.lines())),
         ("lines", list(text.lines())),
-        ("texts", list((0..routine.words.len()).map(|place| routine.instruction(place as u32)))),
+        (
+            "texts",
+            list((0..routine.words.len()).map(|place| routine.instruction(place as u32))),
+        ),
         ("labels", Json::Object(labels.collect())),
         ("routine", list(routine.bytes()?.into_iter().map(u32::from))),
     ])
@@ -79,7 +87,9 @@ fn policy_json(loaded: &Loaded) -> Json {
 /// if they have the same; else the numbers are taken as they are.
 fn reading_scale(loaded: &Loaded) -> u32 {
     let words = loaded.routine().words.iter();
-    let read = words.filter_map(|&word| event_of(word)).filter(|&event| event >= ORDERS);
+    let read = words
+        .filter_map(|&word| event_of(word))
+        .filter(|&event| event >= ORDERS);
     let mut scales: Vec<u32> = read.map(|event| loaded.scale(event)).collect();
     scales.dedup();
     match scales[..] {
@@ -95,7 +105,9 @@ fn listed_readings(args: &Args, loaded: &Loaded) -> Result<Vec<u32>, Problem> {
     let numbers: Result<Vec<u32>, String> = words.iter().map(|word| scaled(word, scale)).collect();
     match numbers {
         Ok(numbers) if numbers.len() <= MOST_READINGS => Ok(numbers),
-        Ok(_) => Err(Problem::Usage(format!("--readings: a page takes {MOST_READINGS} at most"))),
+        Ok(_) => Err(Problem::Usage(format!(
+            "--readings: a page takes {MOST_READINGS} at most"
+        ))),
         Err(said) => Err(Problem::Usage(format!("--readings: {said}"))),
     }
 }
@@ -115,16 +127,24 @@ fn data(args: &Args, setup: &Setup, loaded: &Loaded) -> Result<Json, Problem> {
         ("policyName", file_name(args.needed("--policy")?).into()),
         ("layout", list(loaded.layout().to_array())),
         ("landings", ranges_json(&loaded.checked.landings)),
-        ("events", list((0..EVENTS).map(|event| loaded.names.of(event)))),
+        (
+            "events",
+            list((0..EVENTS).map(|event| loaded.names.of(event))),
+        ),
         ("policy", policy_json(loaded)),
         ("free", Json::List(cells.collect())),
         ("readings", list(listed_readings(args, loaded)?)),
         ("scales", list(loaded.scales)),
-        ("budget", args.number("--budget", USUAL_BUDGET, MOST_BUDGET)?.into()),
+        (
+            "budget",
+            args.number("--budget", USUAL_BUDGET, MOST_BUDGET)?.into(),
+        ),
         ("log", args.number("--log", USUAL_LOG, MOST_LOG)?.into()),
     ];
     fields.extend(routine_json(loaded)?);
-    let named = fields.into_iter().map(|(name, value)| (name.to_string(), value));
+    let named = fields
+        .into_iter()
+        .map(|(name, value)| (name.to_string(), value));
     Ok(Json::Object(named.collect()))
 }
 
@@ -132,7 +152,9 @@ pub fn page(args: &Args) -> Done {
     let setup = Setup::of(args)?;
     let loaded = setup.load(args.file(0))?;
     // A tag cannot begin in the data, whatever the routine's text says.
-    let data = data(args, &setup, &loaded)?.to_string().replace('<', "\\u003c");
+    let data = data(args, &setup, &loaded)?
+        .to_string()
+        .replace('<', "\\u003c");
     let Some((head, tail)) = PAGE.split_once(DATA) else {
         let said = "was missing when this command was built: run tools/build-for \
                     wasm32-unknown-unknown, then build the command again";
