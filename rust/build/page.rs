@@ -58,10 +58,8 @@ fn imported(line: &str) -> Option<(&str, &str)> {
 fn exported(line: &str) -> Option<&str> {
     let said = line.strip_prefix("export ")?;
     let is_end = |c: char| !c.is_ascii_alphanumeric() && c != '_';
-    let words = said.split(is_end).filter(|word| !word.is_empty());
-    words
-        .skip_while(|word| ["async", "const", "function", "class"].contains(word))
-        .next()
+    let is_keyword = |word: &&str| ["", "async", "const", "function", "class"].contains(word);
+    said.split(is_end).find(|word| !is_keyword(word))
 }
 
 /// The modules as one script, each a block behind those that it imports from. A
