@@ -39,6 +39,7 @@ static void put_text(const char *text, uint32_t length)
     X(RUN, "hemdroas_run", 1) \
     X(PREVIEW, "hemdroas_preview", 1) \
     X(ENGINE_RUN, "hemdroas_engine_run", 1) \
+    X(ENGINE_CONTINUE, "hemdroas_engine_continue", 1) \
     X(PRECEDENCE, "hemdroas_precedence", 1) \
     X(DETERMINISE, "hemdroas_determinise", 1) \
     X(MERGE, "hemdroas_merge", 1)
@@ -470,17 +471,20 @@ static void call_word_right(void)
     called(WORD_RIGHT, hemdroas_word_right(states, word));
 }
 
+/* Calls either entry of the engine, with the record as the last call left it. */
 static void call_engine(uint32_t times)
 {
     struct hemdroas_engine_answer answer;
     engine = (struct hemdroas_engine){{0}, 0, 0};
     while (times--) {
         struct lent lent = make_lent();
+        enum function entry = chance(OFTEN) ? ENGINE_RUN : ENGINE_CONTINUE;
         damage(&engine, sizeof engine / sizeof(uint32_t), SELDOM);
-        hemdroas_engine_run(&layout, LENT(words, words_made), &engine, LENT(memory, lent.cells), lent.budget,
-                            LENT(readings, lent.readings), LENT(event_log, lent.log), &answer);
+        (entry == ENGINE_RUN ? hemdroas_engine_run : hemdroas_engine_continue)(
+            &layout, LENT(words, words_made), &engine, LENT(memory, lent.cells), lent.budget, LENT(readings, lent.readings),
+            LENT(event_log, lent.log), &answer);
         mix_record(&answer, sizeof answer), mix_record(&engine, sizeof engine), mix_cells(event_log, lent.log);
-        mix_cells(memory, lent.cells), called(ENGINE_RUN, answer.ending);
+        mix_cells(memory, lent.cells), called(entry, answer.ending);
     }
 }
 
