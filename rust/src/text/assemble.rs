@@ -213,8 +213,7 @@ impl Meanings<'_> {
         };
         let same = |kind: &Kind| kind.name.eq_ignore_ascii_case(name.text);
         let Some(number) = KINDS.iter().position(same) else {
-            let near = hint(name.text, KINDS.iter().map(|kind| kind.name));
-            return Err(name.fault(format!("{} is no instruction{near}", quoted(name.text))));
+            return Err(name.fault(no_instruction(name.text, rest.is_none())));
         };
         let kind = &KINDS[number];
         let operands = rest.map_or(Vec::new(), |rest| rest.split(','));
@@ -229,6 +228,18 @@ impl Meanings<'_> {
         let kind = number as u32;
         Ok((word(Fields { kind, ..fields }), source))
     }
+}
+
+/// What is said of a line that begins with no instruction.
+fn no_instruction(word: &str, is_alone: bool) -> String {
+    let near = hint(word, KINDS.iter().map(|kind| kind.name));
+    let near = match near.is_empty() {
+        false => near,
+        true if word.starts_with([';', '/', '\'']) => "; a comment begins with #".to_string(),
+        true if is_alone && is_name(word) => "; a label ends with a colon".to_string(),
+        true => String::new(),
+    };
+    format!("{} is no instruction{near}", quoted(word))
 }
 
 /// The form that has as many operands, or what is wrong with them.
@@ -254,6 +265,7 @@ fn form_of(kind: &Kind, name: Said, operands: &[Said]) -> Result<&'static [Field
     }
     let most = kind.forms[kind.forms.len() - 1].len();
     let message = match operands.get(most) {
+        Some(_) if most == 0 => format!("{} takes no operand", kind.name),
         Some(_) => format!("{} takes no more than '{}'", kind.name, kind.example),
         None => format!("an operand is missing, as in '{}'", kind.example),
     };

@@ -20,6 +20,9 @@ pub fn number(word: &str) -> Result<u32, String> {
         }
         (None, None) if all_digits(word, 10) => word.parse().ok(),
         _ if word.is_empty() => return Err("a number is missing".to_string()),
+        _ if word.contains('.') => {
+            return Err(format!("{} is no whole number", quoted(word)));
+        }
         _ => return Err(format!("{} is no number", quoted(word))),
     };
     parsed.ok_or_else(|| too_large(word))

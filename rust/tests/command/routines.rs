@@ -210,6 +210,18 @@ fn refusals_of_texts_name_their_line() {
             "SET r1,, 5\n",
             ":1:8: error: a comma is too many: it goes as in 'SET r1, 200'",
         ),
+        (
+            "SET r1, 5, 6\n",
+            ":1:12: error: SET takes no more than 'SET r1, 200'",
+        ),
+        (
+            "; note\n",
+            ":1:1: error: ';' is no instruction; a comment begins with #",
+        ),
+        (
+            "loop\n",
+            ":1:1: error: 'loop' is no instruction; a label ends with a colon",
+        ),
         ("SET r1,\n", ":1:8: error: a number is missing"),
         ("SET , 5\n", ":1:5: error: a register is missing"),
         ("SET r1, +5\n", ":1:*: error: '+5' is no number"),
@@ -225,7 +237,7 @@ fn refusals_of_texts_name_their_line() {
         ("a:\na: HALT\n", ":2:*: error: the label 'a' stands twice"),
         ("4: HALT\n", ":1:*: error: '4' cannot be a label"),
         ("EVENT gas\n", ":1:*: error: no event is named 'gas'"),
-        ("HALT r1\n", ":1:6: error: HALT takes no more than 'HALT'"),
+        ("HALT r1\n", ":1:6: error: HALT takes no operand"),
     ];
     for (text, expected) in said {
         let path = file(&folder, "text", text);

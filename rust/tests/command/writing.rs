@@ -147,7 +147,7 @@ SET r15, 1
 text:2:9: error: a comma is missing before '200', as in 'SET r1, 200'
 \tSET r1 200
 \t       ^^^
-text:3:1: error: 'JUMP' is no instruction
+text:3:1: error: 'JUMP' is no instruction; a label ends with a colon
 JUMP
 ^^^^
 text:4:15: error: an operand is missing, as in 'ADD r3, r1, r2'
