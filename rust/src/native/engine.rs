@@ -72,6 +72,17 @@ fn call(entry: Entry, layout: &Layout, words: &[u64], budget: u32, lent: Lent) -
     engine_answer(five)
 }
 
+/// A call on the record of an engine.
+fn call_on(
+    engine: &mut Engine,
+    call: impl FnOnce(&mut EngineRecord) -> EngineAnswer,
+) -> EngineAnswer {
+    let mut record = engine.to_record();
+    let answer = call(&mut record);
+    *engine = record.to_engine();
+    answer
+}
+
 /// Runs a routine's words as they are written, until they end, pause or have
 /// used up the budget of instructions.
 pub fn engine(
@@ -83,10 +94,9 @@ pub fn engine(
     readings: &[u32],
     log: &mut [u32],
 ) -> EngineAnswer {
-    let mut record = engine.to_record();
-    let answer = engine_record(layout, words, &mut record, memory, budget, readings, log);
-    *engine = record.to_engine();
-    answer
+    call_on(engine, |record| {
+        engine_record(layout, words, record, memory, budget, readings, log)
+    })
 }
 
 /// [`engine`] on a record of the C interface, whose status may be any number:
@@ -121,10 +131,9 @@ pub fn engine_continue(
     readings: &[u32],
     log: &mut [u32],
 ) -> EngineAnswer {
-    let mut record = engine.to_record();
-    let answer = engine_continue_record(layout, words, &mut record, memory, budget, readings, log);
-    *engine = record.to_engine();
-    answer
+    call_on(engine, |record| {
+        engine_continue_record(layout, words, record, memory, budget, readings, log)
+    })
 }
 
 /// [`engine_continue`] on a record of the C interface, as [`engine_record`].

@@ -31,34 +31,45 @@ pub struct Lent {
     pub log: Vec<u32>,
 }
 
-/// The second entry beside its model on what a run was lent; and, where judging
-/// takes the words, beside what that run answered and left.
+/// A run of the model's or the library's engine, on `R`.
+type Run<R> = fn(&Layout, &[u64], &mut R, &mut [u32], u32, &[u32], &mut [u32]) -> EngineAnswer;
+
+/// What the library answers and leaves, which the model does too.
+fn compared(
+    (modelled, given): (Run<Engine>, Run<EngineRecord>),
+    layout: &Layout,
+    words: &[u64],
+    lent: &Lent,
+    (budget, readings): (u32, &[u32]),
+) -> (EngineAnswer, Lent) {
+    let mut left = lent.clone();
+    let (memory, log) = (&mut left.memory, &mut left.log);
+    let answer = left
+        .record
+        .run(|engine| modelled(layout, words, engine, memory, budget, readings, log));
+
+    let mut theirs = lent.clone();
+    let (record, memory, log) = (&mut theirs.record, &mut theirs.memory, &mut theirs.log);
+    let given = given(layout, words, record, memory, budget, readings, log);
+    let input = || format!("{words:x?} from {lent:?} under {layout:?}, {budget}, {readings:?}");
+    assert_eq!(given, answer, "running {}", input());
+    assert_eq!(theirs, left, "what was lent to {}", input());
+    (answer, left)
+}
+
+/// The second entry on what a run was lent; and, where judging takes the words,
+/// beside what that run answered and left.
 fn continues(
     tally: &mut Tally,
     layout: &Layout,
     words: &[u64],
     lent: &Lent,
-    (budget, readings): (u32, &[u32]),
+    inputs: (u32, &[u32]),
     ran: (EngineAnswer, &Lent),
 ) {
-    let mut left = lent.clone();
-    let (memory, log) = (&mut left.memory, &mut left.log);
-    let answer = left
-        .record
-        .run(|engine| model::engine_continue(layout, words, engine, memory, budget, readings, log));
-
-    let mut theirs = lent.clone();
-    let Lent {
-        record,
-        memory,
-        log,
-    } = &mut theirs;
-    let given =
-        native::engine_continue_record(layout, words, record, memory, budget, readings, log);
-    let input = || format!("{words:x?} from {lent:?} under {layout:?}, {budget}, {readings:?}");
-    assert_eq!(given, answer, "going on with {}", input());
-    assert_eq!(theirs, left, "what was lent to {}", input());
-
+    let by: (Run<Engine>, Run<EngineRecord>) =
+        (model::engine_continue, native::engine_continue_record);
+    let (answer, left) = compared(by, layout, words, lent, inputs);
     match ran.0.came {
         Err((
             Refusal::UnknownKind | Refusal::Foreign | Refusal::OffRange | Refusal::BadLanding,
@@ -75,8 +86,7 @@ fn continues(
         _ => assert_eq!(
             (&answer, &left),
             (&ran.0, ran.1),
-            "both entries, {}",
-            input()
+            "both entries, {words:x?} from {lent:?}"
         ),
     }
     tally.count("continue", answer.number());
@@ -90,22 +100,9 @@ pub fn engine(
     budget: u32,
     readings: &[u32],
 ) -> EngineAnswer {
-    let mut left = lent.clone();
-    let (memory, log) = (&mut left.memory, &mut left.log);
-    let answer = left
-        .record
-        .run(|engine| model::engine(layout, words, engine, memory, budget, readings, log));
-
-    let mut theirs = lent.clone();
-    let Lent {
-        record,
-        memory,
-        log,
-    } = &mut theirs;
-    let given = native::engine_record(layout, words, record, memory, budget, readings, log);
+    let by: (Run<Engine>, Run<EngineRecord>) = (model::engine, native::engine_record);
+    let (answer, left) = compared(by, layout, words, lent, (budget, readings));
     let input = || format!("{words:x?} from {lent:?} under {layout:?}, {budget}, {readings:?}");
-    assert_eq!(given, answer, "running {}", input());
-    assert_eq!(theirs, left, "what was lent to {}", input());
 
     let status = lent.record.0[EngineRecord::STATUS];
     if answer.came.is_err() || status != 0 {
