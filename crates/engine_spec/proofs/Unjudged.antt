@@ -1,0 +1,106 @@
+-- Words that nobody judged: the second entry does what a run of the repaired words does, but for the fault.
+use mathlib.Core.Path.{_≡_, refl, sym, _∙_, ap, subst}
+use mathlib.Core.Bool.{Bool, true, false, cond}
+use mathlib.Core.Logic.{_⊎_, inl, inr, ⊎-elim}
+use mathlib.Core.List.{List, [], _∷_, map}
+use Prim.Native.Nat.{ℕ, zero, suc, _+_, _<_, _≤_}
+use native.Mathlib.Omega.{arith}
+use borrow.Author.Tests.{lt-ltb, ltb-true, ltb-false, eq-eqb}
+use lib.Dec.{eqb, ltb}
+use lib.ListN.{length, getD, List·getD-eq-default}
+use Rattle.types.specs.declared.Layout.{Layout}
+use Rattle.types.specs.declared.Status.{Status}
+use Rattle.types.specs.declared.Status.the-variants.{Running, Ended, Stopped, Faulted, Strayed}
+use Rattle.types.specs.declared.Ending.{Ending}
+use Rattle.types.specs.declared.Effect.{Effect}
+use Rattle.types.specs.declared.Effect.the-variants.{End, Wait}
+use Rattle.types.specs.Names.{mostInstructions}
+use Rattle.spec.specs.Words.{refusalAt, instrOf, routine, bundlesFor}
+use Rattle.spec.specs.Machines.{State, viewAt, applyOf, endingOf}
+use Rattle.spec.proofs.Bools.{no, cases}
+use Rattle.spec.proofs.Masks.{sizes}
+use Rattle.spec.proofs.Loops.{Goes, loop-ind, over-from, wait-from, go-from}
+use Rattle.engine_spec.specs.Engines.{instrEffect, instrEffectAt, nextOf, withState, applyEffect, RunResult, resultIn, runFrom}
+use Rattle.engine_spec.specs.Continues.{isInstructionAt, reachedEffect, reachedNext, continueFrom, repaired, SameButFault, UnjudgedWords}
+use Rattle.engine_spec.proofs.Runs.{engineLoop}
+use Rattle.engine_spec.proofs.Continues.{zero-taken, continueLoop}
+
+-- ---- the words repaired
+length-map : (f : ℕ → ℕ) (ws : List ℕ) → length (map f ws) ≡ length ws
+length-map f [] = refl
+length-map f (w ∷ ws) = ap suc (length-map f ws)
+
+getD-map : (f : ℕ → ℕ) → f 0 ≡ 0 → (ws : List ℕ) (i : ℕ) → getD (map f ws) i 0 ≡ f (getD ws i 0)
+getD-map f z [] i = sym z
+getD-map f z (w ∷ ws) zero = refl
+getD-map f z (w ∷ ws) (suc i) = getD-map f z ws i
+
+repaired-at : (ws : List ℕ) (i : ℕ) → getD (repaired ws) i 0 ≡ cond (isInstructionAt ws i) (getD ws i 0) 0
+repaired-at ws i = getD-map (λ w. cond (eqb (refusalAt (length ws) w) 0) w 0) (rw (eq-eqb _ _ (zero-taken (length ws)))) ws i
+
+runs-or-not : (t : Status) → (t ≡ Running) ⊎ (t ≡ Running → ⊥)
+runs-or-not Running = inl refl
+runs-or-not Ended = inr (λ e. no (cc))
+runs-or-not Stopped = inr (λ e. no (cc))
+runs-or-not Faulted = inr (λ e. no (cc))
+runs-or-not Strayed = inr (λ e. no (cc))
+
+same : (r : RunResult) → SameButFault r r
+same r = record { mem = refl; log = refl; regs = refl; at = refl; status = inl refl; steps = refl; pairs = refl; used = refl }
+
+module _ (lay : Layout) (ws rd : List ℕ) (most : length ws ≤ mostInstructions) where
+  -- ---- one word
+  next-same : (s : State) → isInstructionAt ws (s .pc) ≡ true → nextOf lay (repaired ws) rd s ≡ reachedNext lay ws rd s
+  unfolding reachedEffect instrEffectAt routine
+  next-same s t = rw (length-map (λ w. cond (eqb (refusalAt (length ws) w) 0) w 0) ws, repaired-at ws (s .pc), t)
+
+  reached-fault : (s : State) → isInstructionAt ws (s .pc) ≡ false → reachedNext lay ws rd s ≡ End Faulted
+  unfolding reachedEffect
+  reached-fault s t = rw t
+
+  next-halts : (s : State) → isInstructionAt ws (s .pc) ≡ false → nextOf lay (repaired ws) rd s ≡ End Ended
+  unfolding instrEffectAt instrEffect routine instrOf
+  next-halts s t =
+      let l : s .pc < length ws =
+      ⊎-elim (λ u. ltb-true _ _ u) (λ u. no (sym t ∙ rw (List·getD-eq-default ws 0 (ltb-false (s .pc) (length ws) u)) (eq-eqb _ _ (zero-taken (length ws))))) (cases (ltb (s .pc) (length ws))) in
+      let b : s .pc < bundlesFor (length ws) = omega (arith, sizes (length ws) most .above) in
+      rw (length-map (λ w. cond (eqb (refusalAt (length ws) w) 0) w 0) ws, repaired-at ws (s .pc), t, lt-ltb (s .pc) (bundlesFor (length ws)) b)
+
+  -- ---- a run
+  ended : (n k : ℕ) (s : State) → s .status ≡ Running → isInstructionAt ws (s .pc) ≡ false → SameButFault (continueFrom lay ws rd (suc n) k s) (runFrom lay (repaired ws) rd (suc n) k s)
+  unfolding applyEffect applyOf withState
+  ended n k s run t =
+      let c = continueLoop lay ws rd in
+      let e = engineLoop lay (repaired ws) rd in
+      let x = reached-fault s t in
+      let y = next-halts s t in
+      rw (
+        go-from c n k s run (λ w z. no (cc)) ∙ ap (λ (f : Effect). continueFrom lay ws rd n (k + 1) (applyEffect lay rd f s)) x ∙ over-from c n (k + 1) (applyEffect lay rd (End Faulted) s) (λ z. no (cc)),
+        go-from e n k s run (λ w z. no (cc)) ∙ ap (λ (f : Effect). runFrom lay (repaired ws) rd n (k + 1) (applyEffect lay rd f s)) y ∙ over-from e n (k + 1) (applyEffect lay rd (End Ended) s) (λ z. no (cc)),
+      )
+      (record { mem = refl; log = refl; regs = refl; at = refl; status = inr (refl, refl); steps = refl; pairs = refl; used = refl })
+
+  both-over : (n k : ℕ) (s : State) → (s .status ≡ Running → ⊥) → SameButFault (continueFrom lay ws rd n k s) (runFrom lay (repaired ws) rd n k s)
+  both-over n k s o = rw (over-from (continueLoop lay ws rd) n k s o, over-from (engineLoop lay (repaired ws) rd) n k s o) (same (resultIn (endingOf (s .status)) k s))
+
+  taken : (n k : ℕ) (s : State) → ((j : ℕ) (u : State) → SameButFault (continueFrom lay ws rd n j u) (runFrom lay (repaired ws) rd n j u)) → isInstructionAt ws (s .pc) ≡ true → SameButFault (continueFrom lay ws rd (suc n) k s) (runFrom lay (repaired ws) rd (suc n) k s)
+  taken n k s more t =
+      let e = engineLoop lay (repaired ws) rd in
+      let q = next-same s t in
+      loop-ind (continueLoop lay ws rd) n k s (λ r. SameButFault r (runFrom lay (repaired ws) rd (suc n) k s))
+      (λ o. subst (SameButFault (resultIn (endingOf (s .status)) k s)) (sym (over-from e (suc n) k s o)) (same (resultIn (endingOf (s .status)) k s)))
+      (λ r w z. subst (SameButFault (resultIn w k s)) (sym (wait-from e n k s w r (q ∙ z))) (same (resultIn w k s)))
+      (λ r g.
+      subst (SameButFault (continueFrom lay ws rd n (k + 1) (applyEffect lay rd (reachedNext lay ws rd s) s)))
+      (sym (go-from e n k s r (subst Goes (sym q) g) ∙ ap (λ (f : Effect). runFrom lay (repaired ws) rd n (k + 1) (applyEffect lay rd f s)) q))
+      (more (k + 1) (applyEffect lay rd (reachedNext lay ws rd s) s)))
+
+  does-same : (n k : ℕ) (s : State) → SameButFault (continueFrom lay ws rd n k s) (runFrom lay (repaired ws) rd n k s)
+  does-same zero k s = rw (continueLoop lay ws rd .none k s, engineLoop lay (repaired ws) rd .none k s) (same (resultIn (endingOf (s .status)) k s))
+  does-same (suc n) k s =
+      ⊎-elim (λ t. taken n k s (does-same n) t)
+      (λ t. ⊎-elim (λ r. ended n k s r t) (λ o. both-over (suc n) k s o) (runs-or-not (s .status)))
+      (cases (isInstructionAt ws (s .pc)))
+
+pub unjudged-words : UnjudgedWords
+unjudged-words lay ws rd n k s most = does-same lay ws rd most n k s
