@@ -480,9 +480,12 @@ static void call_engine(uint32_t times)
         struct lent lent = make_lent();
         enum function entry = chance(OFTEN) ? ENGINE_RUN : ENGINE_CONTINUE;
         damage(&engine, sizeof engine / sizeof(uint32_t), SELDOM);
-        (entry == ENGINE_RUN ? hemdroas_engine_run : hemdroas_engine_continue)(
-            &layout, LENT(words, words_made), &engine, LENT(memory, lent.cells), lent.budget, LENT(readings, lent.readings),
-            LENT(event_log, lent.log), &answer);
+        if (entry == ENGINE_RUN)
+            hemdroas_engine_run(&layout, LENT(words, words_made), &engine, LENT(memory, lent.cells), lent.budget,
+                                LENT(readings, lent.readings), LENT(event_log, lent.log), &answer);
+        else
+            hemdroas_engine_continue(&layout, LENT(words, words_made), &engine, LENT(memory, lent.cells), lent.budget,
+                                     LENT(readings, lent.readings), LENT(event_log, lent.log), &answer);
         mix_record(&answer, sizeof answer), mix_record(&engine, sizeof engine), mix_cells(event_log, lent.log);
         mix_cells(memory, lent.cells), called(entry, answer.ending);
     }
