@@ -152,6 +152,7 @@ static void wrong_cells(void) { right(), cells--; }
 static void small_room(void) { right(), room = 10; }
 static void wrong_base(void) { right(), layout.base = 4; }
 static void wrong_kind(void) { right(), words[WORDS - 1] = KIND(NO_KIND); }
+static void wrong_first(void) { right(), words[0] = KIND(NO_KIND); }
 static void wrong_bits(void) { right(), words[WORDS - 1] = KIND(ADD) | V(1); }
 static void wrong_jump(void) { right(), words[WORDS - 1] = KIND(GOIF) | V(WORDS + 1), call_write(), byte_count = answer.place; }
 static void too_many(void) { right(), words[WORDS] = 0, word_count = WORDS + 1; }
@@ -248,7 +249,7 @@ static const struct row rows[] = {
     {"engine_continue", call_engine_continue, &stepped.ending, right, HEMDROAS_ENDING_LOG_FULL},
     {"engine_continue", call_engine_continue, &stepped.ending, endless, HEMDROAS_ENDING_SPENT},
     {"engine_continue", call_engine_continue, &stepped.ending, wrong_layout, HEMDROAS_BAD_LAYOUT},
-    {"engine_continue", call_engine_continue, &stepped.ending, wrong_kind, HEMDROAS_ENDING_FAULT},
+    {"engine_continue", call_engine_continue, &stepped.ending, wrong_first, HEMDROAS_ENDING_FAULT},
     {"precedence", call_precedence, &ordered.number, right, HEMDROAS_TAKEN},
     {"precedence", call_precedence, &ordered.number, wrong_pair, HEMDROAS_BAD_PAIR},
     {"precedence", call_precedence, &ordered.number, small_room, HEMDROAS_SMALL_HOPPER},
