@@ -59,3 +59,8 @@ fn routines() {
 fn files() {
     type_all("doc-files", include_str!("../../../docs/FILES.md"));
 }
+
+#[test]
+fn readme() {
+    type_all("doc-readme", include_str!("../../../README.md"));
+}
