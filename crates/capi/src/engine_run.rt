@@ -1,4 +1,4 @@
-// `hemdroas_engine`: a run of guest words, with the engine's record and answer as arrays.
+// `hemdroas_engine_run` and `hemdroas_engine_continue`: a run of guest words, with the engine's record and answer as arrays.
 use capi_values::layouts::LAYOUT;
 use capi_values::layouts::layout_of;
 use capi_values::records::TRAILER;

@@ -43,7 +43,7 @@ loadFor lay pol bytes out mem =
     let room = length out in
     hostLoaded (answerTo (loadAnswer l pol bytes room mem)) (machineTo (loadMachine l pol bytes room mem)) (loadCommands l pol bytes out mem) (loadMemory l pol bytes room mem)
 
--- hemdroas_run and hemdroas_engine_run: the answer, the record after it, memory, the log
+-- hemdroas_run, hemdroas_engine_run and hemdroas_engine_continue: the answer, the record after it, memory, the log
 pub record HostResult : Type 0 where
   pub answer : List ℕ
   pub after : List ℕ

@@ -1,1 +1,1 @@
-// What the engine's C function answers and leaves, and the claims about its calls; no code.
+// What the engine's two C functions answer and leave, and the claims about their calls; no code.

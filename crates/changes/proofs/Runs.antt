@@ -115,7 +115,7 @@ module _ (lay : Layout) (ws reads : List ℕ) where
     here = fetchOf ws (lay .base) (s .pc)
 
     alike : (Both here (viewAt lay reads s) → ⊥) → (x : Effect) → Laws (next x) (before x)
-    alike f (Wait e) = record { gives = λ p. absurd (f (record { event = p .event; is = p .boundary; both = p .both })); same = λ _. refl }
+    alike f (Wait e) = record { gives = λ p. absurd (f (record { event = p .event; is = p .command; both = p .both })); same = λ _. refl }
     alike f (Go to) = later _ _
     alike f (SetReg d x) = later _ _
     alike f (SetCell i x) = later _ _
@@ -125,7 +125,7 @@ module _ (lay : Layout) (ws reads : List ℕ) where
 
     differ : Both here (viewAt lay reads s) → Laws (resultIn Silent k s) (resultIn LogFull k s)
     differ b =
-        let p : PausedBoth lay ws reads (resultIn LogFull k s) = record { full = refl; event = b .event; boundary = b .is; both = b .both } in
+        let p : PausedBoth lay ws reads (resultIn LogFull k s) = record { full = refl; event = b .event; command = b .is; both = b .both } in
         record { gives = λ _. refl; same = λ f. absurd (f p) }
 
     step : Laws (next (nextOf lay ws reads s)) (before (nextBefore lay ws reads s))

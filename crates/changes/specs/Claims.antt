@@ -15,7 +15,7 @@ use Rattle.types.specs.declared.Effect.the-variants.{Order, Probe, Wait}
 use Rattle.types.specs.declared.Ending.the-variants.{LogFull, Silent, Refused}
 use Rattle.types.specs.declared.Machine.{Machine}
 use Rattle.types.specs.declared.Refusal.the-variants.{BadLayout, BadBundle, BadCount, BadBase}
-use Rattle.types.specs.Names.{orders, bundleLength, hidden, numberOf, answer}
+use Rattle.types.specs.Names.{orders, bundleLength, pairCells, hidden, numberOf, answer}
 use Rattle.spec.specs.Commands.{fetchOf, wordOf}
 use Rattle.spec.specs.Bundles.{shapeWith, valid, bundleAt, checkAnswer}
 use Rattle.spec.specs.Machines.{View, ifRoom, effectOf, State, applyOf, viewAt, RunResult, runResultOf, resultIn, finalState, loopFrom, startOf, fits, runOf}
@@ -30,7 +30,7 @@ eventBefore v free left = ifRoom free (cond (ltb v orders) (Order v) (cond (eqb 
 
 -- 'a reading event with no readings left and fewer than two free log cells'
 abbrev pub BothPause : ℕ → View → Type 0
-BothPause v s = (orders ≤ v) × (s .left ≡ 0) × (s .free < 2)
+BothPause v s = (orders ≤ v) × (s .left ≡ 0) × (s .free < pairCells)
 
 -- 'The one old answer that changes is' that event: 'it gave 23 and gives 24'; any other does what it did
 pub record PauseLaws (v : ℕ) (s : View) : Type 0 where
@@ -74,7 +74,7 @@ runBefore lay ws m mem budget reads log =
 pub record PausedBoth (lay : Layout) (ws reads : List ℕ) (r : RunResult) : Type 0 where
   pub full : r .outcome .answer .ending ≡ LogFull
   pub event : ℕ
-  pub boundary : fetchOf ws (lay .base) (r .outcome .machine .pc) ≡ Event event
+  pub command : fetchOf ws (lay .base) (r .outcome .machine .pc) ≡ Event event
   pub both : BothPause event (viewAt lay reads (finalState r))
 
 -- the same run with answer 24: record, steps, pairs, readings used, memory and log are as they were
@@ -127,7 +127,7 @@ pub record PassesWith (r : ℕ) (lay : Layout) (ws : List ℕ) (N : ℕ) (is : �
   pub words : (h p : ℕ) → h < N → p < bundleLength → getD ws (bundleLength * h + p) 0 ≡ wordOf (shapeWith r lay N (is h) p)
   pub last : is (N - 1) ≡ HALT
 
--- `passes` and `bundle_done`: the checker is that of register 15;
+-- `passes` and `passed`: the checker is that of register 15;
 -- `refused`: 'the checker refuses lists written before, with 11, whenever they hold a LOAD, STORE, GOX or EVENT bundle', unless 7, 12 or 13 comes first:
 --     for all fields and at every place; the bundle's first command is enough;
 -- `kept` and `before`: a list without one passes exactly where it passed before, if its register fields are below 8

@@ -11,7 +11,7 @@ use Rattle.types.specs.declared.Outcome.{Outcome}
 use Rattle.types.specs.declared.Status.the-variants.{Running, Ended, Stopped}
 use Rattle.types.specs.declared.Ending.{Ending}
 use Rattle.types.specs.declared.Ending.the-variants.{Done, NoArrow, Fault, LogFull, Silent, Spent, NoLanding, Refused}
-use Rattle.types.specs.Names.{bundleLength, answer}
+use Rattle.types.specs.Names.{bundleLength, pairCells, answer}
 use Rattle.spec.specs.Policies.{Policy}
 use Rattle.spec.specs.Words.{bundlesFor}
 use Rattle.spec.specs.Bundles.{commandsOf, rewriteAnswer}
@@ -127,7 +127,7 @@ FinishesIn =
 pub record SufficesFor (lay : Layout) (N : ℕ) (g : RunInput) : Type 0 where
   pub memory : length (g .memory) ≡ lay .size
   pub budget : mostSteps N ≤ g .budget
-  pub log : 2 * (N - 1) ≤ length (g .log)
+  pub log : pairCells * (N - 1) ≤ length (g .log)
   pub readings : N - 1 ≤ length (g .readings)
 
 -- the same by one run, after any others
