@@ -5,8 +5,9 @@
  * Call hemdroas_load once, then hemdroas_run as often as the routine needs.
  * Loading does four things, and each has a call of its own: it reads the bytes
  * into words, rewrites the words into commands, checks the commands and
- * installs the policy. Only a checked list is safe. Check every list that was
- * not loaded, wherever it comes from, and keep the list unchanged from then on.
+ * installs the policy. Only a checked list is safe. hemdroas_load checks its own
+ * list. Check any other with hemdroas_check before you run it, and keep it
+ * unchanged from then on.
  *
  * Buffers. Each pointer to a buffer comes with the number of its elements, and
  * no call reaches past it. Lengths are 64-bit numbers on every machine. NULL is
@@ -14,14 +15,15 @@
  * aligned to 8 bytes, of uint32_t to 4, of uint16_t to 2. What a call writes
  * must not overlap anything else that it is lent; two inputs may be the same.
  *
- * Memory. No call allocates or keeps a pointer. A call takes about a kilobyte of
- * stack, at most 1.4.
+ * Memory. No call allocates or keeps a pointer. A call takes at most 1.4 KB of
+ * stack on x86-64 and Cortex-M4, and at most 2 KB on every machine that was
+ * tried.
  *
  * Threads. The library has no global state. Calls on different buffers may run
  * at the same time. Two calls may share a buffer if neither writes it.
  *
- * Refusals. A refused call leaves every buffer as it was, and a run's machine or
- * engine too. A refused loading or installation hands back a machine of zeros
+ * Refusals. A refused call changes no buffer. A refused run also leaves its
+ * machine or engine as it was. A refused loading or installation hands back a machine of zeros
  * that has faulted (status 3). A success leaves the output past its result as
  * it was.
  *
@@ -352,13 +354,13 @@ void hemdroas_engine_run(const struct hemdroas_layout *layout, const uint64_t *w
                          struct hemdroas_engine_answer *answer);
 
 /* Goes on with words that hemdroas_engine_run took before, without judging all
- * of them again: a slice costs what it does, however long the routine. Where
+ * of them again: its cost depends on the instructions done, not on n. Where
  * hemdroas_engine_run would take the words, both answer and leave the same, so
  * the two may be mixed freely.
  *
- * Each word is judged as it is reached, and one that is no instruction faults
- * (22), so other words are safe too. Refused as bad layout (7), then as oversize
- * (5). */
+ * Each word is judged as it is reached. Words that were never judged are safe
+ * too: the first that is no instruction ends the run in fault (22). Refused as
+ * bad layout (7), then as oversize (5). */
 void hemdroas_engine_continue(const struct hemdroas_layout *layout, const uint64_t *words, uint64_t n,
                               struct hemdroas_engine *engine, uint32_t *memory, uint64_t cells, uint32_t budget,
                               const uint32_t *readings, uint64_t r, uint32_t *log, uint64_t g,
