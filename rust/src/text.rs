@@ -25,4 +25,4 @@ pub use numbers::{number, scaled, scaled_text};
 pub use objections::{backward, objections, Objection};
 pub use policy::{policy, policy_text, Form, PolicyFile, Table};
 pub use refused_bytes::refused_bytes;
-pub use said::{hint, Fault, Parsed, Place, LONGEST_LINE};
+pub use said::{hint, Fault, Parsed, Place, LONGEST_LINE, MOST_FAULTS};

@@ -335,6 +335,9 @@ pub fn assemble(text: &[u8], names: &Names) -> Parsed<Routine> {
     let mut faults = Faults::default();
     let mut said = Statements::default();
     for line in lines(text, &mut faults) {
+        if faults.is_full() {
+            break;
+        }
         said.line(line, &mut faults);
     }
     let labels = said.known;
@@ -346,6 +349,9 @@ pub fn assemble(text: &[u8], names: &Names) -> Parsed<Routine> {
         ..Routine::default()
     };
     for statement in said.statements {
+        if faults.is_full() {
+            break;
+        }
         let found = meanings.instruction(statement, &mut faults);
         if let Some((word, source)) = faults.keep(found) {
             routine.words.push(word);

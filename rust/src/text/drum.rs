@@ -5,6 +5,7 @@ use super::said::{lines, quoted, Fault, Faults, Parsed, Place, Said};
 use super::{number, Names};
 use crate::names::{EVENTS, MOST_BUNDLES, ORDERS, UNLIMITED};
 use crate::{Ceilings, Layout};
+use std::collections::BTreeSet;
 
 /// Where a GOX may go on.
 #[derive(Clone, Debug, PartialEq, Eq)]
@@ -160,6 +161,9 @@ pub(super) fn set_ceiling(
 pub(super) fn event_names(said: &[Vec<Said>], given: &Names, faults: &mut Faults) -> Names {
     let mut names = given.clone();
     for words in said {
+        if faults.is_full() {
+            break;
+        }
         if let [keyword, event, name] = words[..] {
             if keyword.text == "event" {
                 let added = names.add(event.text, name.text);
@@ -183,6 +187,8 @@ struct Reader {
     scales: Scales,
     names: Names,
     cells: Vec<NamedCell>,
+    /// The addresses of these cells.
+    addresses: BTreeSet<u32>,
 }
 
 impl Reader {
@@ -242,7 +248,7 @@ impl Reader {
     fn cell(&mut self, address: Said, value: Said, name: &str) -> Result<(), Fault> {
         let cell = address.check(number(address.text))?;
         let value = value.check(number(value.text))?;
-        if self.cells.iter().any(|named| named.cell == cell) {
+        if !self.addresses.insert(cell) {
             return Err(address.fault(format!("cell {cell} stands twice")));
         }
         self.cells.push(NamedCell {
@@ -323,8 +329,12 @@ pub fn drum(text: &[u8]) -> Parsed<Drum> {
         scales: [0; EVENTS as usize],
         names,
         cells: Vec::new(),
+        addresses: BTreeSet::new(),
     };
     for words in &said {
+        if faults.is_full() {
+            break;
+        }
         faults.keep(reader.line(words));
     }
     let drum = reader.drum(&mut faults);

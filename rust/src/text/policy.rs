@@ -158,6 +158,9 @@ pub fn policy(text: &[u8], given: &Names) -> Parsed<PolicyFile> {
         pairs: Vec::new(),
     };
     for words in &said {
+        if faults.is_full() {
+            break;
+        }
         faults.keep(reader.line(words));
     }
     let form = reader.form(&mut faults);

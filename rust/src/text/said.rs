@@ -8,6 +8,12 @@ pub const LONGEST_LINE: usize = 1000;
 /// The most characters of a name, in bytes.
 const LONGEST_NAME: usize = 60;
 
+/// The most faults of a text that are kept: behind them it is not read on.
+pub const MOST_FAULTS: usize = 1000;
+
+/// The most known words that a hint is sought among.
+const MOST_HINTED: usize = 1000;
+
 /// The most characters of a word that a message quotes.
 const LONGEST_QUOTE: usize = 40;
 
@@ -54,9 +60,16 @@ pub type Parsed<T> = Result<T, Vec<Fault>>;
 pub(super) struct Faults(Vec<Fault>);
 
 impl Faults {
-    /// Adds a fault.
+    /// Adds a fault, unless there are as many as are kept.
     pub fn add(&mut self, fault: Fault) {
-        self.0.push(fault);
+        if !self.is_full() {
+            self.0.push(fault);
+        }
+    }
+
+    /// Whether there are as many faults as are kept.
+    pub fn is_full(&self) -> bool {
+        self.0.len() >= MOST_FAULTS
     }
 
     /// What was read, or nothing and one fault more.
@@ -216,9 +229,15 @@ fn statement(line: usize, bytes: &[u8]) -> Result<Said<'_>, Fault> {
 
 /// The lines that hold more than a comment.
 pub(super) fn lines<'a>(text: &'a [u8], faults: &mut Faults) -> Vec<Said<'a>> {
-    let all = text.split(|&byte| byte == b'\n').enumerate();
-    let said = all.filter_map(|(index, bytes)| faults.keep(statement(index + 1, bytes)));
-    said.filter(|said| !said.text.is_empty()).collect()
+    let mut said = Vec::new();
+    for (index, bytes) in text.split(|&byte| byte == b'\n').enumerate() {
+        if faults.is_full() {
+            break;
+        }
+        said.extend(faults.keep(statement(index + 1, bytes)));
+    }
+    said.retain(|said| !said.text.is_empty());
+    said
 }
 
 /// A word as messages quote it: whole if it is short.
@@ -262,7 +281,11 @@ fn distance(one: &str, other: &str) -> usize {
 /// A hint at the known word that somebody may have meant: one letter in three
 /// may be wrong.
 pub fn hint<'a>(word: &str, known: impl Iterator<Item = &'a str>) -> String {
-    let near = known.map(|name| (distance(word, name), name));
+    let known: Vec<&str> = known.take(MOST_HINTED + 1).collect();
+    if known.len() > MOST_HINTED {
+        return String::new();
+    }
+    let near = known.iter().map(|&name| (distance(word, name), name));
     let near = near.filter(|&(away, name)| 3 * away <= name.len().min(word.len()));
     match near.min() {
         Some((_, name)) => format!("; did you mean '{name}'?"),

@@ -82,8 +82,10 @@ impl<'a> States<'a> {
         }
         let number = |said: &Said| {
             let found = self.names.iter().position(|&known| known == said.text);
-            let near = hint(said.text, self.names.iter().copied());
-            let unknown = || said.fault(format!("no state is named {}{near}", quoted(said.text)));
+            let unknown = || {
+                let near = hint(said.text, self.names.iter().copied());
+                said.fault(format!("no state is named {}{near}", quoted(said.text)))
+            };
             found.ok_or_else(unknown)
         };
         let known = listed.iter().filter_map(|said| faults.keep(number(said)));
@@ -124,6 +126,9 @@ impl<'a> States<'a> {
     fn successors(&self, names: &Names, faults: &mut Faults) -> Vec<Vec<usize>> {
         let mut found: Vec<Option<Vec<usize>>> = vec![None; (ROW + 1) * self.names.len()];
         for arrow in &self.arrows {
+            if faults.is_full() {
+                break;
+            }
             let added = self.add(arrow, names, &mut found, faults);
             faults.keep(added);
         }

@@ -10,6 +10,7 @@ mod documents;
 mod json;
 mod junk;
 mod keys;
+mod large;
 mod objects;
 mod page;
 mod policies;

@@ -3,7 +3,7 @@
 use super::files;
 use super::json::Json;
 use super::report::Report;
-use hemdroas::text::Fault;
+use hemdroas::text::{Fault, MOST_FAULTS};
 use hemdroas::{Ending, Refusal};
 
 /// The statuses that the command ends with, the better first.
@@ -77,6 +77,9 @@ impl Problem {
                     .collect();
                 match reports.len().checked_sub(MOST_REPORTS) {
                     None | Some(0) => text,
+                    Some(more) if reports.len() >= MOST_FAULTS => {
+                        format!("{text}and at least {more} errors more\n")
+                    }
                     Some(more) => format!("{text}and {more} errors more\n"),
                 }
             }
@@ -151,6 +154,5 @@ pub fn meaning(refusal: Refusal) -> &'static str {
 
 /// The faults of a file's text.
 pub fn faulty(path: &str, content: &[u8], faults: Vec<Fault>) -> Problem {
-    let report = |fault| Report::fault(path, content, fault);
-    Problem::Refused(faults.into_iter().map(report).collect())
+    Problem::Refused(Report::faults(path, content, faults))
 }

@@ -62,19 +62,34 @@ impl Report {
     }
 
     /// A fault of a file's text.
-    pub fn fault(file: &str, content: &[u8], fault: Fault) -> Report {
+    fn fault(file: &str, line: &[u8], fault: Fault) -> Report {
         let refusal = fault.refusal.map(|(refusal, _)| refusal);
         Report {
             refusal,
             instruction: fault.refusal.map(|(_, place)| (place, None)),
-            ..Report::error(file, fault.message).at(content, fault.place)
+            ..Report::error(file, fault.message).on(line, fault.place)
         }
+    }
+
+    /// The faults of a file's text.
+    pub fn faults(file: &str, content: &[u8], faults: Vec<Fault>) -> Vec<Report> {
+        let lines: Vec<&[u8]> = content.split(|&byte| byte == b'\n').collect();
+        let report = |fault: Fault| {
+            let line = lines.get(fault.place.line.wrapping_sub(1));
+            Report::fault(file, line.copied().unwrap_or_default(), fault)
+        };
+        faults.into_iter().map(report).collect()
     }
 
     /// The same, at a place of the file's text.
     pub fn at(self, content: &[u8], place: Place) -> Report {
         let mut lines = content.split(|&byte| byte == b'\n');
         let line = lines.nth(place.line.wrapping_sub(1)).unwrap_or_default();
+        self.on(line, place)
+    }
+
+    /// The same, at a place of this line.
+    fn on(self, line: &[u8], place: Place) -> Report {
         let line = line.strip_suffix(b"\r").unwrap_or(line);
         let is_odd = |c: char| c.is_control() && c != '\t' || c == '\u{feff}';
         let text = String::from_utf8_lossy(line).replace(is_odd, "\u{fffd}");

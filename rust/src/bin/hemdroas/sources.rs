@@ -5,7 +5,9 @@ use super::files;
 use super::problem::{faulty, meaning, Problem};
 use super::report::{Level, Report};
 use hemdroas::names::{MOST_COMMANDS, MOST_INSTRUCTIONS};
-use hemdroas::text::{self, backward, objections, refused_bytes, Listed, Names, Objection};
+use hemdroas::text::{
+    self, backward, objections, refused_bytes, Listed, Names, Objection, MOST_FAULTS,
+};
 use hemdroas::{native, Answer, Layout, Refusal};
 
 /// The most bytes of an instruction: a map, five fields of one byte, one of four.
@@ -47,13 +49,18 @@ impl Routine {
     fn of_text(path: &str, content: Vec<u8>, names: &Names) -> Result<Routine, Problem> {
         let text = text::assemble(&content, names);
         let text = text.map_err(|faults| faulty(path, &content, faults))?;
-        Ok(Routine {
+        let routine = Routine {
             path: path.to_string(),
             words: text.words.clone(),
             text: Some(text),
             content,
             names: names.clone(),
-        })
+        };
+        if routine.words.len() > MOST_INSTRUCTIONS {
+            // No routine: the library says why.
+            routine.bytes()?;
+        }
+        Ok(routine)
     }
 
     /// The routine of bytes, which the library reads.
@@ -197,6 +204,7 @@ impl Routine {
             found.into_iter().map(move |found| (place, found))
         });
         found
+            .take(MOST_FAULTS)
             .map(|(place, found)| self.report(Level::Error, place, &found))
             .collect()
     }
