@@ -274,3 +274,20 @@ fn empty_files_are_refused_alike() {
     let came = command(&["check", &comment, "--drum", "sample.drum"]);
     assert_eq!(came.status, 0, "{}", came.error);
 }
+
+#[test]
+fn more_than_1023_instructions_are_refused_alike() {
+    let folder = folder("oversize");
+    let most = file(&folder, "most", "HALT\n".repeat(1023));
+    let over = file(&folder, "over", "HALT\n".repeat(1024));
+    for args in [
+        vec!["assemble", "-o", "/dev/null"],
+        vec!["check", "--drum", "sample.drum"],
+        vec!["list"],
+        vec!["forward"],
+    ] {
+        assert_eq!(command(&[&args[..], &[&most]].concat()).status, 0);
+        let came = command(&[&args[..], &[&over]].concat());
+        came.refused("more than 1023 instructions; refused as oversize (5)");
+    }
+}
