@@ -253,3 +253,46 @@ fn an_output_that_is_an_input_is_refused() {
         }
     }
 }
+
+#[test]
+fn standard_output_that_is_an_input_is_refused() {
+    let folder = folder("printed");
+    let shell = |line: &str| {
+        let output = Command::new("sh")
+            .args([
+                "-c",
+                &format!("exec '{}' {line}", env!("CARGO_BIN_EXE_hemdroas")),
+            ])
+            .current_dir(examples())
+            .stdin(Stdio::null())
+            .stderr(Stdio::piped())
+            .output()
+            .expect("a shell runs");
+        Came::of(output)
+    };
+    for (args, status) in good() {
+        let copy = |name: &str| file(&folder, name, fs::read(examples().join(name)).unwrap());
+        for words in replaced(&args, copy) {
+            let input = words
+                .iter()
+                .find_map(|word| word.split('=').find(|part| part.contains("printed")));
+            let input = input.expect("a file was copied");
+            let before = fs::read(input).unwrap();
+            let came = shell(&format!("{} >> {input}", words.join(" ")));
+            came.ended(
+                3,
+                "standard output: it is the input *, and would be overwritten",
+            );
+            assert_eq!(fs::read(input).unwrap(), before, "{words:?}");
+        }
+        // Other files, and what is no plain file, are written.
+        let other = folder.join("other");
+        for out in ["/dev/null", other.to_str().unwrap()] {
+            assert_eq!(
+                shell(&format!("{} >> {out}", args.join(" "))).status,
+                status
+            );
+        }
+    }
+    shell("list - < /dev/null > /dev/null").ended(1, "the file is empty");
+}

@@ -3,13 +3,17 @@
 use super::args::Args;
 use super::json::Json;
 use super::problem::Problem;
-use std::fs::{self, File};
+use std::fs::{self, File, Metadata};
 use std::io::{self, ErrorKind, Read, Write};
+use std::os::fd::AsFd;
 use std::os::unix::fs::MetadataExt;
 use std::path::{Path, PathBuf};
 
 /// The most bytes of a file.
 const LARGEST_FILE: u64 = 1 << 20;
+
+/// What messages call the output that has no name.
+const STANDARD_OUTPUT: &str = "standard output";
 
 fn failed(path: &str, error: io::Error) -> Problem {
     match error.kind() {
@@ -43,22 +47,38 @@ pub fn read(path: &str) -> Result<Vec<u8>, Problem> {
 }
 
 /// The identity of a plain file.
-fn identity(path: &str) -> Option<(u64, u64)> {
-    let about = fs::metadata(path).ok()?;
+fn identity_of(about: io::Result<Metadata>) -> Option<(u64, u64)> {
+    let about = about.ok()?;
     about.is_file().then(|| (about.dev(), about.ino()))
+}
+
+fn identity(path: &str) -> Option<(u64, u64)> {
+    identity_of(fs::metadata(path))
+}
+
+/// The identity of standard output, where it goes to a plain file.
+fn printed_identity() -> Option<(u64, u64)> {
+    let out = io::stdout().as_fd().try_clone_to_owned().ok()?;
+    identity_of(File::from(out).metadata())
 }
 
 /// Refuses an output that is one of the inputs, whatever its name is.
 pub fn keep_inputs(args: &Args) -> Result<(), Problem> {
-    let Some(out) = args.value("-o").filter(|&out| out != "-") else {
+    let named = args.value("-o").filter(|&out| out != "-");
+    let written = match named {
+        Some(out) => identity(out),
+        None => printed_identity(),
+    };
+    let Some(written) = written else {
         return Ok(());
     };
     let options = ["--drum", "--policy"].map(|name| args.value(name));
     let files = args.files().iter().map(String::as_str);
     for input in files.chain(options.into_iter().flatten()) {
         let opened = if input == "-" { "/dev/stdin" } else { input };
-        if identity(out).is_some_and(|out| identity(opened) == Some(out)) {
+        if identity(opened) == Some(written) {
             let said = format!("it is the input {input}, and would be overwritten");
+            let out = named.unwrap_or(STANDARD_OUTPUT);
             return Err(Problem::File(out.to_string(), said));
         }
     }
@@ -100,7 +120,7 @@ pub fn write(path: &str, content: &[u8]) -> Result<(), Problem> {
 fn print_bytes(content: &[u8]) -> Result<(), Problem> {
     let mut out = io::stdout().lock();
     let written = out.write_all(content).and_then(|()| out.flush());
-    written.map_err(|error| failed("standard output", error))
+    written.map_err(|error| failed(STANDARD_OUTPUT, error))
 }
 
 /// Prints text at once.
