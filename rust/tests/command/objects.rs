@@ -215,3 +215,26 @@ fn steps_are_the_models() {
     }
     assert!(steps > 200, "{steps}");
 }
+
+#[test]
+fn check_has_a_line_for_each_file_where_the_drum_is_at_fault() {
+    let folder = folder("at-fault");
+    let drum = file(&folder, "drum", "U 1024\n");
+    for (drum, status, why) in [
+        (drum.as_str(), 1, "refused, 2 errors"),
+        ("no-such-drum", 3, "cannot be read"),
+    ] {
+        let args = ["check", "sample.routine", "roast.routine", "--drum", drum];
+        let why = format!("not checked: {drum}: {why}");
+        let lines = format!("sample.routine: {why}\nroast.routine: {why}\n");
+        command(&args).printed(status, &lines);
+        let came = command(&[&args[..], &["--json"]].concat());
+        assert_eq!(came.status, status);
+        for name in ["sample", "roast"] {
+            let object = format!(
+                "{{\"type\":\"check\",\"file\":\"{name}.routine\",\"taken\":false,\"why\":\"{why}\"}}\n"
+            );
+            assert!(came.out.contains(&object), "{}", came.out);
+        }
+    }
+}

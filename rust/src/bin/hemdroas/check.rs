@@ -69,19 +69,45 @@ fn show(args: &Args, setup: &Setup, checked: &Checked) -> Result<(), Problem> {
 /// Says of a routine that it is not taken, and why.
 fn show_problem(args: &Args, path: &str, problem: &Problem) -> Result<(), Problem> {
     problem.say(args.is_json());
+    show_why(args, path, &problem.short())
+}
+
+/// The line or the object of a routine that is not taken.
+fn show_why(args: &Args, path: &str, why: &str) -> Result<(), Problem> {
     if args.is_json() {
         return files::print_json(&object([
             ("type", "check".into()),
             ("file", path.into()),
             ("taken", false.into()),
-            ("why", problem.short().into()),
+            ("why", why.into()),
         ]));
     }
-    files::print(&format!("{path}: {}\n", problem.short()))
+    files::print(&format!("{path}: {why}\n"))
+}
+
+/// Says of every routine that it is not checked, for the drum or the policy is
+/// at fault.
+fn show_unchecked(args: &Args, problem: Problem) -> Done {
+    let fault = match &problem {
+        Problem::File(file, _) => file.clone(),
+        Problem::Refused(reports) => reports
+            .first()
+            .map_or(String::new(), |report| report.file.clone()),
+        _ => return Err(problem),
+    };
+    problem.say(args.is_json());
+    let why = format!("not checked: {fault}: {}", problem.short());
+    for path in args.files() {
+        show_why(args, path, &why)?;
+    }
+    Ok(problem.status())
 }
 
 pub fn check(args: &Args) -> Done {
-    let setup = Setup::of(args)?;
+    let setup = match Setup::of(args) {
+        Ok(setup) => setup,
+        Err(problem) => return show_unchecked(args, problem),
+    };
     let mut worst = Status::Well;
     for path in args.files() {
         let status = match checked(&setup, path) {
