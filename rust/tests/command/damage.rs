@@ -451,3 +451,20 @@ fn damaged_texts() {
     }
     assert!(taken.iter().all(|&count| count > 100), "{taken:?}");
 }
+
+#[test]
+fn a_control_character_at_the_begin_of_a_text_is_named() {
+    let folder = folder("first-bytes");
+    for (text, place) in [("H\x01ALT\n", "1:2"), ("\x01HALT\n", "1:1")] {
+        let path = file(&folder, "odd", text);
+        let came = command(&["list", &path]);
+        came.refused("; refused as ");
+        came.refused(&format!(
+            "odd:{place}: error: a control character, U+0001, among the first two"
+        ));
+    }
+    // Bytes that are no text are not taken for one.
+    let path = file(&folder, "bytes", b"\x01\x00\x41\x01");
+    let came = command(&["list", &path]);
+    assert_eq!(came.error.matches(": error: ").count(), 1, "{}", came.error);
+}

@@ -6,7 +6,7 @@ use super::problem::{faulty, meaning, Problem};
 use super::report::{Level, Report};
 use hemdroas::names::{MOST_COMMANDS, MOST_INSTRUCTIONS};
 use hemdroas::text::{
-    self, backward, objections, refused_bytes, Listed, Names, Objection, MOST_FAULTS,
+    self, backward, objections, refused_bytes, Listed, Names, Objection, Place, MOST_FAULTS,
 };
 use hemdroas::{native, Answer, Layout, Refusal};
 
@@ -15,6 +15,9 @@ const LONGEST_INSTRUCTION: usize = 10;
 
 /// The most bytes of a routine.
 const LONGEST_ROUTINE: usize = 2 + LONGEST_INSTRUCTION * MOST_INSTRUCTIONS;
+
+/// The first bytes, which tell text from bytes.
+const FIRST_BYTES: usize = 2;
 
 /// A routine, from text or bytes.
 pub struct Routine {
@@ -33,7 +36,7 @@ pub struct Routine {
 pub fn is_text(content: &[u8]) -> bool {
     let is_plain = |byte: u8| byte >= b' ' || b"\t\r\n".contains(&byte);
     let is_blank = content.iter().all(u8::is_ascii_whitespace);
-    !is_blank && content.iter().take(2).all(|&byte| is_plain(byte))
+    !is_blank && content.iter().take(FIRST_BYTES).all(|&byte| is_plain(byte))
 }
 
 impl Routine {
@@ -89,8 +92,38 @@ impl Routine {
             content,
             names: names.clone(),
         };
-        routine.taken(answer)?;
-        Ok(routine)
+        match routine.taken(answer) {
+            Ok(_) => Ok(routine),
+            Err(Problem::Refused(mut reports)) => {
+                reports.extend(routine.odd_text());
+                Err(Problem::Refused(reports))
+            }
+            Err(problem) => Err(problem),
+        }
+    }
+
+    /// What is said of bytes that would be text but for a control character
+    /// among the first two.
+    fn odd_text(&self) -> Option<Report> {
+        let text = std::str::from_utf8(&self.content).ok()?;
+        let is_odd = |c: char| c.is_control() && !"\t\r\n".contains(c);
+        let odd: Vec<(usize, char)> = text.chars().enumerate().filter(|c| is_odd(c.1)).collect();
+        let is_late = odd.iter().any(|&(before, _)| before >= FIRST_BYTES);
+        let &(before, found) = odd.first()?;
+        if is_late || !text.contains(|c: char| c.is_ascii_alphabetic()) {
+            return None;
+        }
+        let code = u32::from(found);
+        let message = format!(
+            "a control character, U+{code:04X}, among the first two: so the file was read as bytes; \
+             delete it if this is text"
+        );
+        let place = Place {
+            line: 1,
+            column: before + 1,
+            length: 1,
+        };
+        Some(Report::error(&self.path, message).at(&self.content, place))
     }
 
     /// The routine's bytes.
