@@ -274,3 +274,21 @@ fn the_command_runs_as_the_model_does() {
     }
     assert!(endings.len() >= 4, "{endings:?}");
 }
+
+#[test]
+fn a_preview_with_a_typo_is_asked_for_again() {
+    let came = typed(
+        &with("run", ROAST, &["--resume"]),
+        "preview x\npreview 150 2o\npreview 15.5\nstop\n",
+    );
+    assert_eq!(came.status, 5, "{}", came.error);
+    assert!(!came.out.contains("preview"), "{}", came.out);
+    for said in [
+        "'x' is no number",
+        "'2o' is no number",
+        "'15.5' is no whole number",
+    ] {
+        came.ended(5, said);
+    }
+    assert_eq!(came.error.matches("readings of bean: ").count(), 4);
+}

@@ -127,7 +127,13 @@ fn resume(
             Some("stop") => return Ok(Resumed::Stopped),
             Some("preview") => {
                 typed.pop_front();
-                return Ok(Resumed::Preview(typed));
+                match typed
+                    .iter()
+                    .find_map(|word| scaled(word, FINEST_SCALE).err())
+                {
+                    Some(said) => files::complain(&format!("{said}\n")),
+                    None => return Ok(Resumed::Preview(typed)),
+                }
             }
             _ => match take(ending, &typed, scale, given, supply) {
                 Ok(()) => return Ok(Resumed::On),
@@ -201,6 +207,7 @@ fn go_on(
                 let part = look_ahead(loaded, &mut copy, &mut ahead)?;
                 if let Some(said) = ahead.unused {
                     files::complain(&format!("{said}\n"));
+                    continue;
                 }
                 show_preview(args, loaded, (stand, &copy), &part, given)?;
             }
