@@ -77,3 +77,15 @@ fn named_cells_hold_their_value_and_are_the_drums_own() {
         run(&drum_with("cells", cell)).refused(said);
     }
 }
+
+#[test]
+fn help_says_that_the_output_is_needed() {
+    for name in ["assemble", "page"] {
+        let came = command(&["help", name]);
+        assert!(came.out.contains("it is needed"), "{}", came.out);
+        assert!(!came.out.contains("without it, or for -"), "{}", came.out);
+    }
+    let came = command(&["help", "run"]);
+    let said = "All cells are 0 at first, but for those that the drum's file names.";
+    assert!(came.out.contains(said), "{}", came.out);
+}

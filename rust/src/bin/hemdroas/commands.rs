@@ -43,6 +43,7 @@ mod options {
     use super::Opt;
 
     pub const OUT: Opt = Opt { name: "-o", value: "OUT", about: "the file to write; without it, or for -, standard output" };
+    pub const NEEDED_OUT: Opt = Opt { name: "-o", value: "OUT", about: "the file to write, or - for standard output; it is needed" };
     pub const DRUM: Opt = Opt { name: "--drum", value: "DRUM", about: "the drum's file" };
     pub const POLICY: Opt = Opt { name: "--policy", value: "POLICY", about: "the policy's file: states, pairs or a drawing" };
     pub const READINGS: Opt = Opt { name: "--readings", value: "LIST", about: "the probe's readings, with commas or blanks between them" };
@@ -65,7 +66,7 @@ pub const COMMANDS: &[Command] = &[
         line: "turns a routine's text into its bytes",
         about: "",
         files: Files::Exactly(1),
-        needed: &[&OUT],
+        needed: &[&NEEDED_OUT],
         options: &[&DRUM],
         run: routines::assemble,
     },
@@ -104,8 +105,9 @@ pub const COMMANDS: &[Command] = &[
     Command {
         name: "run",
         operands: "FILE",
-        line: "runs a routine on a drum whose cells are 0, and prints its record",
-        about: "With --resume each pause asks: Enter goes on with an emptied log, numbers are further\n\
+        line: "runs a routine on a drum, and prints its record",
+        about: "All cells are 0 at first, but for those that the drum's file names.\n\
+                With --resume each pause asks: Enter goes on with an emptied log, numbers are further\n\
                 readings or, after a spent budget, a further budget; 'preview NUMBERS' looks ahead\n\
                 with these readings; 'stop' stops.\n",
         files: Files::Exactly(1),
@@ -141,7 +143,7 @@ pub const COMMANDS: &[Command] = &[
                 check refuses is refused in the same words, and nothing is written. A page takes up to\n\
                 10000 steps, 4096 cells of log and 4096 readings; the viewer can change them.\n",
         files: Files::Exactly(1),
-        needed: &[&DRUM, &POLICY, &OUT],
+        needed: &[&DRUM, &POLICY, &NEEDED_OUT],
         options: &[&READINGS, &STEPS, &LOG],
         run: page::page,
     },
