@@ -292,3 +292,24 @@ fn a_preview_with_a_typo_is_asked_for_again() {
     }
     assert_eq!(came.error.matches("readings of bean: ").count(), 4);
 }
+
+#[test]
+fn a_lesson_takes_its_commands_where_a_reading_is_asked_for() {
+    let asked = "all\nwhat\nstate\nregs\ncells\nrecord\nhelp\nbreak door\nback\n\nuntil 19\n2000\n\n2100\nstop\n";
+    let came = typed(&with("step", ROAST, &[]), asked);
+    for said in [
+        "bean reads the probe into r0 and records it",
+        "\nstate 1 roasting\n",
+        "r10 0",
+        "Enter, or a number  takes one instruction",
+        "breaks: event door",
+        "at instruction 7, line ",
+        "until line 19\n",
+        "    3  8 bean           2000\n",
+    ] {
+        assert!(came.out.contains(said), "{said}\nis not in\n{}", came.out);
+    }
+    assert!(!came.error.contains("is not known"), "{}", came.error);
+    let came = typed(&with("step", ROAST, &[]), "all\nhot\n-\n");
+    came.ended(5, "'hot' is not known; 'help' lists what is known");
+}

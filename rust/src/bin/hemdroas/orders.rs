@@ -77,7 +77,10 @@ impl Goal {
     pub fn text(&self, loaded: &Loaded) -> String {
         match self {
             Goal::Line(line) => format!("line {line}"),
-            Goal::Place(place) => loaded.routine().target(*place),
+            Goal::Place(place) => match loaded.routine().text {
+                Some(_) => format!("label {}", loaded.routine().target(*place)),
+                None => format!("instruction {place}"),
+            },
             Goal::Event(event) => format!("event {}", loaded.names.word(*event)),
         }
     }

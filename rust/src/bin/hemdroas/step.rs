@@ -25,6 +25,8 @@ struct Class<'a> {
     breaks: Vec<Goal>,
     /// How the routine came to where it stands, if it cannot go on from there.
     over: Option<Ending>,
+    /// What was typed where a reading was asked for, and is to be done next.
+    next: Option<Order>,
     /// Whether the person has enough.
     is_left: bool,
 }
@@ -73,6 +75,20 @@ impl Class<'_> {
         }
     }
 
+    /// Does what is typed where a reading is asked for; true if the lesson goes
+    /// on elsewhere.
+    fn instead(&mut self, line: &str) -> Result<bool, Problem> {
+        match order(self.lesson.loaded, line) {
+            Ok(asked @ (Order::Steps(_) | Order::Until(_) | Order::Back(_) | Order::Stop)) => {
+                self.next = Some(asked);
+                return Ok(true);
+            }
+            Ok(asked) => self.obey(asked)?,
+            Err(said) => files::complain(&format!("{said}; 'help' lists what is known\n")),
+        }
+        Ok(false)
+    }
+
     /// Gets a reading for the probe that is silent; false if there is none.
     fn reading(&mut self) -> Result<bool, Problem> {
         let event = event_of(self.lesson.word()).unwrap_or(0);
@@ -84,7 +100,11 @@ impl Class<'_> {
                 }
                 match ask(&format!("readings of {name}: "))? {
                     None => return Ok(false),
-                    Some(line) if line == "stop" => return Ok(false),
+                    Some(line) if line.starts_with(|c: char| c.is_ascii_alphabetic()) => {
+                        if self.instead(&line)? {
+                            return Ok(false);
+                        }
+                    }
                     Some(line) => self.typed.extend(words(&line)),
                 }
                 continue;
@@ -98,7 +118,7 @@ impl Class<'_> {
                 }
                 Err(said) => {
                     self.typed.clear();
-                    files::complain(&format!("{said}; 'stop' is known\n"));
+                    files::complain(&format!("{said}; 'help' lists what is known\n"));
                 }
             }
         }
@@ -112,12 +132,13 @@ impl Class<'_> {
                 return Ok(Some(Ending::Spent));
             }
             let Some(taken) = self.lesson.step()? else {
-                match self.reading()? {
-                    true => continue,
-                    false => {
+                match (self.reading()?, &self.next) {
+                    (true, _) => continue,
+                    (false, None | Some(Order::Stop)) => {
                         self.is_left = true;
                         return Ok(Some(Ending::Silent));
                     }
+                    (false, Some(_)) => return Ok(None),
                 }
             };
             count += 1;
@@ -199,7 +220,10 @@ impl Class<'_> {
         match asked {
             Order::Stop => self.is_left = true,
             Order::Steps(most) => self.go_on(most, None)?,
-            Order::Until(goal) => self.go_on(u32::MAX, Some(goal))?,
+            Order::Until(goal) => {
+                self.tell(&format!("until {}\n", goal.text(self.lesson.loaded)))?;
+                self.go_on(u32::MAX, Some(goal))?;
+            }
             Order::Back(count) => {
                 self.lesson.back(count)?;
                 self.over = None;
@@ -226,6 +250,10 @@ impl Class<'_> {
             return self.go_on(u32::MAX, None);
         }
         while !self.is_left {
+            if let Some(asked) = self.next.take() {
+                self.obey(asked)?;
+                continue;
+            }
             let Some(line) = ask("step: ")? else {
                 break;
             };
@@ -251,6 +279,7 @@ pub fn step(args: &Args) -> Done {
         typed: readings(args),
         breaks: Vec::new(),
         over: None,
+        next: None,
         is_left: false,
     };
     if !args.is_json() {
