@@ -40,6 +40,15 @@ pub fn scaled(word: &str, scale: u32) -> Result<u32, String> {
     };
     let (whole, rest) = digits.split_once('.').unwrap_or((digits, ""));
     let has_point = digits.contains('.');
+    let sign = if is_negative { "-" } else { "" };
+    let meant = match (all_digits(whole, 10), all_digits(rest, 10)) {
+        (false, true) if whole.is_empty() => Some(format!("{sign}0.{rest}")),
+        (true, false) if has_point && rest.is_empty() => Some(format!("{sign}{whole}")),
+        _ => None,
+    };
+    if let Some(meant) = meant {
+        return Err(format!("{} is no number; write {meant}", quoted(word)));
+    }
     if !all_digits(whole, 10) || has_point && !all_digits(rest, 10) {
         return number(word);
     }

@@ -4,10 +4,13 @@ use crate::common::inputs::{
     all_landings, bytes_of, rewritten, routine, trial_policy, TRIAL, TRIAL_READINGS,
 };
 use crate::common::{cases, seed, Rng};
-use crate::{command, file, folder, transcript, typed, with, ROAST, SAMPLE};
+use crate::{
+    command, examples, file, folder, transcript, typed, with, Came, PROFILE, ROAST, SAMPLE,
+};
 use hemdroas::model::{self, bundles};
 use hemdroas::Ending;
 use std::collections::BTreeMap;
+use std::fs;
 
 #[test]
 fn the_sample() {
@@ -312,4 +315,55 @@ fn a_lesson_takes_its_commands_where_a_reading_is_asked_for() {
     assert!(!came.error.contains("is not known"), "{}", came.error);
     let came = typed(&with("step", ROAST, &[]), "all\nhot\n-\n");
     came.ended(5, "'hot' is not known; 'help' lists what is known");
+}
+
+#[test]
+fn reasons_name_what_is_meant() {
+    let folder = folder("reasons");
+    let run = |text: &str, drum: &str, more: &[&str]| {
+        let (routine, drum) = (file(&folder, "text", text), file(&folder, "drum", drum));
+        let args = ["run", &routine, "--drum", &drum, "--policy=profile.policy"];
+        command(&[&args[..], more].concat())
+    };
+    let drum = fs::read_to_string(examples().join("profile.drum")).unwrap();
+    let text = "SET r3, 7\nGOX r3, always\nlanding HALT\n";
+    let why = |came: &Came, said: &str| assert!(came.out.contains(said), "{}", came.out);
+    let came = run(text, &drum, &[]);
+    why(&came, "why: r3 is 7, modulo 4: it would go to instruction 3, which is no landing; the landings are 2\n");
+    let came = run(
+        text,
+        &drum.replace("landings routine", "landings none"),
+        &[],
+    );
+    why(&came, "which is no landing; there are no landings\n");
+    let came = typed(
+        &with(
+            "run",
+            PROFILE,
+            &["--budget=10", "--resume", "--readings=150 175"],
+        ),
+        "20\nstop\n",
+    );
+    why(&came, "why: the budget of 30 steps is used up");
+    let came = typed(&with("preview", PROFILE, &[]), ".5\n5.\n");
+    came.ended(5, "'.5' is no number; write 0.5");
+    came.ended(5, "'5.' is no number; write 5");
+    command(&["check", "sample.routine", "--drum="]).ended(2, "--drum wants a value");
+    let text = file(
+        &folder,
+        "text",
+        "SET r1, 5\nSTORE r1, r1\nSET r1, 300\nSTORE r1, r1\n",
+    );
+    let args = [
+        "step",
+        &text,
+        "--drum=profile.drum",
+        "--policy=profile.policy",
+    ];
+    let came = typed(&args, "1\nwhat\n2\nwhat\nstop\n");
+    why(
+        &came,
+        "address 5 (r1) lies outside the sandbox: cell 261 is used\n",
+    );
+    why(&came, "address 300 (r1) lies in the sandbox\n");
 }

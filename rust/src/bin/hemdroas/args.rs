@@ -10,6 +10,9 @@ pub struct Args {
     options: Vec<(&'static str, String)>,
 }
 
+/// The value that may be empty: no readings.
+const MAY_BE_EMPTY: &str = "LIST";
+
 /// How many files a subcommand takes.
 #[derive(Clone, Copy)]
 pub enum Files {
@@ -71,11 +74,11 @@ impl Args {
             ("", None) => String::new(),
             ("", Some(_)) => return Err(format!("{name} takes no value")),
             (_, Some(value)) => value,
-            (_, None) => match words.next() {
-                Some(value) => value.clone(),
-                None => return Err(format!("{name} wants a value")),
-            },
+            (_, None) => words.next().cloned().unwrap_or_default(),
         };
+        if value.is_empty() && !["", MAY_BE_EMPTY].contains(&wants) {
+            return Err(format!("{name} wants a value"));
+        }
         if self.has(name) {
             return Err(format!("{name} stands twice"));
         }

@@ -5,9 +5,9 @@ use super::json::{list, object, Json};
 use super::load::{Loaded, Stand};
 use super::problem::Problem;
 use super::stretch::{instruction_at, Stretch};
-use super::what::{event_of, jump_of, Registers};
+use super::what::{event_of, jump_of, landings_said, wrapped, Registers};
 use hemdroas::names::{BUNDLE_LENGTH, EVENTS, GUEST_REGISTERS};
-use hemdroas::text::{landings_text, Names, Table};
+use hemdroas::text::{Names, Table};
 use hemdroas::Ending;
 
 /// Whether a machine or an engine can go on.
@@ -90,14 +90,15 @@ impl<'a> End<'a> {
                 let bundles = (loaded.checked.commands.len() / BUNDLE_LENGTH) as u32;
                 let target = jump_of(word, &self.regs, bundles).map_or(0, |jump| jump.target);
                 format!(
-                    "it would go to {}, which is no landing; the landings are {}",
+                    "{}it would go to {}, which is no landing; {}",
+                    wrapped(word, &self.regs, bundles),
                     routine.target(target),
-                    landings_text(&loaded.checked.landings)
+                    landings_said(&loaded.checked.landings)
                 )
             }
             Ending::Spent => format!(
                 "the budget of {} {} is used up; --budget gives more",
-                given.budget, given.unit
+                self.count, given.unit
             ),
             Ending::Silent => format!("no reading is left for {}; --readings gives more", event()),
             Ending::LogFull => format!("the log of {} cells is full; --log gives more", given.log),

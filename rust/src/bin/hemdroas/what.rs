@@ -59,6 +59,26 @@ pub fn jump_of(word: u64, regs: &Registers, bundles: u32) -> Option<Jump> {
     })
 }
 
+/// What is said of a drum's landings.
+pub fn landings_said(landings: &[u32]) -> String {
+    match landings.is_empty() {
+        true => "there are no landings".to_string(),
+        false => format!("the landings are {}", landings_text(landings)),
+    }
+}
+
+/// How the register of a GOX comes to its target, where it is not the number
+/// itself.
+pub fn wrapped(word: u64, regs: &Registers, bundles: u32) -> String {
+    match instruction_of(word) {
+        Some(Instr::GoX { d, .. }) => match regs.get(d as usize) {
+            Some(value) if *value >= bundles => format!("r{d} is {value}, modulo {bundles}: "),
+            _ => String::new(),
+        },
+        _ => String::new(),
+    }
+}
+
 /// Why the next jump will or will not be taken.
 fn jump_text(loaded: &Loaded, place: u32, jump: &Jump) -> String {
     let routine = loaded.routine();
@@ -72,8 +92,8 @@ fn jump_text(loaded: &Loaded, place: u32, jump: &Jump) -> String {
     if !jump.wants_landing || loaded.checked.landings.contains(target) {
         return format!("{condition}: yes, to {goal}");
     }
-    let landings = landings_text(&loaded.checked.landings);
-    format!("{condition}: yes, to {goal}, which is no landing; the landings are {landings}: it will stop (26)")
+    let landings = landings_said(&loaded.checked.landings);
+    format!("{condition}: yes, to {goal}, which is no landing; {landings}: it will stop (26)")
 }
 
 /// What an event will do.
@@ -110,10 +130,14 @@ pub fn what(loaded: &Loaded, place: u32, regs: &Registers, state: u32) -> String
     let layout = loaded.layout();
     let mask = |register: u32| {
         let address = regs.get(register as usize).copied().unwrap_or(0);
-        format!(
-            "r{register} {address} masks to cell {}",
-            address & layout.high | layout.low
-        )
+        match address & layout.high | layout.low {
+            cell if cell == address => {
+                format!("address {address} (r{register}) lies in the sandbox")
+            }
+            cell => format!(
+                "address {address} (r{register}) lies outside the sandbox: cell {cell} is used"
+            ),
+        }
     };
     match instruction_of(word) {
         Some(Instr::Event { v }) => event_text(loaded, v, regs[0], state),
