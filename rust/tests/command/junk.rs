@@ -197,8 +197,8 @@ fn an_output_that_nobody_reads_ends_quietly() {
 }
 
 #[test]
-fn an_output_that_is_closed_changes_nothing() {
-    for (args, status) in good() {
+fn an_output_that_is_closed_cannot_be_written() {
+    for (args, _) in good() {
         let line = format!(
             "exec '{}' {} >&-",
             env!("CARGO_BIN_EXE_hemdroas"),
@@ -213,7 +213,7 @@ fn an_output_that_is_closed_changes_nothing() {
         let error = String::from_utf8_lossy(&output.stderr);
         assert_eq!(
             (output.status.code(), error.as_ref()),
-            (Some(status), ""),
+            (Some(3), "hemdroas: standard output: it is closed\n"),
             "{args:?}"
         );
     }

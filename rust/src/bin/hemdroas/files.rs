@@ -1,6 +1,7 @@
 //! Reading and writing.
 
 use super::args::Args;
+use super::closed::was_closed;
 use super::json::Json;
 use super::problem::Problem;
 use std::fs::{self, File, Metadata};
@@ -118,6 +119,10 @@ pub fn write(path: &str, content: &[u8]) -> Result<(), Problem> {
 }
 
 fn print_bytes(content: &[u8]) -> Result<(), Problem> {
+    if was_closed() {
+        let said = "it is closed".to_string();
+        return Err(Problem::File(STANDARD_OUTPUT.to_string(), said));
+    }
     let mut out = io::stdout().lock();
     let written = out.write_all(content).and_then(|()| out.flush());
     written.map_err(|error| failed(STANDARD_OUTPUT, error))

@@ -5,6 +5,7 @@
 
 mod args;
 mod check;
+mod closed;
 mod commands;
 mod dot;
 mod drums;
