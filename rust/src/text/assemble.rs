@@ -74,7 +74,8 @@ impl Routine {
         let count = self.words.len();
         let all = self.words.iter().zip(&self.sources).zip(0..);
         all.flat_map(|((&word, source), place)| {
-            let found = objections(word, count).into_iter();
+            let is_signed = source.shown == Shown::Signed;
+            let found = objections(word, count, is_signed).into_iter();
             found.map(move |found| Fault {
                 refusal: Some((found.refusal, place)),
                 ..Fault::new(source.field(found.field), found.message)
@@ -91,6 +92,8 @@ type Labels<'a> = HashMap<&'a str, u32>;
 struct Meanings<'a> {
     names: &'a Names,
     labels: Labels<'a>,
+    /// Whether labels may stand in lines that could not be read.
+    is_torn: bool,
 }
 
 fn register(said: Said) -> Result<u32, Fault> {
@@ -153,6 +156,7 @@ impl Meanings<'_> {
         }
         match self.labels.get(word) {
             Some(&instruction) => Ok((instruction, Shown::Label(word.to_string()))),
+            None if self.is_torn && !is_register(word) => Ok((0, Shown::Plain)),
             None => Err(said.fault(self.unknown(kind, word))),
         }
     }
@@ -165,6 +169,9 @@ impl Meanings<'_> {
                 Err(message) => message,
                 Ok(_) => String::new(),
             },
+            GOIF if is_register(word) => {
+                format!("{} is a register; a label stands here", quoted(word))
+            }
             GOIF => format!("no line has the label {}{near}", quoted(word)),
             _ if is_register(word) => {
                 format!("{} is a register; a number stands here", quoted(word))
@@ -266,7 +273,11 @@ fn form_of(kind: &Kind, name: Said, operands: &[Said]) -> Result<&'static [Field
     let most = kind.forms[kind.forms.len() - 1].len();
     let message = match operands.get(most) {
         Some(_) if most == 0 => format!("{} takes no operand", kind.name),
-        Some(_) => format!("{} takes no more than '{}'", kind.name, kind.example),
+        Some(more) => format!(
+            "{} is one operand too many, as in '{}'",
+            quoted(more.text),
+            kind.example
+        ),
         None => format!("an operand is missing, as in '{}'", kind.example),
     };
     let at = operands.get(most).or(operands.last()).unwrap_or(&name);
@@ -284,8 +295,14 @@ struct Statements<'a> {
 
 impl<'a> Statements<'a> {
     /// Takes a label.
-    fn label(&mut self, label: Said<'a>) -> Result<(), Fault> {
+    fn label(&mut self, label: Said<'a>, names: &Names) -> Result<(), Fault> {
         let instruction = self.statements.len() as u32;
+        if is_name(label.text) && names.event(label.text).is_ok() {
+            return Err(label.fault(format!(
+                "{} is the name of an event: choose another label",
+                quoted(label.text)
+            )));
+        }
         if !is_name(label.text) || is_register(label.text) || label.text == LANDING {
             return Err(label.fault(format!("{} cannot be a label", quoted(label.text))));
         }
@@ -297,7 +314,7 @@ impl<'a> Statements<'a> {
     }
 
     /// Takes a line.
-    fn line(&mut self, mut said: Said<'a>, faults: &mut Faults) {
+    fn line(&mut self, mut said: Said<'a>, names: &Names, faults: &mut Faults) {
         let words = said.words();
         let is_mark = |word: &Said| word.text.eq_ignore_ascii_case(LANDING);
         if words.first().is_some_and(is_mark) {
@@ -309,7 +326,7 @@ impl<'a> Statements<'a> {
             };
         }
         while let Some((label, rest)) = said.split_once(|c| c == ':') {
-            faults.keep(self.label(label));
+            faults.keep(self.label(label, names));
             said = rest;
         }
         if !said.text.is_empty() {
@@ -338,10 +355,15 @@ pub fn assemble(text: &[u8], names: &Names) -> Parsed<Routine> {
         if faults.is_full() {
             break;
         }
-        said.line(line, &mut faults);
+        said.line(line, names, &mut faults);
     }
     let labels = said.known;
-    let meanings = Meanings { names, labels };
+    let is_torn = faults.is_torn;
+    let meanings = Meanings {
+        names,
+        labels,
+        is_torn,
+    };
     let listed = said.labels.into_iter();
     let mut routine = Routine {
         labels: listed.map(|(name, at)| (name.to_string(), at)).collect(),

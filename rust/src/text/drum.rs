@@ -46,6 +46,9 @@ pub struct NamedCell {
 /// The layout's numbers, in the rules' order.
 pub const LETTERS: [&str; 8] = ["U", "SL", "SH", "M", "P", "S", "B", "Q"];
 
+/// The words that begin a drum's other lines.
+const KEYWORDS: [&str; 5] = ["event", "landings", "ceiling", "scale", "cell"];
+
 /// The place of S among the letters. It may be left out.
 const STATES: usize = 5;
 
@@ -132,6 +135,22 @@ pub fn landings_text(landings: &[u32]) -> String {
     runs.iter().map(run).collect::<Vec<_>>().join(" ")
 }
 
+/// What a line of a drum's or a policy's file wants behind its first word.
+pub(super) fn wanted(word: &str) -> Option<&'static str> {
+    Some(match word {
+        "event" => "event wants a number and a name, as in 'event 0 gas'",
+        "landings" => "landings wants all, none, routine or a list, as in 'landings 0 3 8-15'",
+        "ceiling" => "ceiling wants an event and a number, as in 'ceiling gas 100'",
+        "scale" => "scale wants an event and a scale, as in 'scale bean 10'",
+        "cell" => "cell wants an address, a value and a name, as in 'cell 8 600 purge timer'",
+        "state" => "state wants one name, as in 'state shut'",
+        "start" => "start wants a state, as in 'start shut'",
+        "drawing" => "drawing stands alone",
+        "everything" => "everything stands alone",
+        _ => return None,
+    })
+}
+
 /// The ceiling of an order, said in a drum's or a policy's file.
 pub(super) fn set_ceiling(
     ceilings: &mut Ceilings,
@@ -146,7 +165,12 @@ pub(super) fn set_ceiling(
             quoted(event.text)
         ))),
         Some(ceiling) => {
-            *ceiling = most.check(number(most.text))?;
+            let value = most.check(number(most.text))?;
+            if most.text.starts_with('-') {
+                let message = format!("{} is negative, and a ceiling is not", quoted(most.text));
+                return Err(most.fault(message));
+            }
+            *ceiling = value;
             Ok(())
         }
         None => Err(event.fault(format!(
@@ -198,13 +222,30 @@ impl Reader {
         match texts[..] {
             ["event", _, _] => Ok(()),
             ["landings", _, ..] => self.landings(words),
-            ["ceiling", _, _] => {
-                set_ceiling(&mut self.ceilings, &self.names, words[1], words[2])
-            }
+            ["ceiling", _, _] => set_ceiling(&mut self.ceilings, &self.names, words[1], words[2]),
             ["scale", _, _] => self.scale(words[1], words[2]),
             ["cell", _, _, _, ..] => self.cell(words[1], words[2], &texts[3..].join(" ")),
             [letter, _] if LETTERS.contains(&letter) => self.number(words[0], words[1]),
-            _ => Err(words[0].fault(format!(
+            _ => self.odd_line(words),
+        }
+    }
+
+    /// What is wrong with a line that has no line's words.
+    fn odd_line(&mut self, words: &[Said]) -> Result<(), Fault> {
+        let first = words[0];
+        let letter = LETTERS.iter().position(|&known| known == first.text);
+        if let Some(letter) = letter {
+            // It is not missing, too.
+            self.numbers[letter].get_or_insert((0, first.place()));
+            return Err(first.fault(format!("{} wants one number", first.text)));
+        }
+        if first.text == "landings" {
+            self.landings.get_or_insert(Landings::Listed(Vec::new()));
+        }
+        let wants = wanted(first.text).filter(|_| KEYWORDS.contains(&first.text));
+        match wants {
+            Some(wants) => Err(first.fault(wants)),
+            None => Err(first.fault(format!(
                 "{} begins no line of a drum: they are U 1024 (or SL SH M P S B Q), landings 0 3 8-15, \
                  ceiling EVENT 100, scale EVENT 10, event 0 NAME, cell 8 600 NAME",
                 quoted(words[0].text)
@@ -284,12 +325,12 @@ impl Reader {
         let missing: Vec<&str> = missing.map(|(&letter, _)| letter).collect();
         match missing[..] {
             [] => (),
-            [letter] => faults.add(whole(format!("{letter} is missing"))),
-            _ => faults.add(whole(format!("{} are missing", missing.join(", ")))),
+            [letter] => faults.miss(whole(format!("{letter} is missing"))),
+            _ => faults.miss(whole(format!("{} are missing", missing.join(", ")))),
         }
         if self.landings.is_none() {
             let message = "landings are missing: all, none, routine or a list";
-            faults.add(whole(message.to_string()));
+            faults.miss(whole(message.to_string()));
         }
         let given = |place: usize| self.numbers[place].map_or(1, |(number, _)| number);
         let layout = Layout {

@@ -53,12 +53,21 @@ impl Listed<'_> {
         for &word in self.words {
             match Instr::of_kind(fields(word)) {
                 Some(Instr::GoIf { v, .. }) if v as usize <= self.words.len() => {
-                    labels.insert(v, vec![format!("at{v}")]);
+                    labels.insert(v, vec![self.target(v)]);
                 }
                 _ => (),
             }
         }
         labels
+    }
+
+    /// The label of a target that has none: no event's name.
+    fn target(&self, v: u32) -> String {
+        let mut label = format!("at{v}");
+        while self.names.event(&label).is_ok() {
+            label.push('_');
+        }
+        label
     }
 
     fn number(&self, place: usize, fields: Fields) -> String {
@@ -73,7 +82,7 @@ impl Listed<'_> {
             Shown::Plain
                 if name == GOIF && self.text.is_none() && v as usize <= self.words.len() =>
             {
-                format!("at{v}")
+                self.target(v)
             }
             Shown::Plain if name == SET && self.signed => (v as i32).to_string(),
             Shown::Plain => v.to_string(),

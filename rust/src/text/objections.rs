@@ -26,9 +26,14 @@ fn objection(field: Field, refusal: Refusal, message: String) -> Objection {
     }
 }
 
-/// What is wrong with an instruction of a routine of so many.
-pub fn objections(word: u64, count: usize) -> Vec<Objection> {
+/// What is wrong with an instruction of a routine of so many, whose number may be
+/// written as a negative one.
+pub fn objections(word: u64, count: usize, is_signed: bool) -> Vec<Objection> {
     let all = fields(word);
+    let written = |v: u32| match is_signed {
+        true => (v as i32).to_string(),
+        false => v.to_string(),
+    };
     let named = [(Field::D, all.d), (Field::A, all.a), (Field::B, all.b)];
     let top = GUEST_REGISTERS - 1;
     let mut found: Vec<Objection> = named
@@ -42,15 +47,18 @@ pub fn objections(word: u64, count: usize) -> Vec<Objection> {
     let (refusal, message) = match Instr::of_kind(all) {
         Some(Instr::Sar { v, .. }) if v > TOP_SHIFT => (
             Refusal::OffRange,
-            format!("SAR by {v}: it shifts by 0 to {TOP_SHIFT}"),
+            format!("SAR by {}: it shifts by 0 to {TOP_SHIFT}", written(v)),
         ),
         Some(Instr::Event { v }) if v > TOP_EVENT => (
             Refusal::OffRange,
-            format!("{v} is no event: they are 0 to {TOP_EVENT}"),
+            format!("{} is no event: they are 0 to {TOP_EVENT}", written(v)),
         ),
         Some(Instr::GoIf { v, .. }) if v as usize > count => (
             Refusal::BadLanding,
-            format!("{v} lies behind the routine's end, which is {count}"),
+            match is_signed {
+                true => format!("{} is no instruction", written(v)),
+                false => format!("{v} lies behind the routine's end, which is {count}"),
+            },
         ),
         _ => return found,
     };

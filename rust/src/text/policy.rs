@@ -1,7 +1,7 @@
 //! Policy files: states and their arrows, a drawing with several arrows, or
 //! pairs of events.
 
-use super::drum::{event_names, set_ceiling};
+use super::drum::{event_names, set_ceiling, wanted};
 use super::said::{lines, quoted, Fault, Faults, Parsed, Place, Said};
 use super::states::States;
 use super::Names;
@@ -65,6 +65,10 @@ pub struct PolicyFile {
     pub ceilings: Ceilings,
     /// The place of each pair, where the file holds pairs.
     pub pairs: Vec<Place>,
+    /// The place of each state's name, where the file holds states.
+    pub states: Vec<Place>,
+    /// The place of the start; line 0 if the file names none.
+    pub start: Place,
     /// The names of events: those given, and those of the file.
     pub names: Names,
 }
@@ -100,6 +104,15 @@ impl<'a> Reader<'a> {
             ["state", _] => self.states.state(words[1]),
             ["start", _, ..] => self.states.start(words),
             [_, "->", _, ..] => self.states.arrow(words),
+            [_, "->"] => Err(words[1].fault("-> wants a state or none, as in 'gas -> shut'")),
+            [_, "before"] => Err(words[1].fault("before wants a second event")),
+            [_, "before", _, ..] => Err(words[3].fault(format!(
+                "{} is one word too many: a line has one pair",
+                quoted(words[3].text)
+            ))),
+            ["event" | "ceiling" | "state" | "start" | "drawing" | "everything", ..] => {
+                Err(words[0].fault(wanted(texts[0]).unwrap_or_default()))
+            }
             _ => Err(words[0].fault(format!(
                 "{} begins no line of a policy: they are state NAME, EVENT -> STATE, start STATE, drawing, \
                  EVENT before EVENT, everything, ceiling EVENT 100, event 0 NAME",
@@ -168,6 +181,8 @@ pub fn policy(text: &[u8], given: &Names) -> Parsed<PolicyFile> {
         form,
         ceilings: reader.ceilings,
         pairs: reader.pairs,
+        states: reader.states.places(),
+        start: reader.states.start_place(),
         names: reader.names,
     }))
 }

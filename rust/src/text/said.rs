@@ -57,19 +57,31 @@ pub type Parsed<T> = Result<T, Vec<Fault>>;
 
 /// The faults of a text, as they are found.
 #[derive(Default)]
-pub(super) struct Faults(Vec<Fault>);
+pub(super) struct Faults {
+    found: Vec<Fault>,
+    /// Whether a line could not be read: what seems to be missing may stand there.
+    pub is_torn: bool,
+}
 
 impl Faults {
     /// Adds a fault, unless there are as many as are kept.
     pub fn add(&mut self, fault: Fault) {
         if !self.is_full() {
-            self.0.push(fault);
+            self.found.push(fault);
         }
     }
 
     /// Whether there are as many faults as are kept.
     pub fn is_full(&self) -> bool {
-        self.0.len() >= MOST_FAULTS
+        self.found.len() >= MOST_FAULTS
+    }
+
+    /// Adds that something is missing, unless a line that could not be read may
+    /// hold it.
+    pub fn miss(&mut self, fault: Fault) {
+        if !self.is_torn {
+            self.add(fault);
+        }
     }
 
     /// What was read, or nothing and one fault more.
@@ -79,7 +91,7 @@ impl Faults {
 
     /// Whether nothing is wrong.
     pub fn is_empty(&self) -> bool {
-        self.0.is_empty()
+        self.found.is_empty()
     }
 
     /// What was read, if nothing is wrong; else the faults by their places.
@@ -88,9 +100,9 @@ impl Faults {
             Some(value) if self.is_empty() => Ok(value),
             _ => {
                 // What is wrong with the whole text comes last.
-                self.0
+                self.found
                     .sort_by_key(|fault| (fault.place.line == 0, fault.place));
-                Err(self.0)
+                Err(self.found)
             }
         }
     }
@@ -236,6 +248,7 @@ pub(super) fn lines<'a>(text: &'a [u8], faults: &mut Faults) -> Vec<Said<'a>> {
         }
         said.extend(faults.keep(statement(index + 1, bytes)));
     }
+    faults.is_torn = !faults.is_empty();
     said.retain(|said| !said.text.is_empty());
     said
 }

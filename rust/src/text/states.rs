@@ -1,7 +1,7 @@
 //! The lines of a policy file that concern states and their arrows.
 
 use super::policy::{Form, Table};
-use super::said::{hint, is_name, quoted, Fault, Faults, Said};
+use super::said::{hint, is_name, quoted, Fault, Faults, Place, Said};
 use super::Names;
 use crate::names::{EVENTS, MOST_STATES, NO_ARROW};
 
@@ -24,6 +24,7 @@ struct Arrow<'a> {
 pub(super) struct States<'a> {
     pub is_drawing: bool,
     names: Vec<&'a str>,
+    places: Vec<Place>,
     starts: Option<Vec<Said<'a>>>,
     arrows: Vec<Arrow<'a>>,
 }
@@ -32,6 +33,17 @@ impl<'a> States<'a> {
     /// Whether there is no state.
     pub fn is_empty(&self) -> bool {
         self.names.is_empty()
+    }
+
+    /// The places of the states' names.
+    pub fn places(&self) -> Vec<Place> {
+        self.places.clone()
+    }
+
+    /// The place of the first start.
+    pub fn start_place(&self) -> Place {
+        let first = self.starts.as_ref().and_then(|starts| starts.first());
+        first.map_or(Place::default(), Said::place)
     }
 
     /// Takes a line that names a state.
@@ -46,6 +58,7 @@ impl<'a> States<'a> {
             return Err(name.fault(format!("too many states: a policy has 1 to {MOST_STATES}")));
         }
         self.names.push(name.text);
+        self.places.push(name.place());
         Ok(())
     }
 
@@ -88,8 +101,14 @@ impl<'a> States<'a> {
             };
             found.ok_or_else(unknown)
         };
-        let known = listed.iter().filter_map(|said| faults.keep(number(said)));
-        known.collect()
+        let mut known = Vec::new();
+        for said in listed {
+            match number(said) {
+                Ok(state) => known.push(state),
+                Err(fault) => faults.miss(fault),
+            }
+        }
+        known
     }
 
     /// Adds an arrow's successors to those of its state and event.

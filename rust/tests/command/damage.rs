@@ -21,7 +21,7 @@ fn drums() {
         ),
         (
             DRUM.replace("U 1024", "U 1024 5"),
-            ":2:1: error: 'U' begins no line of a drum",
+            ":2:1: error: U wants one number",
         ),
         (DRUM.replace("M 0", "U 1024"), ":5:*: error: U stands twice"),
         (

@@ -72,7 +72,7 @@ fn named_cells_hold_their_value_and_are_the_drums_own() {
         ("cell 1024 1 x", "cell 1024 is not the drum's own"),
         ("cell 8 1 x", "cell 8 stands twice"),
         ("cell eight 1 x", "'eight' is no number"),
-        ("cell 20 7", "'cell' begins no line of a drum"),
+        ("cell 20 7", "cell wants an address, a value and a name"),
     ] {
         run(&drum_with("cells", cell)).refused(said);
     }

@@ -212,7 +212,7 @@ fn refusals_of_texts_name_their_line() {
         ),
         (
             "SET r1, 5, 6\n",
-            ":1:12: error: SET takes no more than 'SET r1, 200'",
+            ":1:12: error: '6' is one operand too many, as in 'SET r1, 200'",
         ),
         (
             "; note\n",

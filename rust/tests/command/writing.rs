@@ -20,10 +20,13 @@ fn a_label_stands_for_its_number_everywhere() {
     let text = "    SET r1, end\n    SAR r1, r1, two\ntwo: GOIF always, end\n    EVENT two\nend:\n";
     let numbers = "    SET r1, 4\n    SAR r1, r1, 2\n    GOIF always, 4\n    EVENT 2\n";
     assert_eq!(assembled(text).words, assembled(numbers).words);
-    // An event's name comes first.
+    // A label that is an event's name would mean two things.
+    let faults = assemble(b"HALT\ngas: EVENT gas\n", &names()).unwrap_err();
+    let said = "'gas' is the name of an event: choose another label";
+    assert_eq!(faults.len(), 1);
     assert_eq!(
-        assembled("gas: HALT\nEVENT gas\n").words[1],
-        assembled("EVENT 0\n").words[0]
+        (faults[0].message.as_str(), faults[0].place.line),
+        (said, 2)
     );
 }
 

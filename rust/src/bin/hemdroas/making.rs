@@ -4,8 +4,8 @@ use super::files;
 use super::problem::{faulty, meaning, Problem};
 use super::report::Report;
 use hemdroas::names::{EVENTS, MOST_STATES, NO_ARROW};
-use hemdroas::text::{self, Form, Names, PolicyFile, Table};
-use hemdroas::{native, Answer, Drawing};
+use hemdroas::text::{self, Form, Names, Place, PolicyFile, Table};
+use hemdroas::{native, Answer, Drawing, Refusal};
 
 /// The keys of a policy's states, which were numbered as first met, from that
 /// of the start.
@@ -55,16 +55,25 @@ fn named_events(pairs: &[u8]) -> Vec<u8> {
     events
 }
 
-/// The first pair that names an event above all, or the fifth event.
-fn bad_pair(pairs: &[u8]) -> Option<usize> {
+/// The first pair that names an event above all, or the fifth event, and what is
+/// wrong with it.
+fn bad_pair(pairs: &[u8], names: &Names) -> Option<(usize, String)> {
     let mut seen = Vec::new();
-    let place = pairs.iter().position(|event| {
+    pairs.iter().enumerate().find_map(|(place, event)| {
         if !seen.contains(event) {
             seen.push(*event);
         }
-        seen.len() > MOST_NAMED || u32::from(*event) >= EVENTS
-    });
-    place.map(|place| place / 2)
+        let number = u32::from(*event);
+        let message = match seen.len() > MOST_NAMED {
+            _ if number >= EVENTS => format!("{number} is no event: they are 0 to {}", EVENTS - 1),
+            true => format!(
+                "{} is a fifth event: pairs name at most four",
+                names.word(number)
+            ),
+            false => return None,
+        };
+        Some((place / 2, message))
+    })
 }
 
 fn of_pairs(path: &str, pairs: &[u8], file: &Given) -> Result<MadePolicy, Problem> {
@@ -74,9 +83,9 @@ fn of_pairs(path: &str, pairs: &[u8], file: &Given) -> Result<MadePolicy, Proble
     let count = match made.answer {
         Answer::Taken(count) => count,
         Answer::Refused { refusal, .. } => {
-            let report = Report::refusal(path, refusal, meaning(refusal));
-            let place = bad_pair(pairs).map(|pair| file.said.pairs[pair]);
-            return Err(report.at(&file.content, place.unwrap_or_default()).into());
+            let found = bad_pair(pairs, names).map(|(pair, said)| (file.said.pairs[pair], said));
+            let (place, said) = found.unwrap_or((Place::default(), meaning(refusal).to_string()));
+            return Err(file.refused(path, refusal, place, said));
         }
     };
     table.truncate(count as usize);
@@ -106,13 +115,27 @@ fn of_pairs(path: &str, pairs: &[u8], file: &Given) -> Result<MadePolicy, Proble
     })
 }
 
-fn of_drawing(path: &str, names: &[String], drawing: &Drawing) -> Result<MadePolicy, Problem> {
+fn of_drawing(
+    path: &str,
+    names: &[String],
+    drawing: &Drawing,
+    file: &Given,
+) -> Result<MadePolicy, Problem> {
     let mut table = vec![0; LONGEST_TABLE];
     let made = native::determinise(drawing, &mut table);
     let count = match made.answer {
         Answer::Taken(count) => count,
         Answer::Refused { refusal, .. } => {
-            return Err(Report::refusal(path, refusal, meaning(refusal)).into());
+            return Err(match refusal {
+                Refusal::BadDrawing if names.len() > MOST_STATES as usize => {
+                    file.too_many(path, refusal, names.len())
+                }
+                Refusal::BadDrawing => {
+                    let said = "the drawing has no start: name one, as in 'start NAME'";
+                    file.refused(path, refusal, file.said.start, said.to_string())
+                }
+                _ => Report::refusal(path, refusal, meaning(refusal)).into(),
+            });
         }
     };
     table.truncate(count as usize);
@@ -141,6 +164,10 @@ fn of_drawing(path: &str, names: &[String], drawing: &Drawing) -> Result<MadePol
 /// The policy of a policy file, made by the library where it is no table.
 pub fn make(path: &str, file: &Given) -> Result<MadePolicy, Problem> {
     match &file.said.form {
+        // A drum's layout would be blamed for it, which has S of the policy.
+        Form::States(table) if table.states.len() > MOST_STATES as usize => {
+            Err(file.too_many(path, Refusal::BadPolicy, table.states.len()))
+        }
         Form::States(table) => Ok(MadePolicy {
             table: table.clone(),
             never: 0,
@@ -156,7 +183,7 @@ pub fn make(path: &str, file: &Given) -> Result<MadePolicy, Problem> {
                 starts: *starts,
                 arrows,
             };
-            of_drawing(path, states, &drawing)
+            of_drawing(path, states, &drawing, file)
         }
     }
 }
@@ -165,6 +192,21 @@ pub fn make(path: &str, file: &Given) -> Result<MadePolicy, Problem> {
 pub struct Given {
     pub said: PolicyFile,
     content: Vec<u8>,
+}
+
+impl Given {
+    /// A refusal at a place of the file.
+    fn refused(&self, path: &str, refusal: Refusal, place: Place, said: String) -> Problem {
+        let report = Report::refusal(path, refusal, said);
+        report.at(&self.content, place).into()
+    }
+
+    /// A refusal of more states than a policy or a drawing has, at the first of
+    /// them.
+    fn too_many(&self, path: &str, refusal: Refusal, states: usize) -> Problem {
+        let said = format!("the file has {states} states, and at most {MOST_STATES} are taken");
+        self.refused(path, refusal, self.said.states[MOST_STATES as usize], said)
+    }
 }
 
 /// The policy of a file.

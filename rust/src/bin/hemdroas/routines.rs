@@ -21,7 +21,7 @@ fn warn_of_jumps(routine: &Routine) {
         return;
     };
     for (&word, place) in routine.words.iter().zip(0..) {
-        for mut found in objections(word, routine.words.len()) {
+        for mut found in objections(word, routine.words.len(), routine.is_signed(place)) {
             found.message += "; check will refuse it as bad landing (8)";
             files::complain(&routine.report(Level::Warning, place, &found).text());
         }

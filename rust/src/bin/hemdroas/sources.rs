@@ -6,7 +6,7 @@ use super::problem::{faulty, meaning, Problem};
 use super::report::{Level, Report};
 use hemdroas::names::{MOST_COMMANDS, MOST_INSTRUCTIONS};
 use hemdroas::text::{
-    self, backward, objections, refused_bytes, Listed, Names, Objection, Place, MOST_FAULTS,
+    self, backward, objections, refused_bytes, Listed, Names, Objection, Place, Shown, MOST_FAULTS,
 };
 use hemdroas::{native, Answer, Layout, Refusal};
 
@@ -163,6 +163,15 @@ impl Routine {
         Some(source.place.line)
     }
 
+    /// Whether a text writes an instruction's number as a negative one.
+    pub fn is_signed(&self, place: u32) -> bool {
+        let source = self
+            .text
+            .as_ref()
+            .and_then(|text| text.sources.get(place as usize));
+        source.is_some_and(|source| source.shown == Shown::Signed)
+    }
+
     /// An instruction as the text has it, or as a listing would.
     pub fn instruction(&self, place: u32) -> String {
         let at = place as usize;
@@ -231,7 +240,9 @@ impl Routine {
         let found = all.flat_map(|(&word, place)| {
             let found = match refusal {
                 Refusal::NotForward => backward(word, place).into_iter().collect(),
-                Refusal::OffRange | Refusal::BadLanding => objections(word, self.words.len()),
+                Refusal::OffRange | Refusal::BadLanding => {
+                    objections(word, self.words.len(), self.is_signed(place))
+                }
                 _ => Vec::new(),
             };
             found.into_iter().map(move |found| (place, found))
