@@ -158,7 +158,7 @@ pub(super) fn set_ceiling(
     event: Said,
     most: Said,
 ) -> Result<(), Fault> {
-    let order = event.check(names.known_event(event.text))?;
+    let order = event.event(names.known_event(event.text))?;
     match ceilings.get_mut(order as usize) {
         Some(ceiling) if *ceiling != u32::MAX => Err(event.fault(format!(
             "the ceiling of {} stands twice",
@@ -198,6 +198,8 @@ pub(super) fn event_names(said: &[Vec<Said>], given: &Names, faults: &mut Faults
                 };
                 faults.keep(at.check(added));
             }
+        } else if words[0].text == "event" {
+            faults.has_odd_names = true;
         }
     }
     names
@@ -302,7 +304,7 @@ impl Reader {
     }
 
     fn scale(&mut self, event: Said, scale: Said) -> Result<(), Fault> {
-        let number = event.check(self.names.known_event(event.text))? as usize;
+        let number = event.event(self.names.known_event(event.text))? as usize;
         let known = KNOWN_SCALES
             .iter()
             .find(|known| known.to_string() == scale.text);

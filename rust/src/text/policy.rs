@@ -124,7 +124,7 @@ impl<'a> Reader<'a> {
     fn pair(&mut self, first: Said, second: Said) -> Result<(), Fault> {
         let mut pair = Vec::new();
         for said in [first, second] {
-            let event = said.check(self.names.event(said.text))?;
+            let event = said.event(self.names.event(said.text))?;
             // One above 15 is the library's to refuse.
             let short = u8::try_from(event).map_err(|_| format!("{event} is no event"));
             pair.push(said.check(short)?);

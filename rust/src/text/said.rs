@@ -39,6 +39,8 @@ pub struct Fault {
     /// The refusal that the library gives for it, and the instruction, if it
     /// is one of those.
     pub refusal: Option<(Refusal, u32)>,
+    /// Whether it is an event's name that is not known.
+    pub is_unknown_event: bool,
 }
 
 impl Fault {
@@ -48,6 +50,7 @@ impl Fault {
             place,
             message: message.into(),
             refusal: None,
+            is_unknown_event: false,
         }
     }
 }
@@ -61,12 +64,16 @@ pub(super) struct Faults {
     found: Vec<Fault>,
     /// Whether a line could not be read: what seems to be missing may stand there.
     pub is_torn: bool,
+    /// Whether a line that names an event is wrong: its name is not known then.
+    pub has_odd_names: bool,
 }
 
 impl Faults {
-    /// Adds a fault, unless there are as many as are kept.
+    /// Adds a fault, unless there are as many as are kept, or it follows from
+    /// another.
     pub fn add(&mut self, fault: Fault) {
-        if !self.is_full() {
+        let follows = fault.is_unknown_event && (self.is_torn || self.has_odd_names);
+        if !self.is_full() && !follows {
             self.found.push(fault);
         }
     }
@@ -134,6 +141,14 @@ impl<'a> Said<'a> {
     /// A result about these words, with their place if it is a message.
     pub fn check<T>(&self, result: Result<T, String>) -> Result<T, Fault> {
         result.map_err(|message| self.fault(message))
+    }
+
+    /// The event that these words name, as it was found.
+    pub fn event(&self, found: Result<u32, String>) -> Result<u32, Fault> {
+        found.map_err(|message| Fault {
+            is_unknown_event: is_name(self.text),
+            ..self.fault(message)
+        })
     }
 
     /// The bytes from one place to another.

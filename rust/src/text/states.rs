@@ -124,7 +124,7 @@ impl<'a> States<'a> {
         // The row of a state has a place more, for the others.
         let place = match event.text {
             "others" => ROW,
-            name => event.check(names.known_event(name))? as usize,
+            name => event.event(names.known_event(name))? as usize,
         };
         let slot = &mut found[(ROW + 1) * arrow.state + place];
         match slot {

@@ -23,7 +23,7 @@ fn lines_of_a_drum() {
         ("P 512", "P 1 2", ": error: P wants one number"),
         (
             "M 0",
-            "M 0\nevent 5 a b",
+            "M 0\nevent 5 a b\nceiling a 3",
             ": error: event wants a number and a name",
         ),
         (
@@ -45,6 +45,11 @@ fn lines_of_a_drum() {
             "landings routine",
             "landings",
             ": error: landings wants all, none, routine or a list",
+        ),
+        (
+            "event 0 gas ",
+            "event 0 \x01gas ",
+            ": error: a control character, U+0001",
         ),
         (
             "U 1024",
