@@ -10,7 +10,7 @@ import { Preview } from "../../web/model/preview.mjs";
 import { Session } from "../../web/model/session.mjs";
 import { jumpReason, tellInstruction } from "../../web/model/story.mjs";
 import { Trace, lendBench } from "../../web/model/trace.mjs";
-import { AS_WRITTEN, differences, maskedInstructions, withoutMask } from "../../web/model/unmasked.mjs";
+import { AS_WRITTEN, deedsOf, differences, maskedInstructions, withoutMask } from "../../web/model/unmasked.mjs";
 import { CURIOUS, EXAMPLES, PROFILES, ROAST, write } from "./command.mjs";
 import { library, open, pageOf, spoiltLibrary } from "./lesson.mjs";
 
@@ -83,7 +83,8 @@ async function unmask(example, instruction, cell) {
   const bare = withoutMask(session.lib, session.facts, instruction, cell);
   const trace = new Trace(session.lib, bare, session.given, lendBench(session.lib, session.facts), { withEngine: false });
   for (const _ of trace.run()) continue;
-  return { bare, found: differences(trace), trace };
+  const found = differences(trace, session.trace);
+  return { bare, found, deeds: deedsOf(found), trace };
 }
 
 test("without the mask of a LOAD the checker refuses bundle 3, and the routine sees the purge timer", async () => {
@@ -105,11 +106,31 @@ test("without the mask of a STORE the purge timer is overwritten", async () => {
 test("a routine that keeps to its sandbox can be aimed at a free cell", async () => {
   const session = await open(pageOf(ROAST));
   const [store] = maskedInstructions(session.facts);
-  assert.equal((await unmask(ROAST, store, AS_WRITTEN)).found, null);
+  assert.deepEqual((await unmask(ROAST, store, AS_WRITTEN)).deeds, []);
   const { bare, found } = await unmask(ROAST, store, PURGE);
   assert.equal(bare.answer.place, store);
   assert.deepEqual(found.then.moved, [{ cell: PURGE, wrote: 600, now: 1500 }]);
 });
+
+/** Routines that write where they must not, and what they do there without the mask. */
+const STRAYS = {
+  "the state cell": ["SET r1, 0\nSET r2, 2\nSTORE r1, r2\nSET r0, 1\nEVENT cool\n", 2, ["wrote the policy’s state cell", "ended otherwise than with the mask"]],
+  "the table": ["SET r1, 515\nSET r2, 2\nSTORE r1, r2\nEVENT charge\n", 2, ["wrote the policy’s table"]],
+  "a landing cell": ["SET r1, 32\nSTORE r1, r1\n", 1, ["wrote a landing cell"]],
+  "an address above all": ["SET r1, 1024\nSTORE r1, r1\n", 1, ["left the memory at address 1024: fault (22)", "ended otherwise than with the mask"]],
+  "a free cell": ["SET r1, 700\nSTORE r1, r1\n", 1, ["changes what is not its own"]],
+  "the state cell, only read": ["LOAD r2, r1\nSTORE r3, r2\n", 0, ["read the policy’s state cell"]],
+  "a line that is not reached": ["HALT\nSTORE r1, r1\n", 1, []],
+};
+
+for (const [what, [routine, instruction, deeds]] of Object.entries(STRAYS)) {
+  test(`without the mask it is said what a routine does: ${what}`, async () => {
+    const example = { name: "stray", files: [write("stray.routine", routine), ...ROAST.files.slice(1)] };
+    const { found, deeds: done } = await unmask(example, instruction, AS_WRITTEN);
+    assert.deepEqual(done, deeds);
+    assert.equal(found.isReached, deeds.length > 0);
+  });
+}
 
 test("every mask of every example is refused when it is taken out", async () => {
   for (const example of EXAMPLES) {

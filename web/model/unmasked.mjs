@@ -1,5 +1,5 @@
 // The same list with one mask taken out, for the school. The checker refuses it; here, and on no drum, it is run all the same.
-import { COUNTS, offsetOf } from "../library/header.mjs";
+import { COUNTS, ENDING, answerText, offsetOf } from "../library/header.mjs";
 import { commandKind, countOf, isAccess, wordAt, wordOf } from "../library/words.mjs";
 import { movedCells } from "./compare.mjs";
 
@@ -31,7 +31,7 @@ function bareBundle(facts, instruction, cell) {
   const address = cell === AS_WRITTEN ? wordAt(facts.commands, first).a : hidden;
   if (cell !== AS_WRITTEN) bare[0] = wordOf({ kind: commandKind("SET"), d: hidden, v: cell });
   bare[access - first] = wordOf({ ...command, a: address });
-  return { first, words: bare.flat() };
+  return { first, access, words: bare.flat() };
 }
 
 /** The list with the mask of one instruction taken out, and what the checker says of it. */
@@ -39,21 +39,70 @@ export function withoutMask(lib, facts, instruction, cell) {
   const room = facts.bareRoom ?? (facts.bareRoom = lib.lendWords(COUNTS.MOST_COMMANDS));
   const commands = room.subarray(0, facts.commands.length);
   commands.set(facts.commands);
-  const { first, words } = bareBundle(facts, instruction, cell);
+  const { first, access, words } = bareBundle(facts, instruction, cell);
   commands.set(words, 2 * first);
-  return { ...facts, commands, first, answer: lib.check(facts.layout, commands) };
+  return { ...facts, commands, first, access, answer: lib.check(facts.layout, commands) };
+}
+
+const PC = offsetOf("machine", "pc");
+
+/** The region of an address at which there is no cell. */
+const AWAY = "away";
+
+/** Each time that the bare access was done: at which frame, at which address, and what lies there. */
+function accesses({ facts, frames }) {
+  const { a, kind } = wordAt(facts.commands, facts.access);
+  const what = kind === commandKind("STORE") ? "wrote" : "read";
+  const done = [...frames.keys()].filter((k) => k > 0 && frames[k - 1].machine[PC] === facts.shape.base + facts.access);
+  return done.map((at) => {
+    const address = frames[at - 1].machine[a];
+    return { at, what, address, region: facts.region[address] ?? AWAY };
+  });
+}
+
+/** Whether two traces recorded the same and came to the same end. */
+function endAlike(one, other) {
+  const pairs = ({ events }) => JSON.stringify(events.map(({ event, value }) => [event, value]));
+  return one.ending === other.ending && pairs(one) === pairs(other);
 }
 
 /**
- * Where a finished trace of such a list went wrong: the first frame at which something was seen, and what differs there and at
- * the end. Null if nothing was seen.
+ * What a finished trace of such a list did that it does not do with the mask, whose trace is `masked`. `strays` are its accesses
+ * outside the sandbox, `first` the first frame at which something was seen; null if nothing was.
  */
-export function differences(trace) {
+export function differences(trace, masked) {
   const { frames } = trace;
-  const first = frames.findIndex((frame) => frame.twins || frame.moved);
-  if (first < 0) return null;
+  const all = accesses(trace);
+  const strays = all.filter(({ region }) => region !== "sandbox");
+  const seen = frames.findIndex((frame) => frame.twins || frame.moved);
+  const found = [seen, strays[0]?.at ?? -1].filter((at) => at >= 0);
+  const first = found.length ? Math.min(...found) : null;
   const look = (k) => differencesAt(trace.facts, trace.replay(k, "here"), trace.replay(k, "there"));
-  return { first, isSeen: frames.some((frame) => frame.twins), then: look(first), atEnd: look(frames.length - 1) };
+  return {
+    first,
+    strays,
+    isReached: all.length > 0,
+    isSeen: frames.some((frame) => frame.twins),
+    isMoved: frames.some((frame) => frame.moved),
+    endsAlike: endAlike(trace, masked),
+    then: first === null ? null : look(first),
+    atEnd: first === null ? null : look(frames.length - 1),
+  };
+}
+
+/** What it did, most telling first, in the words behind 'The routine'. Empty if it did nothing that it should not. */
+export function deedsOf({ strays, isSeen, isMoved, endsAlike }) {
+  const did = (region) => strays.find((stray) => stray.region === region);
+  const deed = (region, words) => (did(region) ? [words(did(region))] : []);
+  const deeds = [
+    ...(isSeen ? ["sees what is not its own"] : []),
+    ...(isMoved ? ["changes what is not its own"] : []),
+    ...deed("state", ({ what }) => `${what} the policy’s state cell`),
+    ...deed("table", ({ what }) => `${what} the policy’s table`),
+    ...deed("landings", ({ what }) => `${what} a landing cell`),
+    ...deed(AWAY, ({ address }) => `left the memory at address ${address}: ${answerText(ENDING.FAULT)}`),
+  ];
+  return endsAlike ? deeds : [...deeds, "ended otherwise than with the mask"];
 }
 
 /** What differs between two sides: registers, shared cells and pairs; and this side's free cells that changed. */
@@ -62,7 +111,7 @@ function differencesAt(facts, here, there) {
   const isShared = (cell) => facts.region[cell] !== "free";
   const shared = (side) => side.memory.map((value, cell) => (isShared(cell) ? value : 0));
   const values = (side) => side.record.filter((_, i) => i % 2);
-  const registers = (side) => side.machine.subarray(0, offsetOf("machine", "pc"));
+  const registers = (side) => side.machine.subarray(0, PC);
   return {
     moved: movedCells(facts, here).map((cell) => ({ cell, wrote: here.host[cell], now: here.memory[cell] })),
     apart: [

@@ -5,7 +5,7 @@ import { FORMATS, plural } from "../model/numbers.mjs";
 import { cellName, commandLine, instructionText, lineOf } from "../model/names.mjs";
 import { inSlices } from "../model/slices.mjs";
 import { lendBench, Trace } from "../model/trace.mjs";
-import { AS_WRITTEN, differences, maskedInstructions, withoutMask } from "../model/unmasked.mjs";
+import { AS_WRITTEN, deedsOf, differences, maskedInstructions, withoutMask } from "../model/unmasked.mjs";
 import { byId, h } from "./dom.mjs";
 
 const MOST_ROWS = 8;
@@ -21,7 +21,7 @@ export function buildUnmasked(app) {
   const { page, session } = app;
   const masked = maskedInstructions(session.facts);
   if (!masked.length) {
-    byId("unmasked-form").replaceChildren(h("p", { class: "hint" }, "This routine has no LOAD and no STORE, so there is no mask to take out."));
+    byId("unmasked-form").replaceChildren(h("p", { class: "hint" }, "This routine has no LOAD and no STORE, so it has no mask of a memory address to take out."));
     return;
   }
   app.bareBench = lendBench(session.lib, session.facts);
@@ -86,21 +86,33 @@ function differenceTables({ page, format }, { moved, apart }) {
   ];
 }
 
+/** Nothing was done that the mask would have kept it from: the reason is one of two. */
+function nothingDone(found, came) {
+  const why = found.isReached ? "Each time the address lay in the sandbox." : "The line was not reached.";
+  return [h("p", { class: "verdict ok" }, "No difference"), h("p", {}, `${why} Choose another address above. ${came}`)];
+}
+
+/** How it ended, beside how it ends with the mask. */
+function endText(app, trace) {
+  const [bare, masked] = [trace, app.session.trace].map((one) => `${answerText(one.ending)} with ${plural(one.events.length, "pair")}`);
+  return bare === masked ? `It came out as ${answerText(trace.ending)}.` : `It came out as ${bare}; with the mask, as ${masked}.`;
+}
+
 function outcome(app, trace) {
-  const found = differences(trace);
-  const came = `It came out as ${answerText(trace.ending)}.`;
-  if (!found) {
-    const why = "This time the address lay in the sandbox, or the line was not reached.";
-    return [h("p", { class: "verdict ok" }, "No difference"), h("p", {}, `${why} Choose another address above. ${came}`)];
-  }
+  const found = differences(trace, app.session.trace);
+  const deeds = deedsOf(found);
+  const came = endText(app, trace);
+  if (!deeds.length) return nothingDone(found, came);
+  const verdicts = deeds.map((deed) => h("p", { class: "verdict broken" }, `✕ The routine ${deed}`));
+  if (found.first === null) return [...verdicts, h("p", {}, came)];
   const line = lineOf(app.page, trace.frames[found.first - 1].index);
-  const what = found.isSeen ? "The routine sees what is not its own" : "The routine changes what is not its own";
+  const where = found.strays.length ? `, at address ${found.strays[0].address}` : "";
   const atEnd = differenceTables(app, found.atEnd);
   return [
-    h("p", { class: "verdict broken" }, `✕ ${what}`),
-    h("p", {}, `First after ${plural(found.first, "command")}, in line ${line}. With the mask there is no difference.`),
+    ...verdicts,
+    h("p", {}, `First after ${plural(found.first, "command")}, in line ${line}${where}. With the mask it does not.`),
     ...differenceTables(app, found.then),
-    h("p", {}, `${came} ${atEnd.length ? "At its end:" : "At its end nothing of this is left to see."}`),
+    h("p", {}, atEnd.length ? `${came} At its end:` : came),
     ...atEnd,
   ];
 }

@@ -1,7 +1,7 @@
 // Every control of the page, by mouse and by key, on the roast.
 import assert from "node:assert/strict";
 import { after, before, beforeEach, afterEach, test } from "node:test";
-import { CURIOUS, ROAST, SAMPLE, makePage } from "../command.mjs";
+import { CURIOUS, ROAST, SAMPLE, makePage, write } from "../command.mjs";
 import { browserName, openBrowser } from "./chromium.mjs";
 import { record, see, text } from "./seen.mjs";
 
@@ -194,6 +194,7 @@ test("without the mask: the checker refuses the list, and the purge timer is ove
   assert.match(shown, /purge timer6001500/);
   await page.run("(() => { const s = document.getElementById('mask-address'); s.selectedIndex = 0; s.dispatchEvent(new Event('change')); })()");
   await page.until("document.getElementById('unmasked').textContent.includes('No difference')");
+  assert.match(await said("#unmasked"), /Each time the address lay in the sandbox\./);
 });
 
 test("curious: an address outside the sandbox is drawn, and without its mask the routine sees the purge timer", async () => {
@@ -205,6 +206,26 @@ test("curious: an address outside the sandbox is drawn, and without its mask the
   const shown = await said("#unmasked");
   assert.match(shown, /The routine sees what is not its own/);
   assert.match(shown, /r3600/);
+});
+
+/** Opens the page of a routine on the roast's drum and policy, or others. */
+async function openRoutine(name, routine, { more = [], files = ROAST.files.slice(1), size = DESKTOP } = {}) {
+  await page.close();
+  page = await browser.page(makePage({ name, files: [write(`${name}.routine`, routine), ...files] }, more), size);
+}
+
+test("without the mask: a routine that writes the policy's state cell is told of, and so is its other end", async () => {
+  await openRoutine("state", "SET r1, 0\nSET r2, 2\nSTORE r1, r2\nSET r0, 1\nEVENT cool\n");
+  const shown = await said("#unmasked");
+  assert.match(shown, /The routine wrote the policy’s state cell/);
+  assert.match(shown, /in line 3, at address 0\./);
+  assert.match(shown, /The routine ended otherwise than with the mask/);
+  assert.match(shown, /It came out as ended \(20\) with 1 pair; with the mask, as no arrow \(21\) with 0 pairs\./);
+});
+
+test("without the mask: a routine with jumps alone has no mask of a memory address", async () => {
+  await openRoutine("jumps", "SET r5, next\nGOX r5, always\nlanding next:\nHALT\n");
+  assert.match(await said("#unmasked-form"), /no LOAD and no STORE, so it has no mask of a memory address/);
 });
 
 test("sample: the stopped event is shown as such", async () => {
