@@ -226,3 +226,5 @@ test("a field's text is read, or a sentence says what is wrong with it", () => {
   assert.match(readNumber("").problem, /Write a number/);
   assert.match(readNumber("1 2").problem, /one number only/);
 });
+  assert.deepEqual(readNumbers("214748364.7", 10), { values: [2147483647] });
+  assert.match(readNumbers("214748364.8", 10).problem, /up to 214748364\.7/);

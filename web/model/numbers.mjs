@@ -1,6 +1,7 @@
 // Numbers as the viewer writes and reads them.
 
 const LOWEST = -(2 ** 31);
+const HIGHEST_SIGNED = 2 ** 31 - 1;
 const ABOVE_ALL = 2 ** 32;
 const MINUS = "−";
 const HEXADECIMAL = 16;
@@ -23,6 +24,7 @@ function readWord(word, scale) {
   if (decimals.length > placesOf(scale)) return { problem: `${word} has too many decimals: ${plural(placesOf(scale), "place")} at most.` };
   const number = RAW.test(word) ? Number(word) : Math.round(Number(word) * scale);
   if (number < LOWEST || number >= ABOVE_ALL) return { problem: `${word} has more than 32 bits. Write a smaller number.` };
+  if (scale !== 1 && !RAW.test(word) && number > HIGHEST_SIGNED) return { problem: `${word} is too much. Write a number up to ${HIGHEST_SIGNED / scale}.` };
   return { value: number >>> 0 };
 }
 
@@ -41,6 +43,18 @@ export function valueText(value, scale, format = "unsigned") {
 }
 
 /** One number up to `most`: { value } or { problem }. */
+/** The number that `valueText` writes: scaled, and signed where it is. */
+export function shownNumber(value, scale, format) {
+  if (format === "hexadecimal") return value >>> 0;
+  return scale === 1 && format === "unsigned" ? value >>> 0 : (value | 0) / scale;
+}
+
+/** A number of an axis, with as many decimals as the scale has. */
+export function axisText(number, scale, format) {
+  if (format === "hexadecimal") return `0x${number.toString(HEXADECIMAL).toUpperCase()}`;
+  return String(Number(number.toFixed(placesOf(scale)))).replace("-", MINUS);
+}
+
 export function readNumber(text, most = ABOVE_ALL - 1) {
   const { values, problem } = readNumbers(text);
   if (problem) return { problem };
