@@ -15,16 +15,16 @@ const SHAPES = [
   "M-2 -6h4v4h4v4h-4v4h-4v-4h-4v-4h4z",
   "M-6 -3h12v6h-12z",
   "M-3 -6h6v12h-6z",
+  "M-5.5 -5.5h11l-11 11h11z",
 ];
-const READING_SHAPES = SHAPES.length;
-const ORDER_SHAPES = SHAPES.length - 1; // the circle is a reading's
+const FIRST_ORDER_SHAPE = 1; // the circle is a reading's
 
 export const kindClass = (facts, event) => (facts.isReading[event] ? "reading" : "order");
 
 export function mark(facts, event, x = 0, y = 0) {
   const isReading = facts.isReading[event];
   const nth = event % COUNTS.ORDERS;
-  const d = SHAPES[isReading ? nth % READING_SHAPES : 1 + (nth % ORDER_SHAPES)];
+  const d = SHAPES[isReading ? nth : FIRST_ORDER_SHAPE + nth];
   const hollow = isReading && nth > 0 ? "hollow" : "";
   return svg("path", { class: `mark ${kindClass(facts, event)} ${hollow}`, d, transform: `translate(${x} ${y})` });
 }
