@@ -5,7 +5,8 @@ import { test } from "node:test";
 import { Library } from "../../web/library/binding.mjs";
 import { ENDING, answerText } from "../../web/library/header.mjs";
 import { readNumber, readNumbers, valueText } from "../../web/model/numbers.mjs";
-import { policyModel } from "../../web/model/policy.mjs";
+import { agreement } from "../../web/model/compare.mjs";
+import { clippedMiddle, policyModel } from "../../web/model/policy.mjs";
 import { Preview } from "../../web/model/preview.mjs";
 import { Session } from "../../web/model/session.mjs";
 import { jumpReason, tellInstruction } from "../../web/model/story.mjs";
@@ -228,3 +229,8 @@ test("a field's text is read, or a sentence says what is wrong with it", () => {
 });
   assert.deepEqual(readNumbers("214748364.7", 10), { values: [2147483647] });
   assert.match(readNumbers("214748364.8", 10).problem, /up to 214748364\.7/);
+test("names that are too long lose their middle", () => {
+  assert.equal(clippedMiddle("phase11_of_roasting", 9), "phas…ting");
+  assert.equal(clippedMiddle("short", 9), "short");
+});
+

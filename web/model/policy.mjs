@@ -50,3 +50,10 @@ export function wrap(words, width) {
 }
 
 export const clipped = (text, most) => (text.length > most ? `${text.slice(0, most - 1)}…` : text);
+
+/** The same, but what is left out is the middle. */
+export function clippedMiddle(text, most) {
+  if (text.length <= most) return text;
+  const head = Math.ceil((most - 1) / 2);
+  return `${text.slice(0, head)}…${text.slice(text.length - (most - 1 - head))}`;
+}

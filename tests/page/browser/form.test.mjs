@@ -92,6 +92,41 @@ test("a policy of 16 states is drawn legibly, at a phone's width too", async () 
   }
 });
 
+/** The lowest contrast of the arrows against the card behind them. It is run in the page, so it stands alone. */
+function arrowContrast() {
+  const numbers = (colour) => colour.match(/[\d.]+/g).map(Number);
+  const channel = (v) => (v / 255 <= 0.03928 ? v / 255 / 12.92 : ((v / 255 + 0.055) / 1.055) ** 2.4);
+  const luminance = ([r, g, b]) => 0.2126 * channel(r) + 0.7152 * channel(g) + 0.0722 * channel(b);
+  const card = numbers(getComputedStyle(document.getElementById("panel-policy")).backgroundColor);
+  const ratio = (path) => {
+    const { stroke, opacity } = getComputedStyle(path);
+    const shown = numbers(stroke).slice(0, 3).map((v, i) => v * opacity + card[i] * (1 - opacity));
+    const [dark, light] = [luminance(shown), luminance(card)].sort((a, b) => a - b);
+    return (light + 0.05) / (dark + 0.05);
+  };
+  return Math.min(...[...document.querySelectorAll("#automaton .arrow path:not(.head)")].map(ratio));
+}
+
+const LEAST_ARROW_CONTRAST = 3; // WCAG AA for drawings
+
+test("16 states with long names: each name fits its box and differs from the others, idle arrows can be seen in light and dark", async () => {
+  const name = (s) => `the_phase_of_roasting_number_${s % 16}`;
+  const all = Array.from({ length: 16 }, (_, s) => `state ${name(s)}\n  gas -> ${name(s + 1)}\n  air -> ${name(s * 5)}\n  others -> ${name(s)}\n`);
+  const policy = write("phases.policy", `${all.join("")}start ${name(0)}\n`);
+  const [routine, , drum] = ROAST.files;
+  const file = makePage({ name: "phases", files: [routine, "--drum", drum, "--policy", policy], readings: ROAST.readings });
+  for (const isDark of [false, true]) {
+    const page = await browser.page(file, { ...DESKTOP, isDark });
+    assert.ok((await see(page, arrowContrast)) >= LEAST_ARROW_CONTRAST);
+    const boxes = await page.run(`[...document.querySelectorAll("#automaton .state")].map((s) => { const [box, name] = [s.querySelector("rect"), s.querySelector("text")];
+      return { said: name.textContent, fits: name.getBBox().width <= box.getBBox().width - 8 }; })`);
+    assert.deepEqual(boxes.filter(({ fits }) => !fits), []);
+    assert.equal(new Set(boxes.map(({ said }) => said)).size, 16);
+    assert.deepEqual(await see(page, lookAtForm), GOOD);
+    await page.close();
+  }
+});
+
 const LOOP = "loop: ADD r1, r1, r2\n STORE r3, r1\n GOIF r0, r0, always, loop\n";
 const LONGEST_GAP = 250; // milliseconds in which the page does not answer
 
