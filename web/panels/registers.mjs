@@ -1,11 +1,12 @@
 // Registers and the sandbox's cells; what the last step changed is lit and shows what it was.
 import { offsetOf } from "../library/header.mjs";
 import { FORMATS, plural } from "../model/numbers.mjs";
-import { byId, h, spoken } from "./dom.mjs";
+import { byId, h, reveal, spoken } from "./dom.mjs";
 
 const GUEST_REGISTERS = offsetOf("engine", "index");
 const ALL_REGISTERS = offsetOf("machine", "pc");
 const MOST_SHOWN = 60;
+const REVEAL_MARGIN = 60;
 
 export function buildRegisters(app) {
   const choose = (format) => {
@@ -28,9 +29,17 @@ function cell(name, value, was) {
 
 function sandboxSaid(shown, { low, high }) {
   const rest = high - low + 1 - shown;
-  if (shown === 0) return `All ${rest} cells, ${low} to ${high}, are still 0.`;
-  const more = shown > MOST_SHOWN ? `${shown - MOST_SHOWN} more cells have changed. ` : "";
-  return `${more}${plural(rest, "other cell")} of ${low} to ${high} still 0.`;
+  if (shown === 0) return `All ${rest} cells, ${low} to ${high}, are 0.`;
+  const more = shown > MOST_SHOWN ? `${plural(shown - MOST_SHOWN, "more cell")} not shown. ` : "";
+  if (rest === 0) return `${more}No cell of ${low} to ${high} is 0.`;
+  return `${more}${plural(rest, "other cell")} of ${low} to ${high} ${rest === 1 ? "is" : "are"} 0.`;
+}
+
+/** The sandbox's cells to show: what the last step changed, then the first of those that are not 0. */
+function shownCells(cells, isChanged) {
+  const changed = cells.filter(isChanged);
+  const others = cells.filter((c) => !isChanged(c)).slice(0, Math.max(0, MOST_SHOWN - changed.length));
+  return [...changed, ...others].sort((a, b) => a - b);
 }
 
 export function updateRegisters({ session, format }) {
@@ -43,7 +52,11 @@ export function updateRegisters({ session, format }) {
   const { low, high } = facts.shape;
   const isShown = (c) => now.memory[c] !== 0 || (before && before.memory[c] !== 0);
   const cells = Array.from({ length: high - low + 1 }, (_, i) => low + i).filter(isShown);
-  const shown = cells.slice(0, MOST_SHOWN).map((c) => cell(String(c), show(now.memory[c]), was((f) => f.memory, c)));
-  byId("sandbox").replaceChildren(...shown);
+  const isChanged = (c) => before !== null && before.memory[c] !== now.memory[c];
+  const shown = shownCells(cells, isChanged).map((c) => cell(String(c), show(now.memory[c]), was((f) => f.memory, c)));
+  const box = byId("sandbox");
+  box.replaceChildren(...shown);
+  const lit = box.querySelector(".changed");
+  if (lit) reveal(box, lit, REVEAL_MARGIN);
   byId("sandbox-rest").textContent = sandboxSaid(cells.length, facts.shape);
 }
