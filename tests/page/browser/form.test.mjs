@@ -146,4 +146,21 @@ test("10,000 commands: a bar moves, and the page answers all the while", async (
   await page.close();
 });
 
+const LONGEST_STEP = 120; // milliseconds, at the end of a long run
+const RECORDING = "SET r0, 20\nloop: EVENT gas\n GOIF r0, r0, always, loop\n";
+
+test("a step at the end of 10,000 commands is quick, and the rows of the record stay", async () => {
+  const any = write("any.policy", "state any\n  others -> any\nstart any\n");
+  const [, , drum] = ROAST.files;
+  const file = makePage({ name: "recording", files: [write("recording.routine", RECORDING), "--drum", drum, "--policy", any] }, ["--budget", "10000", "--log", "4096"]);
+  const page = await browser.page(file, DESKTOP);
+  await page.click("#do-end");
+  const seen = await page.run(`(() => { const first = document.querySelector("#pairs tr"); const times = [];
+    for (const id of ["back", "step", "back", "step", "back", "step"]) { const began = performance.now(); document.getElementById("do-" + id).click(); document.body.offsetHeight; times.push(performance.now() - began); }
+    return { stays: first === document.querySelector("#pairs tr"), median: times.sort((a, b) => a - b)[3], rows: document.querySelectorAll("#pairs tr").length }; })()`);
+  assert.ok(seen.stays && seen.rows > 1900, JSON.stringify(seen));
+  assert.ok(seen.median < LONGEST_STEP, JSON.stringify(seen));
+  await page.close();
+});
+
 test("no error in the console, no request to anything", () => assert.deepEqual(browser.complaints(), []));
