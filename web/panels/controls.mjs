@@ -1,5 +1,5 @@
 // The bar: reset, back, step, next event, run, end; the slider over all steps; the switch to commands; and the keys.
-import { byId, h, svg } from "./dom.mjs";
+import { byId, h, ifUsable, setUsable, svg } from "./dom.mjs";
 
 const ICONS = {
   reset: "M4 3v10M14 3 6 8l8 5z",
@@ -49,7 +49,7 @@ function commandSwitch(app) {
 
 export function buildControls(app) {
   const button = ([id, text, key]) =>
-    h("button", { id: `do-${id}`, type: "button", class: "do", title: `${text} (${key})`, onclick: app.acts[id] }, icon(id), h("span", {}, text));
+    h("button", { id: `do-${id}`, type: "button", class: "do", title: `${text} (${key})`, onclick: ifUsable(app.acts[id]) }, icon(id), h("span", {}, text));
   const slide = (e) => app.move(() => app.session.go(Number(e.target.value)));
   const slider = h("input", { id: "slider", type: "range", min: 0, value: 0, "aria-label": "Step", oninput: slide });
   byId("controls").append(
@@ -68,10 +68,10 @@ export function updateControls({ session, isPlaying }) {
   slider.value = at;
   slider.setAttribute("aria-valuetext", `${what} ${at} of ${last}`);
   byId("where").replaceChildren(h("b", {}, String(at)), ` of ${last}`, h("span", { class: "wide" }, ` ${what}s`));
-  for (const id of ["back", "reset"]) byId(`do-${id}`).disabled = at === 0;
-  for (const id of ["step", "event", "end"]) byId(`do-${id}`).disabled = at === last;
+  for (const id of ["back", "reset"]) setUsable(byId(`do-${id}`), at !== 0);
+  for (const id of ["step", "event", "end"]) setUsable(byId(`do-${id}`), at !== last);
   const play = byId("do-play");
-  play.disabled = at === last && !isPlaying;
+  setUsable(play, at !== last || isPlaying);
   play.replaceChildren(icon(isPlaying ? "pause" : "play"), h("span", {}, isPlaying ? "Pause" : "Run"));
   byId("by-command").checked = session.byCommand;
 }

@@ -39,6 +39,10 @@ export function complain(input, problem) {
   input.closest("label, .field").after(said);
 }
 
+/** A button that is of no use now keeps the focus, so it is not disabled: it says so, and does nothing. */
+export const setUsable = (button, isUsable) => button.setAttribute("aria-disabled", String(!isUsable));
+export const ifUsable = (act) => (pressed) => pressed.currentTarget.getAttribute("aria-disabled") !== "true" && act(pressed);
+
 const THIRD = 1 / 3; // of a box: where what is shown comes to stand
 
 /** Scrolls a box so that what is shown in it can be seen; the page itself stays. */

@@ -2,7 +2,7 @@
 import { readNumber, readNumbers, valueText } from "../model/numbers.mjs";
 import { MOST_BUDGET } from "../model/session.mjs";
 import { MOST_LOG, MOST_READINGS } from "../model/trace.mjs";
-import { byId, complain } from "./dom.mjs";
+import { byId, complain, ifUsable, setUsable } from "./dom.mjs";
 
 function readReadings(text, { readingScale }) {
   const { values, problem } = readNumbers(text, readingScale);
@@ -24,7 +24,7 @@ export function buildSetup(app) {
       if (!problem) app.give(given(value));
     });
   }
-  byId("forget").addEventListener("click", () => app.give({ writes: [] }));
+  byId("forget").addEventListener("click", ifUsable(() => app.give({ writes: [] })));
   buildTheme();
 }
 
@@ -36,7 +36,7 @@ export function updateSetup({ session: { given, readingScale } }) {
     const field = byId(id);
     if (field !== document.activeElement && field.getAttribute("aria-invalid") !== "true") field.value = text;
   }
-  byId("forget").disabled = given.writes.length === 0;
+  setUsable(byId("forget"), given.writes.length > 0);
 }
 
 function buildTheme() {

@@ -31,7 +31,7 @@ export function lookAtForm() {
   const lookAtText = (node) => {
     const e = node.parentElement;
     const box = e.getBoundingClientRect();
-    if (!node.data.trim() || box.width < 2 || e.closest("script, style, title, .spoken, .skip, :disabled, [hidden], option, noscript")) return;
+    if (!node.data.trim() || box.width < 2 || e.closest("script, style, title, .spoken, .skip, [aria-disabled=true], [hidden], option, noscript")) return;
     texts++;
     const drawing = e.closest("svg");
     const style = getComputedStyle(e);

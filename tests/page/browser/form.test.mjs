@@ -60,7 +60,7 @@ test("every control has a name for a screen reader", async () => {
 
 test("all controls are reached by Tab, and show that they have the focus", async () => {
   const page = await browser.page(makePage(ROAST), DESKTOP);
-  const wanted = await page.run("[...document.querySelectorAll('button:not(:disabled), input, select, summary')].length");
+  const wanted = await page.run("[...document.querySelectorAll('button, input, select, summary')].length");
   const seen = new Set();
   for (let i = 0; i < 4 * wanted; i++) {
     await page.key("Tab");

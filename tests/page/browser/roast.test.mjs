@@ -35,7 +35,7 @@ for (const example of EXAMPLES) {
       seen.push(await see(page, lastStep));
     }
     assert.deepEqual(seen, changesOf(steps).map((step) => ({ ...step, line: step.line ?? 0 })));
-    assert.ok(await page.run("document.getElementById('do-step').disabled"));
+    assert.ok(await page.run("document.getElementById('do-step').getAttribute('aria-disabled') === 'true'"));
     for (let i = steps.length - 2; i >= 0; i--) {
       await page.key("ArrowLeft");
       assert.deepEqual(await see(page, lastStep), seen[i]);
