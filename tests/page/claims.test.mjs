@@ -189,6 +189,27 @@ test("a newer run takes over from an older one in its midst, and comes out as if
   assert.deepEqual(session.trace.frames.at(-1).machine, alone.trace.frames.at(-1).machine);
 });
 
+test("a budget spent inside a bundle: its last command can be reached, and the record is that of the end", async () => {
+  const page = pageOf({ name: "inside", files: [write("inside.routine", "EVENT gas\nHALT\n"), ...ROAST.files.slice(1)], readings: [] }, ["--budget", "3"]);
+  const session = await open(page);
+  session.go(session.last);
+  assert.deepEqual([session.command, session.now.pairs], [3, 1]);
+  assert.equal(session.trace.ending, ENDING.SPENT);
+  assert.equal(session.taken, null);
+  assert.equal(tellInstruction(session, "unsigned"), "The budget was spent inside it: 3 of its 4 commands are done.");
+});
+
+test("machine and engine: the first register or cell that differs is named", async () => {
+  const session = await open(pageOf(ROAST));
+  session.go(session.last);
+  const { facts, trace } = session;
+  const { here, engine } = trace.sides;
+  engine.engine[3] = here.machine[3] + 1;
+  engine.memory[facts.shape.low + 7] = 5;
+  const rows = agreement(facts, here, engine).filter(({ ok }) => !ok);
+  assert.deepEqual(rows.map(({ what, there }) => [what, there]), [["r0 to r14", `r3 is ${here.machine[3] + 1}`], ["sandbox", `cell ${facts.shape.low + 7} is 5`]]);
+});
+
 test("a policy of 16 states is drawn with all that events lead to", async () => {
   const order = write("order.policy", "gas before air\nair before door\ndoor before charge\n");
   const [routine, , drum] = ROAST.files;

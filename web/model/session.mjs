@@ -41,8 +41,10 @@ export class Session {
 
   /** The frames at which one can stand: after each command, or where instructions begin and the routine ends. */
   #findStops() {
-    const isStop = (frame) => this.byCommand || frame.isFirst || !frame.isRunning;
-    this.stops = [...this.trace.frames.keys()].filter((k) => isStop(this.trace.frames[k]));
+    const { frames, ending } = this.trace;
+    const isSpent = (k) => ending === ENDING.SPENT && k === frames.length - 1;
+    const isStop = (frame, k) => this.byCommand || frame.isFirst || !frame.isRunning || isSpent(k);
+    this.stops = [...frames.keys()].filter((k) => isStop(frames[k], k));
   }
 
   standAt(command) {
@@ -105,6 +107,20 @@ export class Session {
     if (at === this.at || !frame.isFirst || frame.index !== instruction) return false;
     this.go(at);
     return true;
+  }
+
+  /** Goes to the next time that a line with a breakpoint begins; false if none does. */
+  runToBreakpoint() {
+    const isStop = (frame) => frame.isFirst && this.breakpoints.has(frame.index);
+    const at = this.#next(isStop);
+    if (at === this.at || !isStop(this.trace.frames[this.stops[at]])) return false;
+    this.go(at);
+    return true;
+  }
+
+  /** Whether the budget was spent inside the instruction that stands there. */
+  get isInside() {
+    return !this.byCommand && this.frame.isRunning && !this.frame.isFirst;
   }
 
   get isAtBreakpoint() {
@@ -207,7 +223,7 @@ export class Session {
   get taken() {
     const { before, facts } = this;
     const word = before && this.wordOrHalt(before.index);
-    if (!before || kindName(word) !== "EVENT" || !this.frame.isRunning) return null;
+    if (!before || kindName(word) !== "EVENT" || !this.frame.isRunning || this.isInside) return null;
     const isSent = this.byCommand ? ["EVENT", "KEEP"].includes(commandName(wordAt(facts.commands, this.lastCommand))) : true;
     return isSent ? { from: before.state, to: facts.arrows[before.state][word.v] } : null;
   }

@@ -85,6 +85,7 @@ export function tellInstruction(session, format) {
   const { before, now } = session;
   const word = session.wordOrHalt(before.index);
   const name = kindName(word);
+  if (session.isInside) return `The budget was spent inside it: ${now.k - before.k} of its ${session.facts.bundle} commands are done.`;
   if (name === "GOIF" || name === "GOX") return `${jumpReason(session.page, session.jump(before, now), format).full}.`;
   return (INSTRUCTIONS[name] ?? alike)(scene(session, format, before, now), word);
 }
