@@ -79,6 +79,21 @@ function behindRow({ rows, session: { facts } }) {
   return row;
 }
 
+/** By command, the present HALT behind the last line shows its commands. */
+function showBehind({ session, rows }) {
+  const { now, facts, byCommand } = session;
+  const count = countOf(facts.words);
+  const isThere = byCommand && now.index >= count;
+  const row = rows.get(count);
+  const shown = row?.querySelector(".bundle");
+  if (isThere && shown?.dataset.of === String(now.index)) return;
+  shown?.remove();
+  if (!isThere || !row) return;
+  const bundle = bundleOf(session, now.index);
+  bundle.dataset.of = now.index;
+  row.append(bundle);
+}
+
 /** Landings are marked line by line, unless all or none of the lines are landings: then a sentence says so. */
 function sayLandings(app) {
   const { facts } = app.session;
@@ -147,6 +162,7 @@ export function updateRoutine(app) {
   const place = now.isRunning ? now.machine[PC] - facts.shape.base : null;
   list.querySelector(".now-command")?.classList.remove("now-command");
   const command = byCommand && place !== null ? list.querySelector(`[data-command="${place}"]`) : null;
+  showBehind(app);
   command?.classList.add("now-command");
   drawJumps(app);
   reveal(byId("listing-box"), command ?? rows.get(now.index), REVEAL_MARGIN);
