@@ -252,6 +252,9 @@ test("a field's text is read, or a sentence says what is wrong with it", () => {
   assert.match(readNumbers("214748364.8", 10).problem, /up to 214748364\.7/);
 test("names that are too long lose their middle", () => {
   assert.equal(clippedMiddle("phase11_of_roasting", 9), "phas…ting");
+  assert.match(readNumber("-1", 12).problem, /^−1 is below 0\. Write a number from 0 to 12\.$/);
+  assert.deepEqual(readNumber("-1"), { value: 4294967295 });
+  assert.match(readNumber("1.5").problem, /^Write a whole number: 1\.5 has decimals\.$/);
   assert.equal(clippedMiddle("short", 9), "short");
 });
 

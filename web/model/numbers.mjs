@@ -21,10 +21,11 @@ const placesOf = (scale) => Math.round(Math.log10(scale));
 function readWord(word, scale) {
   const decimals = word.match(DECIMAL)?.[1] ?? "";
   if (!RAW.test(word) && !DECIMAL.test(word)) return { problem: `“${word}” is no number. Write decimal numbers, or 0x and hexadecimal.` };
+  if (decimals && scale === 1) return { problem: `Write a whole number: ${word} has decimals.` };
   if (decimals.length > placesOf(scale)) return { problem: `${word} has too many decimals: ${plural(placesOf(scale), "place")} at most.` };
   const number = RAW.test(word) ? Number(word) : Math.round(Number(word) * scale);
-  if (number < LOWEST || number >= ABOVE_ALL) return { problem: `${word} has more than 32 bits. Write a smaller number.` };
   if (scale !== 1 && !RAW.test(word) && number > HIGHEST_SIGNED) return { problem: `${word} is too much. Write a number up to ${HIGHEST_SIGNED / scale}.` };
+  if (number < LOWEST || number >= ABOVE_ALL) return { problem: `${word} has more than 32 bits. Write a smaller number.` };
   return { value: number >>> 0 };
 }
 
@@ -42,7 +43,6 @@ export function valueText(value, scale, format = "unsigned") {
   return ((value | 0) / scale).toFixed(placesOf(scale)).replace("-", MINUS);
 }
 
-/** One number up to `most`: { value } or { problem }. */
 /** The number that `valueText` writes: scaled, and signed where it is. */
 export function shownNumber(value, scale, format) {
   if (format === "hexadecimal") return value >>> 0;
@@ -55,10 +55,13 @@ export function axisText(number, scale, format) {
   return String(Number(number.toFixed(placesOf(scale)))).replace("-", MINUS);
 }
 
+/** One number up to `most`: { value } or { problem }. */
 export function readNumber(text, most = ABOVE_ALL - 1) {
   const { values, problem } = readNumbers(text);
   if (problem) return { problem };
   if (values.length !== 1) return { problem: values.length ? "Write one number only." : "Write a number." };
+  const word = text.trim().replaceAll(MINUS, "-");
+  if (most < ABOVE_ALL - 1 && word.startsWith("-") && values[0] > 0) return { problem: `${word.replace("-", MINUS)} is below 0. Write a number from 0 to ${most}.` };
   if (values[0] > most) return { problem: `${values[0]} is too much. Write a number up to ${most}.` };
   return { value: values[0] };
 }
