@@ -229,6 +229,8 @@ test("a scaled reading is a person's number in the page, and the drum's in the l
   assert.match(tellInstruction(session, "unsigned"), /The probe answers 190\.0: r0 becomes 1900, and the record has bean 190\.0\./);
   assert.deepEqual(readNumbers("196.5, -0.5, 0x10", 10), { values: [1965, 4294967291, 16] });
   assert.match(readNumbers("196.55", 10).problem, /too many decimals/);
+  assert.deepEqual(readNumbers("214748364.7", 10), { values: [2147483647] });
+  assert.match(readNumbers("214748364.8", 10).problem, /up to 214748364\.7/);
   assert.equal(valueText(1965, 10), "196.5");
   assert.equal(valueText(1965, 10, "hexadecimal"), "0x7AD");
 });
@@ -239,22 +241,20 @@ test("the policy's ceiling counts where it is the lower one", async () => {
   assert.ok(session.trace.events.some(({ event, value, r0 }) => event === 0 && value === 80 && r0 === 85));
 });
 
+test("names that are too long lose their middle", () => {
+  assert.equal(clippedMiddle("phase11_of_roasting", 9), "phas…ting");
+  assert.equal(clippedMiddle("short", 9), "short");
+});
+
 test("a field's text is read, or a sentence says what is wrong with it", () => {
   assert.deepEqual(readNumbers("1500, 0x10 -1;7"), { values: [1500, 16, 4294967295, 7] });
   assert.match(readNumbers("1500 hot").problem, /“hot” is no number/);
   assert.match(readNumbers("4294967296").problem, /more than 32 bits/);
   assert.deepEqual(readNumber("12", 12), { value: 12 });
   assert.match(readNumber("13", 12).problem, /up to 12/);
-  assert.match(readNumber("").problem, /Write a number/);
-  assert.match(readNumber("1 2").problem, /one number only/);
-});
-  assert.deepEqual(readNumbers("214748364.7", 10), { values: [2147483647] });
-  assert.match(readNumbers("214748364.8", 10).problem, /up to 214748364\.7/);
-test("names that are too long lose their middle", () => {
-  assert.equal(clippedMiddle("phase11_of_roasting", 9), "phas…ting");
   assert.match(readNumber("-1", 12).problem, /^−1 is below 0\. Write a number from 0 to 12\.$/);
   assert.deepEqual(readNumber("-1"), { value: 4294967295 });
   assert.match(readNumber("1.5").problem, /^Write a whole number: 1\.5 has decimals\.$/);
-  assert.equal(clippedMiddle("short", 9), "short");
+  assert.match(readNumber("").problem, /Write a number/);
+  assert.match(readNumber("1 2").problem, /one number only/);
 });
-

@@ -23,17 +23,23 @@ export const instructionOf = (facts, machine) => Math.floor((machine[PC] - facts
 
 const row = (what, here, there, ok = here === there) => ({ what, here, there, ok });
 
+/** A row of two lists: how many they are, or the first number that differs. */
+function listRow(what, size, nameOf, [one, other]) {
+  const at = one.findIndex((number, i) => number !== other[i]);
+  if (at < 0) return row(what, size, size);
+  return row(what, `${nameOf(at)} is ${one[at]}`, `${nameOf(at)} is ${other[at]}`, false);
+}
+
 /** A side: { machine or engine, memory, record, used, ending }. */
 export function agreement(facts, machine, engine) {
   const cell = facts.shape.state_cell;
   const registers = (record) => record.subarray(0, GUEST_REGISTERS);
   const boxes = [machine, engine].map((side) => sandbox(facts, side.memory));
-  const size = `${boxes[0].length} cells`;
   const rows = [
     row("record", `${pairsOf(machine)} pairs`, `${pairsOf(engine)} pairs`, same(machine.record, engine.record)),
     row("readings used", machine.used, engine.used),
-    row("r0 to r14", "15 numbers", "15 numbers", same(registers(machine.machine), registers(engine.engine))),
-    row("sandbox", size, size, same(...boxes)),
+    listRow("r0 to r14", "15 numbers", (r) => `r${r}`, [registers(machine.machine), registers(engine.engine)]),
+    listRow("sandbox", `${boxes[0].length} cells`, (i) => `cell ${facts.shape.low + i}`, boxes),
     row("state cell", machine.memory[cell], engine.memory[cell]),
     row("instruction", instructionOf(facts, machine.machine), engine.engine[ENGINE_INDEX]),
     row("status", machine.machine[STATUS], engine.engine[ENGINE_STATUS]),
