@@ -91,6 +91,12 @@ class App {
     if (!found) byId("now").append(h("p", { class: "hint" }, `From here on, line ${line} is not reached.`));
   }
 
+  runToBreakpoint() {
+    let found;
+    this.move(() => (found = this.session.runToBreakpoint()));
+    if (!found) byId("now").append(h("p", { class: "hint" }, "From here on, no breakpoint is reached."));
+  }
+
   /** Something that the run is given is new: all is run again, from the installation. Then one stays, or goes a step or to the end. */
   async give(news, then = "stay") {
     this.stop();
@@ -116,6 +122,7 @@ class App {
     await this.give({});
     const { twins, moved } = this.session.now;
     const outcome = twins || moved ? "a difference" : "no difference";
+    this.written = { cell, value };
     byId("said").textContent = `Cell ${cell} is now ${value}. The run was done again from here: ${outcome}.`;
   }
 }
@@ -127,8 +134,17 @@ function introduce({ page, facts }) {
   byId("taken").textContent = `${plural(words, "instruction")}, rewritten into ${commands} commands; the checker passed them, the policy is installed.`;
 }
 
+/** The library that is packed in this file. */
+async function openPacked() {
+  try {
+    return await openLibrary(await (await globalThis.unpack("wasm")).arrayBuffer());
+  } catch (cause) {
+    throw new Error("The library in this file is damaged. Make the page again with hemdroas page.", { cause });
+  }
+}
+
 async function start() {
-  const lib = await openLibrary(await (await globalThis.unpack("wasm")).arrayBuffer());
+  const lib = await openPacked();
   const session = new Session(lib, readPage(byId("data").textContent));
   const app = new App(session);
   introduce(session);
@@ -141,8 +157,8 @@ async function start() {
 
 function failed(error) {
   byId("loud").hidden = false;
-  byId("loud").textContent = `The page cannot run: ${error.message}`;
-  throw error;
+  byId("loud").textContent = `The page cannot run. ${error.message}`;
+  console.error(error.cause ?? error);
 }
 
 start().catch(failed);

@@ -39,7 +39,7 @@ export class Session {
     return true;
   }
 
-  /** The frames at which one can stand: after each command, or where instructions begin and the routine ends. */
+  /** The frames at which one can stand: after each command, or where instructions begin, the routine ends or the budget is spent. */
   #findStops() {
     const { frames, ending } = this.trace;
     const isSpent = (k) => ending === ENDING.SPENT && k === frames.length - 1;

@@ -27,14 +27,14 @@ const icon = (name) => svg("svg", { viewBox: "0 0 16 16", class: "icon", "aria-h
 /** Whether a key belongs to what has the focus: text in a field, the slider's arrows, a button's space. */
 function isTaken(key, target) {
   if (target.matches("input:not([type=checkbox], [type=radio], [type=range]), select")) return true;
-  if (target.matches("[type=range]")) return key !== " " && key !== "e";
+  if (target.matches("[type=range]")) return key !== " " && key.toLowerCase() !== "e";
   if (target.matches("[type=radio]") && key.startsWith("Arrow")) return true;
   return key === " " && target.closest("button, summary, input, a") !== null;
 }
 
 function listen(acts) {
   document.addEventListener("keydown", (event) => {
-    const act = KEYS[event.key];
+    const act = KEYS[event.key.length === 1 ? event.key.toLowerCase() : event.key];
     if (!act || event.altKey || event.ctrlKey || event.metaKey || isTaken(event.key, event.target)) return;
     event.preventDefault();
     acts[act]();

@@ -89,9 +89,15 @@ function touchedText({ session, format }) {
   return `${reached}The last step changed ${changed.length ? changed.map(where).join(", ") : "no cell"}.`;
 }
 
+/** What was said of a written cell goes when the cell no longer holds it. */
+function forgetSaid({ session, written }) {
+  if (written && session.now.memory[written.cell] !== written.value) byId("said").textContent = "";
+}
+
 export function updateMemory(app) {
   const { session, format } = app;
   drawMap(app);
+  forgetSaid(app);
   for (const field of byId("named").querySelectorAll("input")) {
     if (field !== document.activeElement) field.value = FORMATS[format](session.now.memory[Number(field.dataset.cell)]);
   }

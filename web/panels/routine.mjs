@@ -111,11 +111,13 @@ export function buildRoutine(app) {
   app.rows = new Map(); // instruction -> its row
   sayLandings(app);
   const list = byId("listing");
+  list.style.setProperty("--digits", String(page.source.length).length);
   page.source.forEach((text, l) => {
     const instruction = page.lines.indexOf(l + 1);
     list.append(instruction >= 0 ? codeRow(app, instruction, l + 1, text) : textRow(l + 1, text));
   });
   list.append(behindRow(app));
+  byId("to-breakpoint").addEventListener("click", () => app.runToBreakpoint());
   new ResizeObserver(() => app.session.trace && drawJumps(app)).observe(list);
 }
 
@@ -154,15 +156,16 @@ function markJumps(app) {
 
 export function updateRoutine(app) {
   const { session, rows } = app;
+  byId("to-breakpoint").hidden = session.breakpoints.size === 0;
   const { now, facts, byCommand } = session;
   const list = byId("listing");
   list.classList.toggle("with-commands", byCommand);
   for (const row of new Set(rows.values())) markRow(app, row);
   markJumps(app);
+  showBehind(app);
   const place = now.isRunning ? now.machine[PC] - facts.shape.base : null;
   list.querySelector(".now-command")?.classList.remove("now-command");
   const command = byCommand && place !== null ? list.querySelector(`[data-command="${place}"]`) : null;
-  showBehind(app);
   command?.classList.add("now-command");
   drawJumps(app);
   reveal(byId("listing-box"), command ?? rows.get(now.index), REVEAL_MARGIN);

@@ -237,6 +237,78 @@ test("sample: the stopped event is shown as such", async () => {
   assert.match(await said("#pause"), /Stopped by the policy\. gas was not sent/);
 });
 
+test("a button that becomes unusable keeps the focus, and does nothing", async () => {
+  await page.click("#do-end");
+  assert.equal(await page.run("document.activeElement.id + ' ' + document.activeElement.getAttribute('aria-disabled')"), "do-end true");
+  await page.click("#do-step");
+  assert.equal(await at(), LAST);
+  await page.key("ArrowLeft");
+  assert.equal(await page.run("document.getElementById('do-end').getAttribute('aria-disabled')"), "false");
+});
+
+test("E works with Shift too", async () => {
+  await page.key("E");
+  assert.equal(await at(), 6);
+});
+
+test("to the breakpoint, and a sentence where none is reached", async () => {
+  assert.equal(await page.run("document.getElementById('to-breakpoint').getBoundingClientRect().height"), 0);
+  await page.click("[data-index='11'] .stop");
+  await page.click("#to-breakpoint");
+  assert.equal(await nowLine(), "15");
+  await page.key("End");
+  await page.click("#to-breakpoint");
+  assert.match(await said("#now"), /From here on, no breakpoint is reached\./);
+});
+
+test("what was said of a written cell goes when the cell no longer holds it", async () => {
+  await page.key("ArrowRight");
+  await page.type("#free-8", "77");
+  await page.until("document.getElementById('said').textContent.startsWith('Cell 8 is now 77.')");
+  await page.run("document.activeElement.blur()");
+  await page.key("Home");
+  assert.equal(await said("#said"), "");
+});
+
+test("the HALTs behind the last line show their commands when the present one is there", async () => {
+  await openRoutine("short", "SET r1, 1\n");
+  await page.click(".switch .track");
+  assert.equal(await page.run("document.querySelectorAll('.behind .bundle').length"), 0);
+  for (let i = 0; i < 4; i++) await page.key("ArrowRight");
+  assert.match(await said(".behind .now-command code"), /HALT/);
+  await page.key("Home");
+  assert.equal(await page.run("document.querySelectorAll('.behind .bundle').length"), 0);
+});
+
+const FILL = "SET r2, 1\nagain: STORE r1, r2\nADD r1, r1, r2\nGOIF r0, r0, always, again\n";
+
+test("a full sandbox: the changed cell is shown and lit, in a box that scrolls", async () => {
+  await openRoutine("fill", FILL, { more: ["--budget", "2000"] });
+  const steps = 2 + 3 * 150; // behind the STORE to the 151st cell
+  await page.run(`(() => { const s = document.getElementById("slider"); s.value = ${steps}; s.dispatchEvent(new Event("input")); })()`);
+  assert.deepEqual(await page.run("[...document.querySelectorAll('#sandbox .changed dt')].map((t) => t.textContent)"), ["406"]);
+  const isSeen = `(() => { const box = document.getElementById("sandbox").getBoundingClientRect(); const lit = document.querySelector("#sandbox .changed").getBoundingClientRect();
+    return lit.top >= box.top && lit.bottom <= box.bottom && box.height <= 400; })()`;
+  assert.equal(await page.run(isSeen), true);
+  assert.match(await said("#sandbox-rest"), /91 more cells not shown\. 105 other cells of 256 to 511 are 0\./);
+});
+
+test("a drum without named cells has no empty place for them; drum and policy are named on a phone", async () => {
+  const drum = write("bare.drum", "U 1024\nSL 256\nSH 511\nM 0\nP 512\nB 4096\nQ 32\nlandings routine\nevent 0 gas\nevent 8 bean\n");
+  const policy = write("bare.policy", "state any\n  others -> any\nstart any\n");
+  const size = { width: 390, height: 844, isPhone: true };
+  await openRoutine("bare", "EVENT gas\n", { files: ["--drum", drum, "--policy", policy], size });
+  assert.equal(await page.run("document.getElementById('named').getBoundingClientRect().height"), 0);
+  assert.ok((await page.run("document.getElementById('files').getBoundingClientRect().width")) > 0);
+  assert.match(await said("#files"), /bare\.drum, bare\.policy/);
+});
+
+test("four digits of a line's number fit", async () => {
+  await openRoutine("lines", `${"# a line\n".repeat(1200)}HALT\n`);
+  const fits = "[...document.querySelectorAll('.line .number')].every((n) => n.scrollWidth <= n.clientWidth)";
+  assert.equal(await page.run(fits), true);
+});
+
 test("colours are switched", async () => {
   const back = () => page.run("getComputedStyle(document.body).backgroundColor");
   const light = await back();

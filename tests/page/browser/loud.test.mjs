@@ -41,3 +41,12 @@ for (const [what, call, code, sentence] of [
     await page.close();
   });
 }
+
+test("a damaged library is told of", async () => {
+  const file = makePage({ ...ROAST, name: "damaged" });
+  const spoil = (_, head, packed) => `${head}${packed.slice(0, 400)}AAAA${packed.slice(404)}`;
+  writeFileSync(file, readFileSync(file, "utf8").replace(/(<script id="wasm"[^>]*>)([^<]*)/, spoil));
+  const page = await browser.page(file, DESKTOP);
+  assert.match(await see(page, text, "#loud"), /The library in this file is damaged\./);
+  await page.close();
+});
