@@ -84,12 +84,12 @@ function panelOf(app, title, { top, tall, pairs, values }) {
   const lowest = title === "orders" ? Math.min(0, least) : least;
   const high = most + room;
   const under = lowest < 0 ? lowest - room : Math.max(0, title === "orders" ? 0 : least - room);
-  const axis = (from) => ticks(from, high, tall / TICK_HEIGHT, 1 / scale);
-  const [first, second] = axis(under);
-  const low = under < 0 && first === 0 && second ? Math.min(under, -second) : under; // so that a number stands below 0
+  const above = ticks(under, high, tall / TICK_HEIGHT, 1 / scale);
+  const isBare = under < 0 && above[0] === 0 && above.length > 1; // no number would stand below 0
+  const low = isBare ? -above[1] : under;
   const y = (value) => top + tall - ((value - low) / (high - low || 1)) * tall;
   const text = (t) => axisText(t, scale, app.format);
-  return { title, top, tall, pairs, y, text, most, lines: axis(low) };
+  return { title, top, tall, pairs, y, text, most, lines: isBare ? [low, ...above] : above };
 }
 
 /** Which points of a line have a mark: those with room on both sides, and the fresh ones. */

@@ -74,7 +74,7 @@ test("signed numbers are drawn as signed ones, and the longest numbers of an axi
   assert.equal(await page.run(isIn), true);
   await page.run("document.querySelector('[value=signed]').click()");
   const signed = await texts(page);
-  assert.ok(signed.includes("4") && !signed.some((text) => text.length > 4 && /^\d+$/.test(text)), `${signed}`);
+  assert.ok(signed.includes("−2") && signed.includes("4") && !signed.some((text) => text.length > 4 && /^\d+$/.test(text)), `${signed}`);
   await page.close();
 });
 
