@@ -10,7 +10,7 @@ use types::Layout;
 use types::Machine;
 use types::Outcome;
 ghost use mathlib.Core.Path.{_≡_};
-ghost use Rattle.spec.specs.Machines.{Ran, runOf};
+ghost use Rattle.spec.specs.Machines.{MatchesResult, runOf};
 ghost use Rattle.capi_spec.specs.Hosts.{hostResult, runFor, hostPreviewed, previewFor};
 
 // A run of a record made of a host's numbers: it stands in a local, which is lent.
@@ -23,7 +23,7 @@ fn lend(
     readings: &[u32],
     log: &mut [u32],
 ) -> Outcome
-    ensures { λ r. ⌜ Ran r (now (memory .exit)) (now (log .exit)) (runOf layout (now (commands .entry)) machine (now (memory .entry)) budget (now (readings .entry)) (now (log .entry))) ⌝ }
+    ensures { λ r. ⌜ MatchesResult r (now (memory .exit)) (now (log .exit)) (runOf layout (now (commands .entry)) machine (now (memory .entry)) budget (now (readings .entry)) (now (log .entry))) ⌝ }
 {
     let mut lent = machine;
     let answer = sandbox::run(layout, commands, &mut lent, memory, budget, readings, log);

@@ -34,9 +34,9 @@ machine-round-trips = comes-back registers machineOf (λ m. m .regs) (λ m. m .p
 
 -- ---- calls over a list are the runs over it, the machine's or the engine's, if each is a run on the numbers of a session
 module _ {C R : Type 0} (numbers : C → List ℕ) (next : C → RunInput → C) (runAs : C → RunInput → R) (left : R → HostResult) (call : List ℕ → RunInput → HostResult)
-    (Kept : C → Type 0) (ran : (c : C) (g : RunInput) → Kept c → call (numbers c) g ≡ left (runAs c g))
-    (carries : (c : C) (g : RunInput) → Kept c → (left (runAs c g) .after ≡ numbers (next c g)) × Kept (next c g)) where
-  pub calls-from : (c : C) (gs : List RunInput) → Kept c → callsOf call (numbers c) gs ≡ map left (eachRun runAs next c gs)
+    (Invariant : C → Type 0) (ran : (c : C) (g : RunInput) → Invariant c → call (numbers c) g ≡ left (runAs c g))
+    (carries : (c : C) (g : RunInput) → Invariant c → (left (runAs c g) .after ≡ numbers (next c g)) × Invariant (next c g)) where
+  pub calls-from : (c : C) (gs : List RunInput) → Invariant c → callsOf call (numbers c) gs ≡ map left (eachRun runAs next c gs)
   unfolding callsOf eachRun
   calls-from c [] k = refl
   calls-from c (g ∷ gs) k =

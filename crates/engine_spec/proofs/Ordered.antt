@@ -27,7 +27,7 @@ use Rattle.spec.proofs.Loops.{over-from, wait-from, go-from, keeps}
 use Rattle.spec.proofs.Ordered.{silent-by, full-by, left-by, more-from, over-on}
 use Rattle.spec.proofs.Refusals.{refused-map, else-kept, else-none}
 use Rattle.engine_spec.specs.Engines.{checkedEvent, instrEffect, instrEffectAt, nextOf, entryAddress, entryAt, withState, applyEffect, RunResult, finalState, runFrom, startOf, refusalBy, runOf}
-use Rattle.engine_spec.specs.Order.{withStatus, EngineOrder, EngineRefuses, EngineRewriter, EngineTakes}
+use Rattle.engine_spec.specs.Endings.{withStatus, EngineOrder, EngineRefuses, EngineRewriter, EngineTakes}
 use Rattle.engine_spec.proofs.Runs.{engineLoop, taken-size}
 
 pub engine-refuses : EngineRefuses

@@ -7,7 +7,7 @@ use types::Layout;
 use types::Machine;
 use types::Outcome;
 use words::memory::fits;
-ghost use Rattle.spec.specs.Machines.{Ran, runOf};
+ghost use Rattle.spec.specs.Machines.{MatchesResult, runOf};
 
 // A run, the record by value.
 pub fn run_value(
@@ -19,7 +19,7 @@ pub fn run_value(
     readings: &[u32],
     log: &mut [u32],
 ) -> Outcome
-    ensures { λ r. ⌜ Ran r (now (memory .exit)) (now (log .exit)) (runOf layout (now (commands .entry)) machine (now (memory .entry)) budget (now (readings .entry)) (now (log .entry))) ⌝ }
+    ensures { λ r. ⌜ MatchesResult r (now (memory .exit)) (now (log .exit)) (runOf layout (now (commands .entry)) machine (now (memory .entry)) budget (now (readings .entry)) (now (log .entry))) ⌝ }
 {
     if !fits(layout, memory.len()) {
         return Outcome::refused(machine);
@@ -36,7 +36,7 @@ pub fn step_value(
     readings: &[u32],
     log: &mut [u32],
 ) -> Outcome
-    ensures { λ r. ⌜ Ran r (now (memory .exit)) (now (log .exit)) (runOf layout (now (commands .entry)) machine (now (memory .entry)) 1 (now (readings .entry)) (now (log .entry))) ⌝ }
+    ensures { λ r. ⌜ MatchesResult r (now (memory .exit)) (now (log .exit)) (runOf layout (now (commands .entry)) machine (now (memory .entry)) 1 (now (readings .entry)) (now (log .entry))) ⌝ }
 {
     run_value(layout, commands, machine, memory, 1, readings, log)
 }

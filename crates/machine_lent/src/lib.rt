@@ -3,8 +3,8 @@
 use types::Layout;
 use types::Machine;
 use types::RunAnswer;
-ghost use Rattle.spec.specs.Machines.{Ran, runOf};
-ghost use Rattle.machine_lent.specs.Lent.{asOutcome};
+ghost use Rattle.spec.specs.Machines.{MatchesResult, runOf};
+ghost use Rattle.machine_lent.specs.Outcomes.{asOutcome};
 
 // Runs a lent record.
 pub fn run(
@@ -16,7 +16,7 @@ pub fn run(
     readings: &[u32],
     log: &mut [u32],
 ) -> RunAnswer
-    ensures { λ r. ⌜ Ran (asOutcome (now (machine .exit)) r) (now (memory .exit)) (now (log .exit)) (runOf layout (now (commands .entry)) (now (machine .entry)) (now (memory .entry)) budget (now (readings .entry)) (now (log .entry))) ⌝ }
+    ensures { λ r. ⌜ MatchesResult (asOutcome (now (machine .exit)) r) (now (memory .exit)) (now (log .exit)) (runOf layout (now (commands .entry)) (now (machine .entry)) (now (memory .entry)) budget (now (readings .entry)) (now (log .entry))) ⌝ }
 {
     let out = machine::run_value(layout, commands, *machine, memory, budget, readings, log);
     *machine = out.machine;
@@ -32,7 +32,7 @@ pub fn step(
     readings: &[u32],
     log: &mut [u32],
 ) -> RunAnswer
-    ensures { λ r. ⌜ Ran (asOutcome (now (machine .exit)) r) (now (memory .exit)) (now (log .exit)) (runOf layout (now (commands .entry)) (now (machine .entry)) (now (memory .entry)) 1 (now (readings .entry)) (now (log .entry))) ⌝ }
+    ensures { λ r. ⌜ MatchesResult (asOutcome (now (machine .exit)) r) (now (memory .exit)) (now (log .exit)) (runOf layout (now (commands .entry)) (now (machine .entry)) (now (memory .entry)) 1 (now (readings .entry)) (now (log .entry))) ⌝ }
 {
     let out = machine::step_value(layout, commands, *machine, memory, readings, log);
     *machine = out.machine;

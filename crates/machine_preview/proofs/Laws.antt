@@ -14,7 +14,7 @@ use Rattle.types.specs.declared.Outcome.{Outcome}
 use Rattle.types.specs.declared.Ending.the-variants.{Refused}
 use Rattle.types.specs.Records.{outcomeOf}
 use Rattle.spec.specs.Layouts.{rightLayout}
-use Rattle.spec.specs.Machines.{fits, Ran, runOf, previewOf}
+use Rattle.spec.specs.Machines.{fits, MatchesResult, runOf, previewOf}
 use Rattle.spec.proofs.Bools.{both}
 use Rattle.spec.proofs.Endings.{ran}
 use Rattle.buffers.proofs.stores.Storing.{store-all}
@@ -31,11 +31,11 @@ module _ (lay : Layout) (mem work : List ℕ) (f : Bool) (e : f ≡ fits lay mem
 
   module _ (ws : List ℕ) (m : Machine) (budget : ℕ) (rd log : List ℕ) where
     pub not-fitting : (f && eqb (length work) (lay .size)) ≡ false → (o : Outcome) → o ≡ outcomeOf m Refused 0 0 0
-        → Ran o work log (previewOf lay ws m mem work budget rd log)
+        → MatchesResult o work log (previewOf lay ws m mem work budget rd log)
     unfolding previewOf
     not-fitting t o eo = ran _ _ _ _ (rw (eo, ← e, t))
 
-    pub ran-copy : (f && eqb (length work) (lay .size)) ≡ true → (copied : List ℕ) → copied ≡ sets work 0 mem → (o : Outcome) (work′ log′ : List ℕ) → Ran o work′ log′ (runOf lay ws m copied budget rd log)
-        → Ran o work′ log′ (previewOf lay ws m mem work budget rd log)
+    pub ran-copy : (f && eqb (length work) (lay .size)) ≡ true → (copied : List ℕ) → copied ≡ sets work 0 mem → (o : Outcome) (work′ log′ : List ℕ) → MatchesResult o work′ log′ (runOf lay ws m copied budget rd log)
+        → MatchesResult o work′ log′ (previewOf lay ws m mem work budget rd log)
     unfolding previewOf
     ran-copy t copied c o work′ log′ er = ran _ _ _ _ (er .result ∙ rw (c ∙ store-all work mem (same-size t), ← e, t))

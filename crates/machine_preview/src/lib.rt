@@ -5,7 +5,7 @@ use types::Machine;
 use types::Outcome;
 use words::memory::fits;
 ghost use mathlib.Core.Path.{_≡_};
-ghost use Rattle.spec.specs.Machines.{Ran, previewOf};
+ghost use Rattle.spec.specs.Machines.{MatchesResult, previewOf};
 
 // A preview: outcome, memory and log of a run on a copy of memory and record. The caller lends `work` for the memory's
 // copy, as long as the memory; a refusal leaves it as it was.
@@ -19,7 +19,7 @@ pub fn preview(
     readings: &[u32],
     log: &mut [u32],
 ) -> Outcome
-    ensures outcome { λ r. ⌜ Ran r (now (work .exit)) (now (log .exit)) (previewOf layout (now (commands .entry)) machine (now (memory .entry)) (now (work .entry)) budget (now (readings .entry)) (now (log .entry))) ⌝ }
+    ensures outcome { λ r. ⌜ MatchesResult r (now (work .exit)) (now (log .exit)) (previewOf layout (now (commands .entry)) machine (now (memory .entry)) (now (work .entry)) budget (now (readings .entry)) (now (log .entry))) ⌝ }
     ensures memory { λ _. ⌜ now (memory .exit) ≡ now (memory .entry) ⌝ }
 {
     let fitting = fits(layout, memory.len());

@@ -1,1 +1,1 @@
-pub mod judging
+pub mod answers

@@ -1,5 +1,5 @@
 // The parts joined: loads a routine from its bytes to an installed machine, then runs or steps it.
-pub mod judging;
+pub mod answers;
 pub mod loading;
 pub mod writing;
 

@@ -1,6 +1,6 @@
 // Loads a routine: reads, rewrites, checks and installs in one call.
 // All refusals are decided before anything is written, so a refusal leaves every lent slice as it was.
-use crate::judging::judge;
+use crate::answers::translate_answer;
 use crate::writing::write_routine;
 use installer::install;
 use installer::install_answer;
@@ -32,7 +32,7 @@ pub fn load(
     ensures memory { λ _. ⌜ now (memory .exit) ≡ loadMemory layout (lentPolicy policy (now (table .entry)) (now (landings .entry))) (now (bytes .entry)) (length (now (commands .entry))) (now (memory .entry)) ⌝ }
     ensures within { λ r. ⌜ (r .answer .number ≡ 0 → r .answer .place ≤ length (now (commands .exit))) ⌝ }
 {
-    let a = judge(layout, bytes, commands.len());
+    let a = translate_answer(layout, bytes, commands.len());
     let refused = a.number;
     if refused != Refusal::TAKEN {
         return Installed {

@@ -24,7 +24,7 @@ use Rattle.spec.specs.Landings.{listed}
 use Rattle.spec.specs.Words.{kindOf, dOf, aOf, bOf, cOf, vOf}
 use Rattle.spec.specs.Commands.{isCommand, named, commandOf, fetchOf, holdsOf}
 use Rattle.spec.specs.Machines.{View, entryFrom, isLanding, eventEffect, effectOf, State, stateOf, applyOf, viewAt, nextOf, endingOf, RunResult, resultIn, finalState, fits, runFrom, startOf, runOf}
-use Rattle.spec.specs.Order.{commandAt, registerAt, cellsUsed, FaultsAt, outside, unknown, beyond, EndsAt, WaitsAt, MachineOrder, OverStays, OnlyWhen, EndsOnlyWhen}
+use Rattle.spec.specs.Endings.{commandAt, registerAt, cellsUsed, FaultsAt, outside, unknown, beyond, EndsAt, WaitsAt, MachineOrder, OverStays, OnlyWhen, EndsOnlyWhen}
 use Rattle.spec.proofs.Bools.{no, cases, both, or-left, or-right, either, cond-ind}
 use Rattle.spec.proofs.Loops.{Loop, over-from, wait-from, go-from, keeps, runs-compose-at, machineLoop}
 
@@ -112,8 +112,8 @@ named-some k d a b c v h =
 
 -- ---- why a step ends or pauses
 module _ (lay : Layout) (ws rd : List ℕ) (s : State) (size : length (s .mem) ≡ lay .size) where
-  abbrev seen : View
-  seen = viewAt lay rd s
+  abbrev view : View
+  view = viewAt lay rd s
 
   -- no command: pc outside the list, or its word is none
   abbrev inside : Bool
@@ -152,7 +152,7 @@ module _ (lay : Layout) (ws rd : List ℕ) (s : State) (size : length (s .mem) �
   head-used : (i : ℕ) (is : List ℕ) → listed (i ∷ is) i ≡ true
   head-used i is = or-left _ _ (eq-eqb i i refl)
 
-  reasons : (c : Command) → commandAt lay ws s ≡ c → Reason (effectOf c seen)
+  reasons : (c : Command) → commandAt lay ws s ≡ c → Reason (effectOf c view)
   unfolding effectOf
   reasons Nop q = tt
   reasons Halt q = q
@@ -170,12 +170,12 @@ module _ (lay : Layout) (ws rd : List ℕ) (s : State) (size : length (s .mem) �
   reasons (StopIf d) q = cond-ind Reason (eqb (registerAt s d) noArrow) (λ t. record { d = d; command = q; value = eqb-true _ _ t }) (λ _. tt)
   reasons (Keep d) q = cond-ind Reason (ltb (lay .cell) (length (s .mem))) (λ _. tt) (past _ q (lay .cell) (head-used (lay .cell) []))
   reasons (Event v) q =
-      let full : ((v < orders) ⊎ (s .used < length rd)) → ltb (seen .free) 2 ≡ true → WaitsAt lay ws rd s LogFull =
-      λ g f. record { event = v; command = q; given = g; room = let h = ltb-true (seen .free) 2 f in omega arith } in
-      cond-ind Reason (ltb v orders) (λ t. cond-ind Reason (ltb (seen .free) 2) (full (inl (ltb-true v orders t))) (λ _. tt))
-      (λ o. cond-ind Reason (eqb (seen .left) 0)
-      (λ e. record { event = v; command = q; reading = ltb-false v orders o; none = let h = eqb-true (seen .left) 0 e in omega arith })
-      (λ e. cond-ind Reason (ltb (seen .free) 2) (full (inr (let h = eqb-false (seen .left) 0 e in omega arith))) (λ _. tt)))
+      let full : ((v < orders) ⊎ (s .used < length rd)) → ltb (view .free) 2 ≡ true → WaitsAt lay ws rd s LogFull =
+      λ g f. record { event = v; command = q; given = g; room = let h = ltb-true (view .free) 2 f in omega arith } in
+      cond-ind Reason (ltb v orders) (λ t. cond-ind Reason (ltb (view .free) 2) (full (inl (ltb-true v orders t))) (λ _. tt))
+      (λ o. cond-ind Reason (eqb (view .left) 0)
+      (λ e. record { event = v; command = q; reading = ltb-false v orders o; none = let h = eqb-true (view .left) 0 e in omega arith })
+      (λ e. cond-ind Reason (ltb (view .free) 2) (full (inr (let h = eqb-false (view .left) 0 e in omega arith))) (λ _. tt)))
   reasons Invalid q = invalid q
 
   pub reason : Reason (nextOf lay ws rd s)
@@ -183,7 +183,7 @@ module _ (lay : Layout) (ws rd : List ℕ) (s : State) (size : length (s .mem) �
 
   -- ---- and that it does so then
   abbrev does : Command → Effect
-  does c = effectOf c seen
+  does c = effectOf c view
 
   abbrev Faulty : Effect → Type 0
   Faulty e = e ≡ End Faulted
@@ -231,8 +231,8 @@ module _ (lay : Layout) (ws rd : List ℕ) (s : State) (size : length (s .mem) �
   waits-by Done w = absurd w
   waits-by NoArrow w = absurd w
   waits-by Fault w = absurd w
-  waits-by LogFull w = ap does (w .command) ∙ full-by (w .event) (seen .free) (seen .left) (⊎-elim (λ x. inl x) (λ x. inr (omega arith)) (w .given)) (omega (arith, w .room))
-  waits-by Silent w = ap does (w .command) ∙ silent-by (w .event) (seen .free) (seen .left) (w .reading) (omega (arith, w .none))
+  waits-by LogFull w = ap does (w .command) ∙ full-by (w .event) (view .free) (view .left) (⊎-elim (λ x. inl x) (λ x. inr (omega arith)) (w .given)) (omega (arith, w .room))
+  waits-by Silent w = ap does (w .command) ∙ silent-by (w .event) (view .free) (view .left) (w .reading) (omega (arith, w .none))
   waits-by Spent w = absurd w
   waits-by NoLanding w = absurd w
   waits-by Refused w = absurd w

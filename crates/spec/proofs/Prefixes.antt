@@ -27,7 +27,7 @@ every-moment lay pol code mem room xs ys g j z v =
     let cut = xs ++ (withBudget g j ∷ []) in
     record {
       comes = λ l t e. rw t (ap (λ n. runFrom lay ws (g .readings) n 0 start) e ∙ runs-compose lay ws (g .readings) j l 0 0 start .run);
-      agrees =
+      agreement =
           subst (λ (d : Session). AtBoundary lay (d .machine) → Simulates lay (guestFor lay pol code mem d (d .begun)) d)
           (after-more (afterRun lay ws) (initialSession lay pol mem) xs (withBudget g j))
           (guest-rule lay pol code mem room cut z (prefix-closed lay pol ws mem xs ys g j v));

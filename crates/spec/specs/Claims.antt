@@ -232,13 +232,13 @@ GuestRule =
     HostPremise lay pol (commandsOf lay code) mem gs → AtBoundary lay (c .machine) → Simulates lay (guestFor lay pol code mem c (c .begun)) c
 
 -- every moment: a run cut off after any j of its steps. The whole run comes to where the cut one ends, and goes on from there (`comes`).
--- There, on the first command of a bundle or over, machine and guest rule agree (`agrees`)
+-- There, on the first command of a bundle or over, machine and guest rule agree (`agreement`)
 pub record MomentLaws (lay : Layout) (pol : Policy) (code mem : List ℕ) (c : Session) (g : RunInput) (j : ℕ) : Type 0 where
   pub comes :
       let ws = commandsOf lay code in
       let r = runOn lay ws c (withBudget g j) in
       (l : ℕ) → fits lay (g .memory) ≡ true → g .budget ≡ j + suc l → runOn lay ws c g ≡ runFrom lay ws (g .readings) (suc l) (r .outcome .answer .steps) (finalState r)
-  pub agrees :
+  pub agreement :
       let d = afterRun lay (commandsOf lay code) c (withBudget g j) in
       AtBoundary lay (d .machine) → Simulates lay (guestFor lay pol code mem d (d .begun)) d
 

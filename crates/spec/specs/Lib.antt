@@ -11,6 +11,6 @@ pub mod Bundles
 pub mod Machines
 pub mod Guests
 pub mod Runs
-pub mod Order
+pub mod Endings
 pub mod Claims
 pub mod Proved

@@ -20,7 +20,7 @@ use Rattle.samples.specs.Sample.{layout}
 use Rattle.engine_spec.specs.Engines.{checkedEvent, instrEffect, instrEffectAt, withState, applyEffect, refusalOf, refusalBy, runOf as engineRunOf}
 use Rattle.engine_spec.specs.Claims.{runOn as engineOn, afterTaken as engineTaken, afterRun as engineRun, after as engineAfter}
 use Rattle.transparency.specs.Raw.{rawEvent, rawExec, rawStep, rawAfter, Behaves}
-use Rattle.transparency.specs.Claims.{IsPrefix, Behaved, GoesOn}
+use Rattle.transparency.specs.Claims.{IsPrefix, Behaved, ResumableAsRaw}
 use Rattle.transparency.specs.Sample.{policy, code, commands, memory, readings, run, pausedRun, resumedRun, rawAt, SampleHolds}
 
 passed : checkAnswer layout commands .number ≡ 0
@@ -64,7 +64,7 @@ record MachineHolds : Type 0 where
   pausedBegun : after layout policy commands memory (pausedRun ∷ []) .begun ≡ 7
   waiting : Waiting layout commands (after layout policy commands memory (pausedRun ∷ []) .machine)
   pausedUsed : IsPrefix (after layout policy commands memory (pausedRun ∷ []) .consumed) readings
-  goesOn : GoesOn layout (after layout policy commands memory (pausedRun ∷ [])) readings resumedRun
+  resumable : ResumableAsRaw layout (after layout policy commands memory (pausedRun ∷ [])) readings resumedRun
 
 machine-holds : MachineHolds
 unfolding ones leadingZeros rightLayout rightPolicy rightLandings bitsFrom landingsOf marked instrOf routine bundlesFor wordOf shapeOf decodeBundle bundleAt isCommand commandOf fetchOf plainOf isLanding installAnswer installMemory installMachine effectOf applyOf loopFrom runOf begins runOn afterTaken afterRun afterAll
@@ -76,7 +76,7 @@ machine-holds =
       pausedBegun = refl;
       waiting = record { running = refl; event = 8; third = refl };
       pausedUsed = λ i h. absurd (omega (arith, h));
-      goesOn = record { preserved = λ l i s. refl; enough = record { memory = refl; log = lit≤ tt; readings = lit≤ tt }; reading = refl };
+      resumable = record { preserved = λ l i s. refl; enough = record { memory = refl; log = lit≤ tt; readings = lit≤ tt }; reading = refl };
     }
 
 -- and the engine
@@ -105,7 +105,7 @@ sample-holds =
       pausedBegun = m .pausedBegun;
       waiting = m .waiting;
       resumedSandboxed = record { taken = rewritten; premise = premise pausedRun refl; behaved = behaved _ 7 (lit≤ tt) (m .pausedUsed) };
-      goesOn = m .goesOn;
+      resumable = m .resumable;
       enginePremise = record { taken = e .taken; installed = installed; preserved = (λ l i s. refl, tt) };
       engineBehaved = behaved _ 8 (lit≤ tt) (e .used);
       counted = e .counted;

@@ -36,7 +36,7 @@ use Rattle.engine_spec.specs.Engines.{refusalBy}
 use Rattle.engine_spec.proofs.Rule.{engine-rule, same-guest, step-uses}
 use Rattle.engine_spec.proofs.StepTogether.{run-counts-one, machine-uses}
 use Rattle.transparency.specs.Raw.{rawStart, rawRun}
-use Rattle.transparency.specs.Claims.{IsPrefix, Behaved, SameAsRaw, Sandboxed, MachineSameAsRaw, Transparent, EngineTransparent, TransparentPaused, TransparentNext, GoesOn, Follows, TransparentStep, TransparentResumed, EngineTransparentNext}
+use Rattle.transparency.specs.Claims.{IsPrefix, Behaved, SameAsRaw, Sandboxed, MachineSameAsRaw, Transparent, EngineTransparent, TransparentPaused, TransparentNext, ResumableAsRaw, ReachesSameAsRaw, TransparentStep, TransparentResumed, EngineTransparentNext}
 use Rattle.transparency.proofs.RawSimulation.{RawSimulates, after-like}
 
 -- a cell of the sandbox, among the memory's and among the sandbox's own
@@ -159,7 +159,7 @@ module _ (lay : Layout) (pol : Policy) (code mem raw reads : List ℕ) (room : �
       (cases (ltb i (length us)))
 
   follows : (j p : ℕ) → Sandboxed lay pol code mem raw reads room gs (suc j) → SimulatesAt lay p (guestFor lay pol code mem now j) now
-      → (g : RunInput) → GoesOn lay now reads g → ReachesBoundary lay commands now g (suc j) → Follows lay code raw reads now g (suc j)
+      → (g : RunInput) → ResumableAsRaw lay now reads g → ReachesBoundary lay commands now g (suc j) → ReachesSameAsRaw lay code raw reads now g (suc j)
   follows j p x a g o r =
       let h = withBudget g (r .budget) in
       let more : after lay pol commands mem (gs ++ (h ∷ [])) ≡ afterRun lay commands now h = after-more (afterRun lay commands) (initialSession lay pol mem) gs h in
@@ -189,9 +189,9 @@ module _ (lay : Layout) (pol : Policy) (code mem raw reads : List ℕ) (room : �
 
   -- by another name of the count
   follows-at : (k j p : ℕ) → suc j ≡ k → Sandboxed lay pol code mem raw reads room gs k → SimulatesAt lay p (guestFor lay pol code mem now j) now
-      → (g : RunInput) → GoesOn lay now reads g → ReachesBoundary lay commands now g k → Follows lay code raw reads now g k
+      → (g : RunInput) → ResumableAsRaw lay now reads g → ReachesBoundary lay commands now g k → ReachesSameAsRaw lay code raw reads now g k
   follows-at k j p e x a g o r =
-      subst (Follows lay code raw reads now g) e (follows j p (subst (Sandboxed lay pol code mem raw reads room gs) (sym e) x) a g o (subst (ReachesBoundary lay commands now g) (sym e) r))
+      subst (ReachesSameAsRaw lay code raw reads now g) e (follows j p (subst (Sandboxed lay pol code mem raw reads room gs) (sym e) x) a g o (subst (ReachesBoundary lay commands now g) (sym e) r))
 
 pub transparent-step : TransparentStep
 transparent-step lay pol code mem raw reads room gs x s t g o =

@@ -80,13 +80,13 @@ TransparentNext =
     (g : RunInput) → MemoryPreserved lay (c .memory) g → Resumable lay g → ReachesBoundary lay (commandsOf lay code) c g (c .begun + 1)
 
 -- a run that can go on: lent the one memory, two log cells and a reading, which is the next one of the raw run
-pub record GoesOn (lay : Layout) (c : Session) (reads : List ℕ) (g : RunInput) : Type 0 where
+pub record ResumableAsRaw (lay : Layout) (c : Session) (reads : List ℕ) (g : RunInput) : Type 0 where
   pub preserved : MemoryPreserved lay (c .memory) g
   pub enough : Resumable lay g
   pub reading : getD (g .readings) 0 0 ≡ getD reads (length (c .consumed)) 0
 
 -- it comes to the next place of comparison in at most four steps, with k bundles begun, and is there as the raw run after k instructions
-pub record Follows (lay : Layout) (code raw reads : List ℕ) (c : Session) (g : RunInput) (k : ℕ) : Type 0 where
+pub record ReachesSameAsRaw (lay : Layout) (code raw reads : List ℕ) (c : Session) (g : RunInput) (k : ℕ) : Type 0 where
   pub reaches : ReachesBoundary lay (commandsOf lay code) c g k
   pub same : MachineSameAsRaw lay (rawRun lay code raw reads k) (afterRun lay (commandsOf lay code) c (withBudget g (reaches .budget)))
 
@@ -96,7 +96,7 @@ TransparentStep =
     (lay : Layout) (pol : Policy) (code mem raw reads : List ℕ) (room : ℕ) (gs : List RunInput) →
     let c = after lay pol (commandsOf lay code) mem gs in
     Sandboxed lay pol code mem raw reads room gs (c .begun + 1) → AtBoundary lay (c .machine) → rawRun lay code raw reads (c .begun) .status ≡ Running →
-    (g : RunInput) → GoesOn lay c reads g → Follows lay code raw reads c g (c .begun + 1)
+    (g : RunInput) → ResumableAsRaw lay c reads g → ReachesSameAsRaw lay code raw reads c g (c .begun + 1)
 
 -- and from a pause, with the bundle that it had begun
 abbrev pub TransparentResumed : Type 0
@@ -104,7 +104,7 @@ TransparentResumed =
     (lay : Layout) (pol : Policy) (code mem raw reads : List ℕ) (room : ℕ) (gs : List RunInput) →
     let c = after lay pol (commandsOf lay code) mem gs in
     Sandboxed lay pol code mem raw reads room gs (c .begun) → Waiting lay (commandsOf lay code) (c .machine) →
-    (g : RunInput) → GoesOn lay c reads g → Follows lay code raw reads c g (c .begun)
+    (g : RunInput) → ResumableAsRaw lay c reads g → ReachesSameAsRaw lay code raw reads c g (c .begun)
 
 -- ---- the engine
 

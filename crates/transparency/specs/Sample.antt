@@ -14,7 +14,7 @@ use Rattle.spec.specs.Claims.{Waiting}
 use Rattle.samples.specs.Sample.{layout}
 use Rattle.engine_spec.specs.Claims.{HostPremise as EnginePremise, after as engineAfter}
 use Rattle.transparency.specs.Raw.{Raw, rawRun}
-use Rattle.transparency.specs.Claims.{Behaved, Sandboxed, GoesOn}
+use Rattle.transparency.specs.Claims.{Behaved, Sandboxed, ResumableAsRaw}
 
 -- the policy of `samples`, with instruction 6 as the one landing
 abbrev pub policy : Policy
@@ -62,7 +62,7 @@ pub record SampleHolds : Type 0 where
   pub pausedBegun : after layout policy commands memory (pausedRun ∷ []) .begun ≡ 7
   pub waiting : Waiting layout commands (after layout policy commands memory (pausedRun ∷ []) .machine)
   pub resumedSandboxed : Sandboxed layout policy code memory memory readings 64 (pausedRun ∷ []) 7
-  pub goesOn : GoesOn layout (after layout policy commands memory (pausedRun ∷ [])) readings resumedRun
+  pub resumable : ResumableAsRaw layout (after layout policy commands memory (pausedRun ∷ [])) readings resumedRun
   pub enginePremise : EnginePremise layout policy code memory (run ∷ [])
   pub engineBehaved : Behaved layout policy code memory memory (engineAfter layout policy code memory (run ∷ []) .consumed) readings 8
   pub counted : engineAfter layout policy code memory (run ∷ []) .counted ≡ 8

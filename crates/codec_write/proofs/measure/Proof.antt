@@ -12,7 +12,7 @@ use Rattle.codec_write.proofs.measure.Statement.{statement}
 use Rattle.codec_write.proofs.measure.Tie as tie
 use Rattle.codec_write.proofs.measure.Reads as reads
 use Rattle.codec_write.proofs.measure.Lts as lts
-use Rattle.words.proofs.guest.word_refusal.Reads as judge-word-reads
+use Rattle.words.proofs.guest.word_refusal.Reads as word-refusal-reads
 use Rattle.codec_write.proofs.encoded_size.Reads as weight-word-reads
 
 abbrev Inv-loop : tie.InvT-loop

@@ -1,4 +1,4 @@
--- `lend` meets its contract: a walk of its MIR, by hand. The record stands in a local, which is lent to `run` for a lifetime that is made for the call, and comes back (`Lent.antt`).
+-- `lend` meets its contract: a walk of its MIR, by hand. The record stands in a local, which is lent to `run` for a lifetime that is made for the call, and comes back (`Lending.antt`).
 -- The two slices that are written are given up to `run` for good. Those that are read are Copy: what each owns is had twice, and one copy is kept for the exit.
 -- All that the proof knows of `run` is that it meets its contract.
 use mathlib.Core.Path.{_≡_, refl, ap}
@@ -46,7 +46,7 @@ use denote.Signature.{plain}
 use Rattle.types.specs.declared.Layout.{Layout}
 use Rattle.types.specs.declared.Machine.{Machine}
 use Rattle.types.specs.declared.RunAnswer.{RunAnswer}
-use Rattle.spec.specs.Machines.{RunResult, Ran}
+use Rattle.spec.specs.Machines.{RunResult, MatchesResult}
 use Rattle.types.proofs.Layout as L
 use Rattle.types.proofs.Layout.Laws as L′
 use Rattle.types.proofs.Machine as T
@@ -55,8 +55,8 @@ use Rattle.types.proofs.RunAnswer as N
 use Rattle.types.proofs.RunAnswer.Laws as N′
 use Rattle.types.proofs.Outcome as O
 use Rattle.types.proofs.Outcome.Laws as O′
-use Rattle.machine_lent.proofs.Lent.{lends, back}
-use Rattle.machine_lent.specs.Lent.{asOutcome}
+use Rattle.machine_lent.proofs.Lending.{lends, back}
+use Rattle.machine_lent.specs.Outcomes.{asOutcome}
 use Rattle.machine_lent.proofs.Walks.{lay, mach, sl, Arg, Vals, Last, args, vals, ran}
 use Rattle.machine_lent.proofs.run as run
 use Rattle.machine_lent.proofs.run.Symbol as run-def
@@ -146,7 +146,7 @@ module _ {M : Type 1} (𝓤 : URA M) (H : Heap 𝓤) (A : Atoms 𝓤) (W : Given
   abbrev after : RunResult
   after = ran y cs ms n rs gs h
 
-  exits : (m : Machine) (r : RunAnswer) (zs ws : List ℕ) → Is O.the-row (asOutcome m r) (outv m r ∷ []) → Ran (asOutcome m r) zs ws after → length zs ≡ length (ms .now) → length ws ≡ length (gs .now)
+  exits : (m : Machine) (r : RunAnswer) (zs ws : List ℕ) → Is O.the-row (asOutcome m r) (outv m r ∷ []) → MatchesResult (asOutcome m r) zs ws after → length zs ≡ length (ms .now) → length ws ≡ length (gs .now)
       → ent 𝓤 (⋆ 𝓤 H A (‵ (flft (κs .0) (qs .0)) ∷ More ∷ ‵ Cs ∷ ‵ (finally u32 (ms .name) zs) ∷ ‵ Rs ∷ ‵ (finally u32 (gs .name) ws) ∷ [])) (Post (outv m r))
   exits m r zs ws is e l l′ =
       qed W (‵ (flft (κs .0) (qs .0)) ∷ More ∷ ‵ Cs ∷ ‵ (finally u32 (ms .name) zs) ∷ ‵ Rs ∷ ‵ (finally u32 (gs .name) ws) ∷ []) ∵
@@ -185,8 +185,8 @@ module _ {M : Type 1} (𝓤 : URA M) (H : Heap 𝓤) (A : Atoms 𝓤) (W : Given
         calls-at ! fm (Run 𝓤 H A at-mem rn) known (to-run l₈ ν δ) (and-then ! (load ! (from ! (stop !)) (look ! 29 refl)) (and-then ! (load ! (from ! (stop !)) (look ! 27 refl)) (and-then ! (load ! (from ! (stop !)) (look ! 12 refl)) (and-then ! (load ! (from ! (stop !)) (look ! 8 refl)) (and-then ! (load ! (from ! (stop !)) (look ! 21 refl)) (and-then ! (load ! (from ! (stop !)) (look ! 19 refl)) (and-then ! (load ! (from ! (stop !)) (look ! 4 refl)) (no-more !)))))))) (λ w.
         use1 W (later (some (λ (r : RunAnswer). (Toks ν ⊛ ‵ (N.the-row .own r (w ∷ []))) ⊛ raw (ensured 𝓤 H A run.ended (run.clauses 𝓤 H A at-mem rn) (κs′ ν) (a′ l₈ δ) tt r)))) (id⊢ 𝓤 _) $ await ! tt $ pick ! (λ r.
         -- what `run` ensures, at some last record and lists
-        split ! $ move ! (1 ∷ []) $ use1 W (some (λ (zs : Last Machine). ‵ (lasts run.ended (κs′ ν) (a′ l₈ δ) zs) ⊛ raw (fact 𝓤 (Ran (asOutcome (zs .1 .1 .0) r) (zs .1 .1 .1 .0) (zs .1 .1 .1 .1 .1 .1 .0) after)))) (id⊢ 𝓤 _) $ pick ! (λ zs.
-        split ! $ move ! (1 ∷ []) $ heard ! (Ran (asOutcome (zs .1 .1 .0) r) (zs .1 .1 .1 .0) (zs .1 .1 .1 .1 .1 .1 .0) after) (λ e.
+        split ! $ move ! (1 ∷ []) $ use1 W (some (λ (zs : Last Machine). ‵ (lasts run.ended (κs′ ν) (a′ l₈ δ) zs) ⊛ raw (fact 𝓤 (MatchesResult (asOutcome (zs .1 .1 .0) r) (zs .1 .1 .1 .0) (zs .1 .1 .1 .1 .1 .1 .0) after)))) (id⊢ 𝓤 _) $ pick ! (λ zs.
+        split ! $ move ! (1 ∷ []) $ heard ! (MatchesResult (asOutcome (zs .1 .1 .0) r) (zs .1 .1 .1 .0) (zs .1 .1 .1 .1 .1 .1 .0) after) (λ e.
         fsplit ! $ drop ! $ fsplit ! $ drop ! $ fsplit ! $ move ! (1 ∷ []) $ fsplit ! $ fsplit ! $ move ! (1 ∷ []) $ feqL ! (λ l. move ! (1 ∷ []) $ fsplit ! $ drop ! $ fsplit ! $ drop ! $ fsplit ! $ fsplit ! $ move ! (1 ∷ []) $ feqL ! (λ l′.
         -- [log's last list; …; memory's; the last record; the tokens and the result; the lender's part; _15 6; …]
         move ! (4 ∷ []) $ split ! $ move ! (1 ∷ []) $ peeks ! N.the-row (Is N.the-row) (shows 𝓤 H A N.the-row) r (w ∷ []) (λ is.

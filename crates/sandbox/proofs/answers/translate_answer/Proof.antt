@@ -1,11 +1,11 @@
 use mathlib.Core.Path.{_∙_}
 use borrow.Author.Needs.{needs}
-use Rattle.sandbox.proofs.judging.Laws.{too-short, too-many, refused-read, judged}
-use Rattle.sandbox.proofs.judging.judge.Statement.{statement}
-use Rattle.sandbox.proofs.judging.judge.Tie as tie
+use Rattle.sandbox.proofs.answers.Laws.{too-short, too-many, refused-read, judged}
+use Rattle.sandbox.proofs.answers.translate_answer.Statement.{statement}
+use Rattle.sandbox.proofs.answers.translate_answer.Tie as tie
 
-pub judge-spec : {M : Type 1} → statement M
-judge-spec =
+pub translate-answer-spec : {M : Type 1} → statement M
+translate-answer-spec =
     tie.close
     (tie.spec
     (λ c κs. search needs)

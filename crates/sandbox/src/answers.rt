@@ -11,7 +11,7 @@ ghost use mathlib.Core.Path.{_≡_};
 ghost use Prim.Native.Nat.{_≤_};
 ghost use Rattle.types.specs.Names.{mostInstructions};
 ghost use Rattle.sandbox_spec.specs.Loading.{translateAnswer};
-ghost use Rattle.sandbox.specs.judging.Judging.{landingsAnswer};
+ghost use Rattle.sandbox.specs.answers.Answers.{landingsAnswer};
 
 // What rewriting answers for n instructions that were read: layout, landings, base, room.
 fn landings_answer(layout: Layout, n: usize, past: usize, room: usize) -> Answer
@@ -29,7 +29,7 @@ fn landings_answer(layout: Layout, n: usize, past: usize, room: usize) -> Answer
 
 // What reading, rewriting and checking answer for a list of `room` commands. The checker refuses nothing that the rewriter
 // writes, so its answer needs no list.
-pub fn judge(layout: Layout, bytes: &[u8], room: usize) -> Answer
+pub fn translate_answer(layout: Layout, bytes: &[u8], room: usize) -> Answer
     ensures { λ r. ⌜ r ≡ translateAnswer layout (now (bytes .entry)) room ⌝ }
 {
     if bytes.len() < Instr::COUNT_BYTES {

@@ -1,9 +1,9 @@
 use mathlib.Core.Path.{_∙_}
 use borrow.Author.Needs.{needs}
 use borrow.Author.Tests.{not-true, not-false}
-use Rattle.sandbox.proofs.judging.Laws.{bad-layout, bad-landing, based}
-use Rattle.sandbox.proofs.judging.landings_answer.Statement.{statement}
-use Rattle.sandbox.proofs.judging.landings_answer.Tie as tie
+use Rattle.sandbox.proofs.answers.Laws.{bad-layout, bad-landing, based}
+use Rattle.sandbox.proofs.answers.landings_answer.Statement.{statement}
+use Rattle.sandbox.proofs.answers.landings_answer.Tie as tie
 
 pub landings-answer-spec : {M : Type 1} → statement M
 landings-answer-spec =

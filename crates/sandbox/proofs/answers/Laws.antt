@@ -1,4 +1,4 @@
--- Laws of judging a routine's bytes, one for each way out of the code.
+-- Laws of the answer to a routine's bytes, one for each way out of the code.
 use Prim.Native.Nat.{ℕ, zero, suc, _+_, _-_, _≤_, _<_}
 use mathlib.Core.Path.{_≡_, refl, sym, ap, _∙_}
 use mathlib.Core.Bool.{Bool, true, false, cond}
@@ -27,7 +27,7 @@ use Rattle.spec.proofs.RoundTrip.{one-clean}
 use Rattle.codec_read.proofs.Reading.{rest, read-rest}
 use Rattle.sandbox_spec.specs.Loading.{translateAnswer}
 use Rattle.codec_read.specs.Scans.{firstPast}
-use Rattle.sandbox.specs.judging.Judging.{landingsAnswer}
+use Rattle.sandbox.specs.answers.Answers.{landingsAnswer}
 
 -- ---- rewriting's answer
 
