@@ -17,7 +17,8 @@ pub extern "C" fn hemdroas_rewrite(
     commands: &mut [u64],
     answer: &mut [u32; ANSWER],
 )
-    ensures answer { λ _. ⌜ now (answer .exit) ≡ answerTo (rewriteAnswer (layoutFrom (now (layout .entry))) (now (words .entry)) (length (now (commands .entry)))) ⌝ }
+    ensures answer { λ _. ⌜ now (answer .exit) ≡ answerTo (rewriteAnswer (layoutFrom (now (layout .entry))) (now (words .entry))
+        (length (now (commands .entry)))) ⌝ }
     ensures content { λ _. ⌜ now (commands .exit) ≡ rewriteOutput (layoutFrom (now (layout .entry))) (now (words .entry)) (now (commands .entry)) ⌝ }
 {
     *answer = answer_of(rewriter::rewrite(layout_of(layout), words, commands));

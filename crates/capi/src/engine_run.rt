@@ -66,7 +66,9 @@ pub extern "C" fn hemdroas_engine_run(
     log: &mut [u32],
     answer: &mut [u32; ANSWER],
 )
-    ensures { λ _. ⌜ hostResult (now (answer .exit)) (now (engine .exit)) (now (memory .exit)) (now (log .exit)) ≡ engineFor (now (layout .entry)) (now (words .entry)) (now (engine .entry)) (now (memory .entry)) budget (now (readings .entry)) (now (log .entry)) ⌝ }
+    ensures { λ _. ⌜ hostResult (now (answer .exit)) (now (engine .exit)) (now (memory .exit)) (now (log .exit))
+        ≡ engineFor (now (layout .entry)) (now (words .entry)) (now (engine .entry)) (now (memory .entry)) budget (now (readings .entry))
+        (now (log .entry)) ⌝ }
 {
     let lay = layout_of(layout);
     let given = *engine;
@@ -88,7 +90,9 @@ pub extern "C" fn hemdroas_engine_continue(
     log: &mut [u32],
     answer: &mut [u32; ANSWER],
 )
-    ensures { λ _. ⌜ hostResult (now (answer .exit)) (now (engine .exit)) (now (memory .exit)) (now (log .exit)) ≡ continueFor (now (layout .entry)) (now (words .entry)) (now (engine .entry)) (now (memory .entry)) budget (now (readings .entry)) (now (log .entry)) ⌝ }
+    ensures { λ _. ⌜ hostResult (now (answer .exit)) (now (engine .exit)) (now (memory .exit)) (now (log .exit))
+        ≡ continueFor (now (layout .entry)) (now (words .entry)) (now (engine .entry)) (now (memory .entry)) budget (now (readings .entry))
+        (now (log .entry)) ⌝ }
 {
     let lay = layout_of(layout);
     let given = *engine;

@@ -22,7 +22,8 @@ pub extern "C" fn hemdroas_install(
     machine: &mut [u32; RECORD],
     answer: &mut [u32; ANSWER],
 )
-    ensures { λ _. ⌜ hostInstalled (now (answer .exit)) (now (machine .exit)) (now (memory .exit)) ≡ installFor (now (layout .entry)) (policyOf states start (now (table .entry)) (now (landings .entry))) (now (memory .entry)) ⌝ }
+    ensures { λ _. ⌜ hostInstalled (now (answer .exit)) (now (machine .exit)) (now (memory .exit))
+        ≡ installFor (now (layout .entry)) (policyOf states start (now (table .entry)) (now (landings .entry))) (now (memory .entry)) ⌝ }
 {
     let policy = PolicyNumbers { states, start };
     let done = installer::install(layout_of(layout), policy, table, landings, memory);

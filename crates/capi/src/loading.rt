@@ -24,7 +24,9 @@ pub extern "C" fn hemdroas_load(
     machine: &mut [u32; RECORD],
     answer: &mut [u32; ANSWER],
 )
-    ensures { λ _. ⌜ hostLoaded (now (answer .exit)) (now (machine .exit)) (now (commands .exit)) (now (memory .exit)) ≡ loadFor (now (layout .entry)) (policyOf states start (now (table .entry)) (now (landings .entry))) (now (bytes .entry)) (now (commands .entry)) (now (memory .entry)) ⌝ }
+    ensures { λ _. ⌜ hostLoaded (now (answer .exit)) (now (machine .exit)) (now (commands .exit)) (now (memory .exit))
+        ≡ loadFor (now (layout .entry)) (policyOf states start (now (table .entry)) (now (landings .entry))) (now (bytes .entry))
+        (now (commands .entry)) (now (memory .entry)) ⌝ }
 {
     let policy = PolicyNumbers { states, start };
     let loaded = sandbox::load(

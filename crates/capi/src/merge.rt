@@ -48,7 +48,8 @@ pub extern "C" fn hemdroas_merge(
     merged: &mut [u32; POLICY],
     answer: &mut [u32; ANSWER],
 )
-    ensures { λ _. ⌜ hostMerged (now (answer .exit)) (now (merged .exit)) (now (table .exit)) ≡ mergeFor (now (one .entry)) (now (left .entry)) (now (other .entry)) (now (right .entry)) (now (table .entry)) ⌝ }
+    ensures { λ _. ⌜ hostMerged (now (answer .exit)) (now (merged .exit)) (now (table .exit))
+        ≡ mergeFor (now (one .entry)) (now (left .entry)) (now (other .entry)) (now (right .entry)) (now (table .entry)) ⌝ }
 {
     let done = policy_merge::merge(side_of(one), left, side_of(other), right, table);
     *merged = merged_of(done);

@@ -23,7 +23,8 @@ fn lend(
     readings: &[u32],
     log: &mut [u32],
 ) -> Outcome
-    ensures { λ r. ⌜ MatchesResult r (now (memory .exit)) (now (log .exit)) (runOf layout (now (commands .entry)) machine (now (memory .entry)) budget (now (readings .entry)) (now (log .entry))) ⌝ }
+    ensures { λ r. ⌜ MatchesResult r (now (memory .exit)) (now (log .exit))
+        (runOf layout (now (commands .entry)) machine (now (memory .entry)) budget (now (readings .entry)) (now (log .entry))) ⌝ }
 {
     let mut lent = machine;
     let answer = sandbox::run(layout, commands, &mut lent, memory, budget, readings, log);
@@ -45,7 +46,9 @@ pub extern "C" fn hemdroas_run(
     log: &mut [u32],
     answer: &mut [u32; RUN_ANSWER],
 )
-    ensures { λ _. ⌜ hostResult (now (answer .exit)) (now (machine .exit)) (now (memory .exit)) (now (log .exit)) ≡ runFor (now (layout .entry)) (now (commands .entry)) (now (machine .entry)) (now (memory .entry)) budget (now (readings .entry)) (now (log .entry)) ⌝ }
+    ensures { λ _. ⌜ hostResult (now (answer .exit)) (now (machine .exit)) (now (memory .exit)) (now (log .exit))
+        ≡ runFor (now (layout .entry)) (now (commands .entry)) (now (machine .entry)) (now (memory .entry)) budget (now (readings .entry))
+        (now (log .entry)) ⌝ }
 {
     let lay = layout_of(layout);
     let given = *machine;
@@ -69,7 +72,9 @@ pub extern "C" fn hemdroas_preview(
     after: &mut [u32; RECORD],
     answer: &mut [u32; RUN_ANSWER],
 )
-    ensures { λ _. ⌜ hostPreviewed (hostResult (now (answer .exit)) (now (after .exit)) (now (work .exit)) (now (log .exit))) (now (machine .exit)) (now (memory .exit)) ≡ previewFor (now (layout .entry)) (now (commands .entry)) (now (machine .entry)) (now (memory .entry)) (now (work .entry)) budget (now (readings .entry)) (now (log .entry)) ⌝ }
+    ensures { λ _. ⌜ hostPreviewed (hostResult (now (answer .exit)) (now (after .exit)) (now (work .exit)) (now (log .exit))) (now (machine .exit))
+        (now (memory .exit)) ≡ previewFor (now (layout .entry)) (now (commands .entry)) (now (machine .entry)) (now (memory .entry))
+        (now (work .entry)) budget (now (readings .entry)) (now (log .entry)) ⌝ }
 {
     let lay = layout_of(layout);
     let given = *machine;

@@ -63,13 +63,20 @@ keeps-regs l regs ends acts n k s =
     (λ _ j t i _. ap length (ends _ j t) ∙ i) (λ _ j t i _ w _. ap length (ends w j t) ∙ i) (λ _ j t i _ _. acts _ t ∙ i) n k s refl
 
 -- ---- the session has the record that the run left
-carries : (lay : Layout) (ws : List ℕ) (c : Session) (g : RunInput) (t : Bool) → fits lay (g .memory) ≡ t → (runOn lay ws c g .outcome .machine ≡ afterRun lay ws c g .machine) × (length (afterRun lay ws c g .machine .regs) ≡ length (c .machine .regs))
+carries : (lay : Layout) (ws : List ℕ) (c : Session) (g : RunInput) (t : Bool) → fits lay (g .memory) ≡ t
+    → (runOn lay ws c g .outcome .machine ≡ afterRun lay ws c g .machine) × (length (afterRun lay ws c g .machine .regs) ≡ length (c .machine .regs))
 unfolding afterRun afterTaken runOn runOf
 carries lay ws c g true e =
-    rw e (refl, keeps-regs (machineLoop lay ws (g .readings)) (λ r. r .outcome .machine .regs) (λ _ _ _. refl) (apply-regs (lay .ceilings) (g .readings)) (g .budget) 0 (startOf (c .machine) (g .memory) (g .log)))
+    rw e (
+      refl,
+      keeps-regs (machineLoop lay ws (g .readings)) (λ r. r .outcome .machine .regs) (λ _ _ _. refl) (apply-regs (lay .ceilings) (g .readings))
+          (g .budget) 0 (startOf (c .machine) (g .memory) (g .log)),
+    )
 carries lay ws c g false e = rw e (refl, refl)
 
-calls-are : (lay ws : List ℕ) (c : Session) (gs : List RunInput) → length (c .machine .regs) ≡ registers → callsOf (runCall lay ws) (machineTo (c .machine)) gs ≡ map (λ r. resultTo (r .result)) (eachRun (runAs (layoutFrom lay) ws) (afterRun (layoutFrom lay) ws) c gs)
+calls-are : (lay ws : List ℕ) (c : Session) (gs : List RunInput) → length (c .machine .regs) ≡ registers
+    → callsOf (runCall lay ws) (machineTo (c .machine)) gs ≡ map (λ r. resultTo (r .result))
+    (eachRun (runAs (layoutFrom lay) ws) (afterRun (layoutFrom lay) ws) c gs)
 unfolding runFor runOn
 calls-are lay ws =
     let l = layoutFrom lay in

@@ -96,7 +96,8 @@ module _ {R : Type 0} (n : ℕ) (make : List ℕ → ℕ → Status → R) (regs
       }
 
 -- and a call with its numbers leaves what a run of it leaves
-pub called : {R : Type 0} {n : ℕ} {regs : R → List ℕ} {from : List ℕ → R} {to : R → List ℕ} → RoundTrips n regs from to → (run : R → HostResult) (m : R) → length (regs m) ≡ n → hostAfter n (to m) (run (from (to m))) ≡ run m
+pub called : {R : Type 0} {n : ℕ} {regs : R → List ℕ} {from : List ℕ → R} {to : R → List ℕ} → RoundTrips n regs from to → (run : R → HostResult) (m : R)
+    → length (regs m) ≡ n → hostAfter n (to m) (run (from (to m))) ≡ run m
 called {R} {n} {regs} {from} {to} b run m h =
     let r = run (from (to m)) in
     ap (λ (t : Bool). hostResult (r .answer) (cond t (r .after) (to m)) (r .memory) (r .log)) (b .known m h) ∙ ap run (b .fromRecord m h)

@@ -28,7 +28,11 @@ pub free-set : (mem : List ℕ) (i x : ℕ) → (inBox (layoutFrom layout) i || 
 free-set mem i x f j s = getD-set-other mem i j x 0 (λ e. no (sym f ∙ ap (λ (k : ℕ). inBox (layoutFrom layout) k || protected (layoutFrom layout) k) (sym e) ∙ s))
 
 pub sample-holds : SampleHolds
-unfolding ones leadingZeros layoutFrom rightLayout rightPolicy rightLandings inBox inTable inLandings protected bitsFrom landingsOf fieldsRefusal refusalAt firstRefused byteAt quadAt fieldsAt decodeFields decodeMap decodeOne scanOf wordsOf readAnswer instrOf routine bundlesFor wordOf shapeOf baseRoomAnswer rewriteAnswer valid decodeBundle bundleAt isBundle shapedAt passesAt checkFrom checkAnswer isCommand commandOf fetchOf plainOf installAnswer installMemory installMachine translateAnswer loadAnswer loadCommands loadMemory loadMachine effectOf applyOf loopFrom runOf runOn afterTaken afterRun checkFor installFor loadFor runFor callsOf eachRun
+unfolding ones leadingZeros layoutFrom rightLayout rightPolicy rightLandings inBox inTable inLandings protected bitsFrom landingsOf fieldsRefusal refusalAt
+    firstRefused byteAt quadAt fieldsAt decodeFields decodeMap decodeOne scanOf wordsOf readAnswer instrOf routine bundlesFor wordOf shapeOf baseRoomAnswer
+    rewriteAnswer valid decodeBundle bundleAt isBundle shapedAt passesAt checkFrom checkAnswer isCommand commandOf fetchOf plainOf installAnswer installMemory
+    installMachine translateAnswer loadAnswer loadCommands loadMemory loadMachine effectOf applyOf loopFrom runOf runOn afterTaken afterRun checkFor installFor
+    loadFor runFor callsOf eachRun
 sample-holds =
     record {
       loaded = refl;

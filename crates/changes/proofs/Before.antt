@@ -153,7 +153,8 @@ module _ (lay : Layout) (ws : List ℕ) where
       omega (arith, q)
 
   -- a list without such a bundle, read with another hidden register
-  reread : (r q : ℕ) (is : ℕ → Instr) → ((h : ℕ) → h < N → namesHidden (is h) ≡ false) → ((h : ℕ) → h < N → valid N (is h) ≡ true → fieldsBelow q (is h) ≡ true) → PassesWith r lay ws N is → PassesWith q lay ws N is
+  reread : (r q : ℕ) (is : ℕ → Instr) → ((h : ℕ) → h < N → namesHidden (is h) ≡ false)
+      → ((h : ℕ) → h < N → valid N (is h) ≡ true → fieldsBelow q (is h) ≡ true) → PassesWith r lay ws N is → PassesWith q lay ws N is
   reread r q is none low p =
       record {
         placed = p .placed;

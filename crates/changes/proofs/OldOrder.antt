@@ -21,7 +21,8 @@ use Rattle.spec.proofs.Conditions.{bundle-parts}
 use Rattle.changes.specs.Claims.{oldEvent, OldRefused}
 
 -- a list with a bundle that does not pass is refused, there or before it
-refused-at : (lay : Layout) (n : ℕ) (ws : List ℕ) (j h m : ℕ) → passesAt lay n ws j ≡ false → h ≤ j → j < h + m → (checkFrom lay n ws h m .number ≡ numberOf BadBundle) × (checkFrom lay n ws h m .place ≤ j)
+refused-at : (lay : Layout) (n : ℕ) (ws : List ℕ) (j h m : ℕ) → passesAt lay n ws j ≡ false → h ≤ j → j < h + m
+    → (checkFrom lay n ws h m .number ≡ numberOf BadBundle) × (checkFrom lay n ws h m .place ≤ j)
 unfolding checkFrom
 refused-at lay n ws j h zero no-shape l k = absurd (omega arith)
 refused-at lay n ws j h (suc m) no-shape l k =

@@ -11,7 +11,8 @@ use Rattle.spec.specs.Machines.{effectOf}
 use Rattle.changes.specs.Claims.{SilentFirst}
 
 -- by the three tests, an order, no reading left and no free pair: either order of the pauses gives the same, unless the last two hold of a reading
-same-tests : {A : Type 0} (order silent full : Bool) (x y w z : A) → (order ≡ false → silent ≡ true → full ≡ true → ⊥) → cond order (cond full w x) (cond silent z (cond full w y)) ≡ cond full w (cond order x (cond silent z y))
+same-tests : {A : Type 0} (order silent full : Bool) (x y w z : A) → (order ≡ false → silent ≡ true → full ≡ true → ⊥)
+    → cond order (cond full w x) (cond silent z (cond full w y)) ≡ cond full w (cond order x (cond silent z y))
 same-tests true silent true x y w z n = refl
 same-tests true silent false x y w z n = refl
 same-tests false true true x y w z n = absurd (n refl refl refl)

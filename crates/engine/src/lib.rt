@@ -64,7 +64,9 @@ fn run_running(
     log: &mut [u32],
 ) -> EngineOutcome
     requires { ⌜ JudgedWords (now words) judged top × Holds layout (length (now memory)) ⌝ }
-    ensures { λ r. ⌜ runResultOf r (now (memory .exit)) (now (log .exit)) ≡ continueFrom layout (now (words .entry)) (now (readings .entry)) budget 0 (stateOf (engine .regs) (engine .at) Running (now (memory .entry)) (now (log .entry)) 0 0) ⌝ }
+    ensures { λ r. ⌜ runResultOf r (now (memory .exit)) (now (log .exit))
+        ≡ continueFrom layout (now (words .entry)) (now (readings .entry)) budget 0
+        (stateOf (engine .regs) (engine .at) Running (now (memory .entry)) (now (log .entry)) 0 0) ⌝ }
 {
     let mut regs = engine.regs;
     let ceilings = layout.ceilings;
@@ -120,7 +122,8 @@ fn run_on(
     log: &mut [u32],
 ) -> EngineOutcome
     requires { ⌜ KnownWords (now words) judged × Holds layout (length (now memory)) ⌝ }
-    ensures { λ r. ⌜ runResultOf r (now (memory .exit)) (now (log .exit)) ≡ continueFrom layout (now (words .entry)) (now (readings .entry)) budget 0 (startOf engine (now (memory .entry)) (now (log .entry))) ⌝ }
+    ensures { λ r. ⌜ runResultOf r (now (memory .exit)) (now (log .exit))
+        ≡ continueFrom layout (now (words .entry)) (now (readings .entry)) budget 0 (startOf engine (now (memory .entry)) (now (log .entry))) ⌝ }
 {
     let status = engine.status;
     if let Status::Running = status {
@@ -150,7 +153,8 @@ pub fn run(
     readings: &[u32],
     log: &mut [u32],
 ) -> EngineOutcome
-    ensures { λ r. ⌜ runResultOf r (now (memory .exit)) (now (log .exit)) ≡ runOf layout (now (words .entry)) engine (now (memory .entry)) budget (now (readings .entry)) (now (log .entry)) ⌝ }
+    ensures { λ r. ⌜ runResultOf r (now (memory .exit)) (now (log .exit))
+        ≡ runOf layout (now (words .entry)) engine (now (memory .entry)) budget (now (readings .entry)) (now (log .entry)) ⌝ }
 {
     let answer = crate::refusal::run_refusal(layout, words, memory.len());
     let refused = answer.number;
@@ -180,7 +184,8 @@ pub fn resume(
     readings: &[u32],
     log: &mut [u32],
 ) -> EngineOutcome
-    ensures { λ r. ⌜ runResultOf r (now (memory .exit)) (now (log .exit)) ≡ continueOf layout (now (words .entry)) engine (now (memory .entry)) budget (now (readings .entry)) (now (log .entry)) ⌝ }
+    ensures { λ r. ⌜ runResultOf r (now (memory .exit)) (now (log .exit))
+        ≡ continueOf layout (now (words .entry)) engine (now (memory .entry)) budget (now (readings .entry)) (now (log .entry)) ⌝ }
 {
     let answer = crate::refusal::continue_refusal(layout, words, memory.len());
     let number = answer.number;

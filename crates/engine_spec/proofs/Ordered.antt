@@ -119,13 +119,15 @@ engine-order lay ws m mem rd log j z =
       outside = λ n v run l e h. on n ∙ ends lay ws rd k s size n Faulted run (λ e. no (cc)) (faulted lay ws rd k s size v l e h);
       stops = λ n v run l e h a. on n ∙ ends lay ws rd k s size n Stopped run (λ e. no (cc)) (stopped lay ws rd k s size v l e h a);
       silent = λ n v run l e h a o u. on n ∙ waits lay ws rd k s size n Silent run (paused lay ws rd k s size v l e h a ∙ silent-by v free rest o (omega arith));
-      full = λ n v run l e h a o u. on n ∙ waits lay ws rd k s size n LogFull run (paused lay ws rd k s size v l e h a ∙ full-by v free rest (⊎-elim (λ x. inl x) (λ x. inr (omega arith)) o) (omega arith));
+      full = λ n v run l e h a o u. on n ∙ waits lay ws rd k s size n LogFull run (paused lay ws rd k s size v l e h a
+          ∙ full-by v free rest (⊎-elim (λ x. inl x) (λ x. inr (omega arith)) o) (omega arith));
       strays = λ n d a b c run l e h y. on n ∙ ends lay ws rd k s size n Strayed run (λ e. no (cc)) (rw (lt-ltb _ _ l, e, h, y));
       halts = λ n run l e. on n ∙ ends lay ws rd k s size n Ended run (λ e. no (cc)) (rw (lt-ltb _ _ l, e));
     })
 
 -- ---- the rewriter's refusals
-refusals : (lay : Layout) (ws : List ℕ) (room : ℕ) (r m : Bool) → rightLayout lay ≡ r → ltb mostInstructions (length ws) ≡ m → rewriteAnswer lay ws room ≡ orElse (refusalBy lay ws (lay .size)) (baseRoomAnswer lay (length ws) room)
+refusals : (lay : Layout) (ws : List ℕ) (room : ℕ) (r m : Bool) → rightLayout lay ≡ r → ltb mostInstructions (length ws) ≡ m
+    → rewriteAnswer lay ws room ≡ orElse (refusalBy lay ws (lay .size)) (baseRoomAnswer lay (length ws) room)
 unfolding rewriteAnswer refusalBy
 refusals lay ws room false m er em = rw er
 refusals lay ws room true true er em = rw (er, eq-eqb (lay .size) (lay .size) refl, em)
@@ -138,4 +140,5 @@ engine-rewriter lay ws room = refusals lay ws room _ _ refl refl
 
 pub engine-takes : EngineTakes
 engine-takes lay ws room mem e size =
-    ap (λ (k : ℕ). refusalBy lay ws k .number) size ∙ else-none (refusalBy lay ws (lay .size)) (baseRoomAnswer lay (length ws) room) (ap (λ (x : Answer). x .number) (sym (engine-rewriter lay ws room)) ∙ e) .0
+    ap (λ (k : ℕ). refusalBy lay ws k .number) size ∙ else-none (refusalBy lay ws (lay .size)) (baseRoomAnswer lay (length ws) room)
+    (ap (λ (x : Answer). x .number) (sym (engine-rewriter lay ws room)) ∙ e) .0

@@ -22,7 +22,9 @@ use Rattle.spec.specs.Policies.{arrow}
 use Rattle.spec.specs.Words.{routine, bundlesFor}
 use Rattle.spec.specs.Commands.{fetchOf}
 use Rattle.spec.specs.Bundles.{shapeOf, addressOf, commandsOf, rewriteAnswer}
-use Rattle.spec.specs.Machines.{State, applyOf, effectOf, eventEffect, endingOf, unlessWait, viewAt, fits, nextOf as machineNext, stepOf as machineStep, RunResult as MachineResult, startOf as machineStart, runFrom as machineFrom, runOf as machineRun, installMemory, loopFrom}
+use Rattle.spec.specs.Machines.{State, applyOf, effectOf, eventEffect, endingOf, unlessWait, viewAt, fits, nextOf as machineNext}
+use Rattle.spec.specs.Machines.{stepOf as machineStep, RunResult as MachineResult, startOf as machineStart, runFrom as machineFrom}
+use Rattle.spec.specs.Machines.{runOf as machineRun, installMemory, loopFrom}
 use Rattle.spec.specs.Guests.{Guest, guestAfter, guestStart}
 use Rattle.spec.specs.Runs.{runOn as machineOn, after as machineAfter}
 use Rattle.spec.proofs.Bools.{cond-ind}
@@ -57,7 +59,8 @@ unfolding applyOf
 sent caps rd s v f u =
     event-ind (Sent caps rd s) v f u (λ go. absurd (go LogFull refl)) (λ go. absurd (go Silent refl)) (λ _. (refl, refl)) (λ _. (refl, refl))
 
-machine-one : (lay : Layout) (ws rd : List ℕ) (s : State) (v f u : ℕ) → s .status ≡ Running → machineNext lay ws rd s ≡ eventEffect v f u → endingNumber (machineFrom lay ws rd 1 0 s .outcome .answer .ending) ≡ numberBy (eventEffect v f u)
+machine-one : (lay : Layout) (ws rd : List ℕ) (s : State) (v f u : ℕ) → s .status ≡ Running → machineNext lay ws rd s ≡ eventEffect v f u
+    → endingNumber (machineFrom lay ws rd 1 0 s .outcome .answer .ending) ≡ numberBy (eventEffect v f u)
 unfolding loopFrom
 machine-one lay ws rd s v f u run z =
     loop-ind (machineLoop lay ws rd) 0 0 s (λ (r : MachineResult). endingNumber (r .outcome .answer .ending) ≡ numberBy (eventEffect v f u)) (λ o. absurd (o run))
@@ -67,7 +70,8 @@ machine-one lay ws rd s v f u run z =
     let t : machineStep lay ws rd s .status ≡ Running = ap (λ (e : Effect). applyOf (lay .ceilings) rd e s .status) z ∙ q .1 ∙ run in
     ap (λ (x : Status). endingNumber (endingOf x)) t ∙ sym (q .0))
 
-engine-one : (lay : Layout) (ws rd : List ℕ) (s : State) (v f u : ℕ) → s .status ≡ Running → nextOf lay ws rd s ≡ eventEffect v f u → runFrom lay ws rd 1 0 s .outcome .answer .number ≡ numberBy (eventEffect v f u)
+engine-one : (lay : Layout) (ws rd : List ℕ) (s : State) (v f u : ℕ) → s .status ≡ Running → nextOf lay ws rd s ≡ eventEffect v f u
+    → runFrom lay ws rd 1 0 s .outcome .answer .number ≡ numberBy (eventEffect v f u)
 unfolding loopFrom applyEffect
 engine-one lay ws rd s v f u run z =
     loop-ind (engineLoop lay ws rd) 0 0 s (λ (r : RunResult). r .outcome .answer .number ≡ numberBy (eventEffect v f u)) (λ o. absurd (o run))
@@ -79,7 +83,9 @@ engine-one lay ws rd s v f u run z =
     ap (λ (x : Status). endingNumber (endingOf x)) t ∙ sym (q .0))
 
 -- the machine on the third command of an event's bundle
-pub machine-next : (lay : Layout) (code rd : List ℕ) (room : ℕ) (s : State) (h v : ℕ) → rewriteAnswer lay code room .number ≡ 0 → h < bundlesFor (length code) → routine code h ≡ EVENT v → s .pc ≡ addressOf lay h + 2 → machineNext lay (commandsOf lay code) rd s ≡ eventEffect v (length (s .log) - 2 * s .pairs) (length rd - s .used)
+pub machine-next : (lay : Layout) (code rd : List ℕ) (room : ℕ) (s : State) (h v : ℕ) → rewriteAnswer lay code room .number ≡ 0 → h < bundlesFor (length code)
+    → routine code h ≡ EVENT v → s .pc ≡ addressOf lay h + 2 → machineNext lay (commandsOf lay code) rd s
+    ≡ eventEffect v (length (s .log) - 2 * s .pairs) (length rd - s .used)
 unfolding effectOf shapeOf
 machine-next lay code rd room s h v z l e pc =
     let N = bundlesFor (length code) in
@@ -98,7 +104,8 @@ engine-pauses lay pol code mem room gs es v w count g h sg sh lent logs readings
     let p = pause-rule lay pol code mem room gs (v .rewritten) (v .machine) w in
     let k : n .counted ≡ c .begun - 1 = omega (arith, count) in
     let G = guestAfter lay pol N (routine code) (c .consumed) g0 (c .begun - 1) in
-    let f : EngineSimulates lay (guestAfter lay pol N (routine code) (n .consumed) g0 (c .begun - 1)) n = subst (λ (j : ℕ). EngineSimulates lay (guestAfter lay pol N (routine code) (n .consumed) g0 j) n) k (engine-rule lay pol code mem es (v .engine)) in
+    let f : EngineSimulates lay (guestAfter lay pol N (routine code) (n .consumed) g0 (c .begun - 1)) n = subst
+    (λ (j : ℕ). EngineSimulates lay (guestAfter lay pol N (routine code) (n .consumed) g0 j) n) k (engine-rule lay pol code mem es (v .engine)) in
     let same = meet lay pol N (routine code) g0 (c .consumed) (n .consumed) (c .begun - 1) (v .readings) (p .simulates .used) (f .used) in
     let at : n .engine .at ≡ G .at = f .at ∙ sym (ap (λ (x : Guest). x .at) same) in
     let run : n .engine .status ≡ Running = f .ending ∙ sym (ap (λ (x : Guest). x .status) same) ∙ sym (p .simulates .ending) ∙ w .running in

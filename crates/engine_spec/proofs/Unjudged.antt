@@ -75,15 +75,18 @@ module _ (lay : Layout) (ws rd : List ℕ) (most : length ws ≤ mostInstruction
       let x = reached-fault s t in
       let y = next-halts s t in
       rw (
-        go-from c n k s run (λ w z. no (cc)) ∙ ap (λ (f : Effect). continueFrom lay ws rd n (k + 1) (applyEffect lay rd f s)) x ∙ over-from c n (k + 1) (applyEffect lay rd (End Faulted) s) (λ z. no (cc)),
-        go-from e n k s run (λ w z. no (cc)) ∙ ap (λ (f : Effect). runFrom lay (repaired ws) rd n (k + 1) (applyEffect lay rd f s)) y ∙ over-from e n (k + 1) (applyEffect lay rd (End Ended) s) (λ z. no (cc)),
+        go-from c n k s run (λ w z. no (cc)) ∙ ap (λ (f : Effect). continueFrom lay ws rd n (k + 1) (applyEffect lay rd f s)) x
+            ∙ over-from c n (k + 1) (applyEffect lay rd (End Faulted) s) (λ z. no (cc)),
+        go-from e n k s run (λ w z. no (cc)) ∙ ap (λ (f : Effect). runFrom lay (repaired ws) rd n (k + 1) (applyEffect lay rd f s)) y
+            ∙ over-from e n (k + 1) (applyEffect lay rd (End Ended) s) (λ z. no (cc)),
       )
       (record { mem = refl; log = refl; regs = refl; at = refl; status = inr (refl, refl); steps = refl; pairs = refl; used = refl })
 
   both-over : (n k : ℕ) (s : State) → (s .status ≡ Running → ⊥) → SameButFault (continueFrom lay ws rd n k s) (runFrom lay (repaired ws) rd n k s)
   both-over n k s o = rw (over-from (continueLoop lay ws rd) n k s o, over-from (engineLoop lay (repaired ws) rd) n k s o) (same (resultIn (endingOf (s .status)) k s))
 
-  taken : (n k : ℕ) (s : State) → ((j : ℕ) (u : State) → SameButFault (continueFrom lay ws rd n j u) (runFrom lay (repaired ws) rd n j u)) → isInstructionAt ws (s .pc) ≡ true → SameButFault (continueFrom lay ws rd (suc n) k s) (runFrom lay (repaired ws) rd (suc n) k s)
+  taken : (n k : ℕ) (s : State) → ((j : ℕ) (u : State) → SameButFault (continueFrom lay ws rd n j u) (runFrom lay (repaired ws) rd n j u))
+      → isInstructionAt ws (s .pc) ≡ true → SameButFault (continueFrom lay ws rd (suc n) k s) (runFrom lay (repaired ws) rd (suc n) k s)
   taken n k s more t =
       let e = engineLoop lay (repaired ws) rd in
       let q = next-same s t in

@@ -27,10 +27,13 @@ use Rattle.spec.specs.Landings.{marked}
 use Rattle.spec.specs.Words.{routine, bundlesFor}
 use Rattle.spec.specs.Commands.{fetchOf, holdsOf}
 use Rattle.spec.specs.Bundles.{shapeOf, addressOf, commandsOf, rewriteAnswer}
-use Rattle.spec.specs.Machines.{View, regAt, cellAt, entryOf, State, stateOf, nextPc, applyOf, effectOf, eventEffect, endingOf, viewAt, fits, nextOf as machineNext, RunResult as MachineResult, resultIn as machineEnded, startOf as machineStart, runFrom as machineFrom, runOf as machineRunOf, installMemory}
+use Rattle.spec.specs.Machines.{View, regAt, cellAt, entryOf, State, stateOf, nextPc, applyOf, effectOf, eventEffect, endingOf, viewAt, fits}
+use Rattle.spec.specs.Machines.{nextOf as machineNext, RunResult as MachineResult, resultIn as machineEnded, startOf as machineStart}
+use Rattle.spec.specs.Machines.{runFrom as machineFrom, runOf as machineRunOf, installMemory}
 use Rattle.types.specs.Records.{machineOf}
 use Rattle.spec.specs.Guests.{Guest, guestAfter, guestStart}
-use Rattle.spec.specs.Runs.{RunInput, MemoryPreserved, Session as MachineSession, sessionOf as machineSession, pairsOf, waitingAt, begins, begunFrom, eventIn, runOn as machineOn, afterTaken as machineTaken, afterRun as machineRun, after as machineAfter}
+use Rattle.spec.specs.Runs.{RunInput, MemoryPreserved, Session as MachineSession, sessionOf as machineSession, pairsOf, waitingAt, begins, begunFrom}
+use Rattle.spec.specs.Runs.{eventIn, runOn as machineOn, afterTaken as machineTaken, afterRun as machineRun, after as machineAfter}
 use Rattle.spec.specs.Claims.{AtBoundary, Waiting, withBudget}
 use Rattle.spec.proofs.Bools.{no, cond-ind}
 use Rattle.spec.proofs.Facts.{Guarded, Valid}
@@ -122,7 +125,8 @@ module _ (lay : Layout) (s : State) (v : ℕ) where
   abbrev third : State
   third = stateOf (set (s .regs) hidden entry) (nextPc (nextPc (s .pc))) (s .status) (s .mem) (s .log) (s .pairs) (s .used)
 
-module _ (lay : Layout) (code rd : List ℕ) (room : ℕ) (s : State) (h v : ℕ) (w : Ending) (z : rewriteAnswer lay code room .number ≡ 0) (top : lay .base + bundleLength * bundlesFor (length code) ≤ 2 ^ 32)
+module _ (lay : Layout) (code rd : List ℕ) (room : ℕ) (s : State) (h v : ℕ) (w : Ending) (z : rewriteAnswer lay code room .number
+    ≡ 0) (top : lay .base + bundleLength * bundlesFor (length code) ≤ 2 ^ 32)
     (l : h < bundlesFor (length code)) (e : routine code h ≡ EVENT v) (pc : s .pc ≡ addressOf lay h + 0) (run : s .status ≡ Running) (regs : length (s .regs) ≡ registers)
     (cell : lay .cell < length (s .mem)) (inside : entryAddress lay (s .mem) v < length (s .mem)) (some : getD (s .mem) (entryAddress lay (s .mem) v) 0 ≡ noArrow → ⊥)
     (pauses : eventEffect v (length (s .log) - 2 * s .pairs) (length rd - s .used) ≡ Wait w) where
@@ -167,17 +171,30 @@ module _ (lay : Layout) (code rd : List ℕ) (room : ℕ) (s : State) (h v : ℕ
   one-begun = ap₂ (λ (x y : ℕ). x + y) (first-yes lay (s .pc) (omega arith)) (first-no lay (nextPc (s .pc)) (not-first (lay .base) h (nextPc (s .pc)) second-pc))
 
 -- ---- the session after a run that left r, the machine's with b bundles begun
-machine-left : (lay : Layout) (ws : List ℕ) (c : MachineSession) (g : RunInput) (r : MachineResult) (b : ℕ) → fits lay (g .memory) ≡ true → (let s = machineStart (c .machine) (g .memory) (g .log) in _≡_ {A = MachineResult × ℕ} (machineFrom lay ws (g .readings) (g .budget) 0 s, begunFrom lay ws (g .readings) (g .budget) (c .begun) s) (r, b)) → (machineOn lay ws c g ≡ r) × (machineRun lay ws c g ≡ machineSession (r .outcome .machine) (r .mem) (c .records ++ pairsOf (r .log) (r .outcome .answer .pairs)) (c .consumed ++ take (r .outcome .answer .used) (g .readings)) b)
+machine-left : (lay : Layout) (ws : List ℕ) (c : MachineSession) (g : RunInput) (r : MachineResult) (b : ℕ) → fits lay (g .memory) ≡ true
+    → (let s = machineStart (c .machine) (g .memory) (g .log) in _≡_ {A = MachineResult
+    × ℕ} (machineFrom lay ws (g .readings) (g .budget) 0 s, begunFrom lay ws (g .readings) (g .budget) (c .begun) s) (r, b)) → (machineOn lay ws c g ≡ r)
+    × (machineRun lay ws c g ≡ machineSession (r .outcome .machine) (r .mem) (c .records ++ pairsOf (r .log) (r .outcome .answer .pairs))
+    (c .consumed ++ take (r .outcome .answer .used) (g .readings)) b)
 unfolding machineOn machineRunOf machineTaken machineRun
 machine-left lay ws c g r b t e =
-    rw t
-    (ap (λ (x : MachineResult × ℕ). x .0) e, ap (λ (x : MachineResult × ℕ). machineSession (x .0 .outcome .machine) (x .0 .mem) (c .records ++ pairsOf (x .0 .log) (x .0 .outcome .answer .pairs)) (c .consumed ++ take (x .0 .outcome .answer .used) (g .readings)) (x .1)) e)
+    rw t (
+      ap (λ (x : MachineResult × ℕ). x .0) e,
+      ap (λ (x : MachineResult × ℕ). machineSession (x .0 .outcome .machine) (x .0 .mem)
+          (c .records ++ pairsOf (x .0 .log) (x .0 .outcome .answer .pairs)) (c .consumed ++ take (x .0 .outcome .answer .used) (g .readings)) (x .1)) e,
+    )
 
-engine-left : (lay : Layout) (ws : List ℕ) (c : Session) (g : RunInput) (r : RunResult) → refusalOf lay ws (g .memory) .number ≡ 0 → runFrom lay ws (g .readings) (g .budget) 0 (startOf (c .engine) (g .memory) (g .log)) ≡ r → (runOn lay ws c g ≡ r) × (afterRun lay ws c g ≡ sessionOf (r .outcome .engine) (r .mem) (c .records ++ pairsOf (r .log) (r .outcome .pairs)) (c .consumed ++ take (r .outcome .used) (g .readings)) (c .counted + r .outcome .steps))
+engine-left : (lay : Layout) (ws : List ℕ) (c : Session) (g : RunInput) (r : RunResult) → refusalOf lay ws (g .memory) .number ≡ 0
+    → runFrom lay ws (g .readings) (g .budget) 0 (startOf (c .engine) (g .memory) (g .log)) ≡ r → (runOn lay ws c g ≡ r)
+    × (afterRun lay ws c g ≡ sessionOf (r .outcome .engine) (r .mem) (c .records ++ pairsOf (r .log) (r .outcome .pairs))
+    (c .consumed ++ take (r .outcome .used) (g .readings)) (c .counted + r .outcome .steps))
 unfolding runOn runOf afterTaken afterRun
 engine-left lay ws c g r z e =
-    rw (eq-eqb _ _ z)
-    (e, ap (λ (x : RunResult). sessionOf (x .outcome .engine) (x .mem) (c .records ++ pairsOf (x .log) (x .outcome .pairs)) (c .consumed ++ take (x .outcome .used) (g .readings)) (c .counted + x .outcome .steps)) e)
+    rw (eq-eqb _ _ z) (
+      e,
+      ap (λ (x : RunResult). sessionOf (x .outcome .engine) (x .mem) (c .records ++ pairsOf (x .log) (x .outcome .pairs))
+          (c .consumed ++ take (x .outcome .used) (g .readings)) (c .counted + x .outcome .steps)) e,
+    )
 
 -- ---- both pause, and neither uses a reading
 record Pause (lay : Layout) (code : List ℕ) (c : MachineSession) (n : Session) (g h : RunInput) : Type 0 where
@@ -189,7 +206,9 @@ record Pause (lay : Layout) (code : List ℕ) (c : MachineSession) (n : Session)
   engine : afterRun lay code n h .consumed ≡ n .consumed
 
 -- the two memories have one entry for event e
-same-entry : (lay : Layout) (pol : Policy) (mem mem′ : List ℕ) (e : ℕ) → Memory lay pol mem → Guarded lay pol mem′ → getD mem′ (lay .cell) 0 ≡ getD mem (lay .cell) 0 → e < events → tableEnd lay ≤ lay .size → (entryAddress lay mem′ e < length mem′) × (getD mem′ (entryAddress lay mem′ e) 0 ≡ getD mem (entryAddress lay mem e) 0)
+same-entry : (lay : Layout) (pol : Policy) (mem mem′ : List ℕ) (e : ℕ) → Memory lay pol mem → Guarded lay pol mem′
+    → getD mem′ (lay .cell) 0 ≡ getD mem (lay .cell) 0 → e < events → tableEnd lay ≤ lay .size → (entryAddress lay mem′ e < length mem′)
+    × (getD mem′ (entryAddress lay mem′ e) 0 ≡ getD mem (entryAddress lay mem e) 0)
 same-entry lay pol mem mem′ e m m′ cells l end =
     let q = getD mem (lay .cell) 0 in
     let q′ = getD mem′ (lay .cell) 0 in
@@ -199,7 +218,8 @@ same-entry lay pol mem mem′ e m m′ cells l end =
     (omega (arith, m′ .size, end, below, i′), ap (λ (k : ℕ). getD mem′ k 0) i′ ∙ m′ .table (events * q + e) below ∙ sym (ap (λ (k : ℕ). getD mem k 0) i ∙ m .guarded .table (events * q + e) below))
 
 -- the machine on the first command of bundle j and the engine before its instruction, an event in which it pauses
-module _ (lay : Layout) (code : List ℕ) (room : ℕ) (c : MachineSession) (n : Session) (g h : RunInput) (j v : ℕ) (w : Ending) (z : rewriteAnswer lay code room .number ≡ 0) (top : lay .base + bundleLength * bundlesFor (length code) ≤ 2 ^ 32)
+module _ (lay : Layout) (code : List ℕ) (room : ℕ) (c : MachineSession) (n : Session) (g h : RunInput) (j v : ℕ) (w : Ending)
+    (z : rewriteAnswer lay code room .number ≡ 0) (top : lay .base + bundleLength * bundlesFor (length code) ≤ 2 ^ 32)
     (l : j < bundlesFor (length code)) (e : routine code j ≡ EVENT v) (pc : c .machine .pc ≡ addressOf lay j + 0) (run : c .machine .status ≡ Running) (regs : length (c .machine .regs) ≡ registers)
     (cell : lay .cell < length (g .memory)) (inside : entryAddress lay (g .memory) v < length (g .memory)) (some : getD (g .memory) (entryAddress lay (g .memory) v) 0 ≡ noArrow → ⊥)
     (pauses : eventEffect v (length (g .log) - 2 * 0) (length (g .readings) - 0) ≡ Wait w) (few : 3 ≤ g .budget) (fit : fits lay (g .memory) ≡ true)
@@ -211,14 +231,17 @@ module _ (lay : Layout) (code : List ℕ) (room : ℕ) (c : MachineSession) (n :
   abbrev to : State
   to = third lay from v
 
-  machine-pauses : (machineOn lay (commandsOf lay code) c g ≡ machineEnded w 2 to) × (machineRun lay (commandsOf lay code) c g ≡ machineSession (machineOf (to .regs) (to .pc) (to .status)) (g .memory) (c .records ++ pairsOf (g .log) 0) (c .consumed ++ []) (c .begun + begins lay (c .machine .pc) + begins lay (nextPc (c .machine .pc))))
+  machine-pauses : (machineOn lay (commandsOf lay code) c g ≡ machineEnded w 2 to)
+      × (machineRun lay (commandsOf lay code) c g ≡ machineSession (machineOf (to .regs) (to .pc) (to .status)) (g .memory) (c .records ++ pairsOf (g .log) 0)
+      (c .consumed ++ []) (c .begun + begins lay (c .machine .pc) + begins lay (nextPc (c .machine .pc))))
   machine-pauses =
       let budget : g .budget ≡ suc (suc (suc (g .budget - 3))) = omega (arith, few) in
       machine-left lay (commandsOf lay code) c g (machineEnded w 2 to) (c .begun + begins lay (c .machine .pc) + begins lay (nextPc (c .machine .pc))) fit
       (ap (λ (k : ℕ). (machineFrom lay (commandsOf lay code) (g .readings) k 0 from, begunFrom lay (commandsOf lay code) (g .readings) k (c .begun) from)) budget
       ∙ third-pauses lay code (g .readings) room from j v w z top l e pc run regs cell inside some pauses (g .budget - 3) 0 (c .begun))
 
-  engine-pauses : (runOn lay code n (withBudget h 1) ≡ resultIn w 0 (startOf (n .engine) (h .memory) (h .log))) × (afterRun lay code n (withBudget h 1) ≡ sessionOf (n .engine) (h .memory) (n .records ++ pairsOf (h .log) 0) (n .consumed ++ []) (n .counted + 0))
+  engine-pauses : (runOn lay code n (withBudget h 1) ≡ resultIn w 0 (startOf (n .engine) (h .memory) (h .log)))
+      × (afterRun lay code n (withBudget h 1) ≡ sessionOf (n .engine) (h .memory) (n .records ++ pairsOf (h .log) 0) (n .consumed ++ []) (n .counted + 0))
   engine-pauses =
       engine-left lay code n (withBudget h 1) (resultIn w 0 (startOf (n .engine) (h .memory) (h .log))) taken
       (wait-from (engineLoop lay code (h .readings)) 0 0 (startOf (n .engine) (h .memory) (h .log)) w runs next)
@@ -229,7 +252,8 @@ module _ (lay : Layout) (code : List ℕ) (room : ℕ) (c : MachineSession) (n :
       let one = one-begun lay code (g .readings) room from j v w z top l e pc run regs cell inside some pauses in
       record {
         answers = ap (λ (r : MachineResult). endingNumber (r .outcome .answer .ending)) (machine-pauses .0) ∙ sym (ap (λ (r : RunResult). r .outcome .answer .number) (engine-pauses .0));
-        waiting = subst (λ (k : MachineSession). Waiting lay (commandsOf lay code) (k .machine)) (sym (machine-pauses .1)) (record { running = run; event = v; third = at (machineOf (to .regs) (to .pc) (to .status)) to-pc });
+        waiting = subst (λ (k : MachineSession). Waiting lay (commandsOf lay code) (k .machine)) (sym (machine-pauses .1))
+            (record { running = run; event = v; third = at (machineOf (to .regs) (to .pc) (to .status)) to-pc });
         begun = ap (λ (k : MachineSession). k .begun) (machine-pauses .1) ∙ omega (arith, one);
         machine = ap (λ (k : MachineSession). k .consumed) (machine-pauses .1) ∙ append-nil (c .consumed);
         counted = ap (λ (k : Session). k .counted) (engine-pauses .1) ∙ omega arith;
@@ -253,7 +277,8 @@ both-pause lay pol code mem room gs es v x count run g h lg lh sg sh logs readin
     let now : Corresponds lay c n = engine-machine lay pol code mem room gs es v x count in
     let a = guest-rule lay pol code mem room gs (v .rewritten) (v .machine) x in
     let G = guestAfter lay pol N (routine code) (c .consumed) g0 (c .begun) in
-    let f : EngineSimulates lay (guestAfter lay pol N (routine code) (n .consumed) g0 (c .begun)) n = subst (λ (j : ℕ). EngineSimulates lay (guestAfter lay pol N (routine code) (n .consumed) g0 j) n) (sym count) (engine-rule lay pol code mem es (v .engine)) in
+    let f : EngineSimulates lay (guestAfter lay pol N (routine code) (n .consumed) g0 (c .begun)) n = subst
+    (λ (j : ℕ). EngineSimulates lay (guestAfter lay pol N (routine code) (n .consumed) g0 j) n) (sym count) (engine-rule lay pol code mem es (v .engine)) in
     let same = meet lay pol N (routine code) g0 (c .consumed) (n .consumed) (c .begun) (v .readings) (a .used) (f .used) in
     let at : n .engine .at ≡ G .at = f .at ∙ sym (ap (λ (y : Guest). y .at) same) in
     let runs : n .engine .status ≡ Running = sym (now .ending) ∙ run in
@@ -276,7 +301,8 @@ both-pause lay pol code mem room gs es v x count run g h lg lh sg sh logs readin
     let right = simulated .right in
     let bs = simulated .bundled in
     let s′ = machineStart (c .machine) (g .memory) (g .log) in
-    let tr = sim-invariant lay pol ws N (routine code) right bs (c .records) (c .consumed) (g .readings) g0 (c .begun) s′ (machine-enter lay pol ws N (routine code) right bs g0 c g sg lg (simulated .last)) in
+    let tr = sim-invariant lay pol ws N (routine code) right bs (c .records) (c .consumed) (g .readings) g0 (c .begun) s′
+    (machine-enter lay pol ws N (routine code) right bs g0 c g sg lg (simulated .last)) in
     let guarded = tr .1 .agree .memory .guarded in
     let cells : getD (g .memory) (lay .cell) 0 ≡ getD (h .memory) (lay .cell) 0 = lg sg (lay .cell) (lent-cell lay) ∙ now .state ∙ sym (lh sh (lay .cell) (lent-cell lay)) in
     let event : routine code (G .at) ≡ EVENT e = ap (routine code) (sym at) ∙ y .is in
@@ -284,8 +310,10 @@ both-pause lay pol code mem room gs es v x count run g h lg lh sg sh logs readin
     let entry = same-entry lay pol (h .memory) (g .memory) e m guarded cells valid (ok .table) in
     let free : eventEffect e (length (g .log) - 2 * 0) (length (g .readings) - 0) ≡ Wait w = ap₂ (λ (k l : ℕ). eventEffect e (k - 2 * 0) (l - 0)) (sym logs) (sym readings) ∙ y .pauses in
     let inn : G .at < N = subst (λ (k : ℕ). k < N) at within in
-    pause lay code room c n g h (G .at) e w (v .rewritten) (right .room) inn event (a .next run) run (tr .1 .agree .regs .machine) (omega (arith, sg, ok .cell)) (entry .0) (λ k. y .some (sym (entry .1) ∙ k)) free few
-    (rw (t .right, eq-eqb (length (g .memory)) (lay .size) sg)) (λ o pc. event-at lay pol ws N (routine code) right bs (simulated .read) o (G .at) 2 2 inn (lit< tt) pc ∙ ap eventIn event) runs z (wait .1)
+    pause lay code room c n g h (G .at) e w (v .rewritten) (right .room) inn event (a .next run) run (tr .1 .agree .regs .machine)
+    (omega (arith, sg, ok .cell)) (entry .0) (λ k. y .some (sym (entry .1) ∙ k)) free few
+    (rw (t .right, eq-eqb (length (g .memory)) (lay .size) sg)) (λ o pc. event-at lay pol ws N (routine code) right bs (simulated .read) o (G .at) 2 2 inn
+    (lit< tt) pc ∙ ap eventIn event) runs z (wait .1)
 
 pub engine-waits : EngineWaits
 engine-waits lay pol code mem room gs es v x count run g h lg lh sg sh logs readings few p =

@@ -40,7 +40,8 @@ fn move_state(layout: Layout, v: u32, memory: &mut [u32])
 // A reading into register 0 and the log.
 fn probe(v: u32, regs: &mut [u32; Engine::REGISTERS], at: Point, readings: &[u32], log: &mut [u32])
     requires { ⌜ (at .pairs < 2 ^ 62) × (length (now regs) ≡ guestRegisters) ⌝ }
-    ensures { λ _. ⌜ (now (regs .exit) ≡ set (now (regs .entry)) 0 (getD (now (readings .entry)) (at .used) 0)) × (now (log .exit) ≡ withPair (now (log .entry)) (at .pairs) v (getD (now (readings .entry)) (at .used) 0)) ⌝ }
+    ensures { λ _. ⌜ (now (regs .exit) ≡ set (now (regs .entry)) 0 (getD (now (readings .entry)) (at .used) 0))
+        × (now (log .exit) ≡ withPair (now (log .entry)) (at .pairs) v (getD (now (readings .entry)) (at .used) 0)) ⌝ }
 {
     let x = read(v, at, readings, log);
     set_register(regs, 0, x);
@@ -57,8 +58,10 @@ pub fn apply(
     readings: &[u32],
     log: &mut [u32],
 ) -> Point
-    requires { ⌜ InRange layout (now memory) e × (layout .cell < length (now memory)) × (now ceilings ≡ layout .ceilings) × (at .pairs < 2 ^ 62) × (at .used < 2 ^ 63) × (length (now regs) ≡ guestRegisters) ⌝ }
-    ensures { λ r. ⌜ stateAt (now (regs .exit)) r (now (memory .exit)) (now (log .exit)) ≡ applyEffect layout (now (readings .entry)) e (stateAt (now (regs .entry)) at (now (memory .entry)) (now (log .entry))) ⌝ }
+    requires { ⌜ InRange layout (now memory) e × (layout .cell < length (now memory)) × (now ceilings ≡ layout .ceilings) × (at .pairs < 2 ^ 62)
+        × (at .used < 2 ^ 63) × (length (now regs) ≡ guestRegisters) ⌝ }
+    ensures { λ r. ⌜ stateAt (now (regs .exit)) r (now (memory .exit)) (now (log .exit))
+        ≡ applyEffect layout (now (readings .entry)) e (stateAt (now (regs .entry)) at (now (memory .entry)) (now (log .entry))) ⌝ }
 {
     let next = next_pc(at);
     match e {

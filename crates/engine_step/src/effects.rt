@@ -43,7 +43,8 @@ fn instruction_effect(
     left: usize,
 ) -> Effect
     requires { ⌜ FetchedFields w × (top + 1 ≡ bundlesFor n) × (n ≤ mostInstructions) × Holds layout (length (now memory)) ⌝ }
-    ensures { λ r. ⌜ r ≡ fetchedEffect layout (bundlesFor n) w (viewOf (now (regs .entry)) at (now (memory .entry)) (layout .cell) (layout .table) (layout .base) (layout .landings) free left) ⌝ }
+    ensures { λ r. ⌜ r ≡ fetchedEffect layout (bundlesFor n) w (viewOf (now (regs .entry)) at (now (memory .entry)) (layout .cell) (layout .table)
+        (layout .base) (layout .landings) free left) ⌝ }
 {
     match w % field::FOUR_BITS {
         Instr::KIND_HALT => Effect::End(Status::Ended),
@@ -101,7 +102,8 @@ pub fn next_effect(
     left: usize,
 ) -> Effect
     requires { ⌜ JudgedWords (now words) judged top × Holds layout (length (now memory)) ⌝ }
-    ensures { λ r. ⌜ r ≡ reachedEffect layout (now (words .entry)) (viewOf (now (regs .entry)) at (now (memory .entry)) (layout .cell) (layout .table) (layout .base) (layout .landings) free left) ⌝ }
+    ensures { λ r. ⌜ r ≡ reachedEffect layout (now (words .entry)) (viewOf (now (regs .entry)) at (now (memory .entry)) (layout .cell)
+        (layout .table) (layout .base) (layout .landings) free left) ⌝ }
 {
     let w = fetch(words, judged, top, at);
     instruction_effect(layout, w, words.len(), top, regs, at, memory, free, left)

@@ -32,7 +32,8 @@ pub fn checked_event(
     left: usize,
 ) -> Effect
     requires { ⌜ layout .cell < length (now memory) ⌝ }
-    ensures { λ r. ⌜ r ≡ checkedEvent v (viewOf (now (regs .entry)) at (now (memory .entry)) (layout .cell) (layout .table) (layout .base) (layout .landings) free left) ⌝ }
+    ensures { λ r. ⌜ r ≡ checkedEvent v (viewOf (now (regs .entry)) at (now (memory .entry)) (layout .cell) (layout .table) (layout .base)
+        (layout .landings) free left) ⌝ }
 {
     let i = entry(layout, v, memory);
     if i >= memory.len() {

@@ -118,7 +118,8 @@ module _ (lay : Layout) (code : List ℕ) (room : ℕ) (z : rewriteAnswer lay co
   alike h l =
       let b = bundled-routine lay code room z in
       let d : (p : ℕ) → p < bundleLength → shapeOf lay (bundlesFor (length code)) (bundleAt lay ws h) p ≡ shapeOf lay (bundlesFor (length code)) (routine code h) p =
-      λ p lp. sym (subst (λ (n : ℕ). fetchOf ws (lay .base) (addressOf lay h + p) ≡ shapeOf lay n (bundleAt lay ws h) p) count-is (passed-decodes lay ws passed h p (omega (arith, count-is)) lp)) ∙ b .each h p l lp in
+      λ p lp. sym (subst (λ (n : ℕ). fetchOf ws (lay .base) (addressOf lay h + p)
+      ≡ shapeOf lay n (bundleAt lay ws h) p) count-is (passed-decodes lay ws passed h p (omega (arith, count-is)) lp)) ∙ b .each h p l lp in
       same-shown lay (bundlesFor (length code)) h _ _ (d 0 (omega arith)) (d 3 (omega arith))
 
   words-scan : forwardAnswer code ≡ forwardFrom (routine code) 0 (length code)
@@ -159,7 +160,8 @@ forward-read lay ws e =
 -- what is over by the list's words is so by the routine's
 finished : (lay : Layout) (pol : Policy) (code mem : List ℕ) (room : ℕ) (gs : List RunInput) → rewriteAnswer lay code room .number ≡ 0 → forwardAnswer code .number ≡ 0 →
     let ws = commandsOf lay code in
-    HostPremise lay pol ws mem gs → (length ws / bundleLength ≡ bundlesFor (length code) → checkForwardAnswer lay ws .number ≡ 0 → Terminated (after lay pol ws mem gs .machine)) → Finished lay pol code mem gs
+    HostPremise lay pol ws mem gs → (length ws / bundleLength ≡ bundlesFor (length code) → checkForwardAnswer lay ws .number ≡ 0
+    → Terminated (after lay pol ws mem gs .machine)) → Finished lay pol code mem gs
 finished lay pol code mem room gs z f v o =
     let e = count-is lay code room z in
     let c : checkForwardAnswer lay (commandsOf lay code) .number ≡ 0 = ap (λ (a : Answer). a .number) (agree lay code room z) ∙ f in

@@ -127,7 +127,8 @@ module _ (lay : Layout) (n h : ℕ) (v : View) (below : lay .base + bundleLength
   straight : (c : Command) → Straight c → Leads (v .pc) top (effectOf c v)
   straight c s = leads-straight v top below c s more
 
-  leads-goif : (a b c x p : ℕ) → forwardAt h (GOIF a b c x) ≡ true → Valid n (GOIF a b c x) → p < bundleLength → v .pc ≡ addressOf lay h + p → Leads (v .pc) top (effectOf (shapeOf lay n (GOIF a b c x) p) v)
+  leads-goif : (a b c x p : ℕ) → forwardAt h (GOIF a b c x) ≡ true → Valid n (GOIF a b c x) → p < bundleLength → v .pc ≡ addressOf lay h + p
+      → Leads (v .pc) top (effectOf (shapeOf lay n (GOIF a b c x) p) v)
   unfolding shapeOf forwardAt
   leads-goif a b c x zero f g lp e =
       let t = higher (lay .base) n h 0 x (v .pc) (ltb-true h x f) (g .3) lp e in
@@ -153,7 +154,8 @@ pub record Ahead (base n t pc : ℕ) (st : Status) : Type 0 where
   pub lands : st ≡ Strayed → ⊥
 
 -- where a step leads that does not wait
-pub ahead-step : (caps rd : List ℕ) (base n t : ℕ) (s : State) (e : Effect) → base + bundleLength * (n - 1) < 2 ^ 32 → Goes e → s .status ≡ Running → base + t ≤ s .pc → s .pc ≤ base + bundleLength * (n - 1) → Leads (s .pc) (base + bundleLength * (n - 1)) e
+pub ahead-step : (caps rd : List ℕ) (base n t : ℕ) (s : State) (e : Effect) → base + bundleLength * (n - 1) < 2 ^ 32 → Goes e → s .status ≡ Running
+    → base + t ≤ s .pc → s .pc ≤ base + bundleLength * (n - 1) → Leads (s .pc) (base + bundleLength * (n - 1)) e
     → Ahead base n (t + 1) (applyOf caps rd e s .pc) (applyOf caps rd e s .status)
 unfolding applyOf
 ahead-step caps rd base n t s (Go to) b g r l u d = record { most = omega arith; on = λ _. (omega (arith, d .0), d .1); lands = runs-on _ r }
@@ -165,7 +167,8 @@ ahead-step caps rd base n t s (End st) b g r l u d = record { most = omega arith
 ahead-step caps rd base n t s (Wait e) b g r l u d = absurd (g e refl)
 
 -- an address of the list, by bundle and position
-pub split : (base n pc : ℕ) → base ≤ pc → pc ≤ base + bundleLength * (n - 1) → 0 < n → ((pc - base) / bundleLength < n) × ((pc - base) % bundleLength < bundleLength) × (pc ≡ base + bundleLength * ((pc - base) / bundleLength) + (pc - base) % bundleLength)
+pub split : (base n pc : ℕ) → base ≤ pc → pc ≤ base + bundleLength * (n - 1) → 0 < n → ((pc - base) / bundleLength < n)
+    × ((pc - base) % bundleLength < bundleLength) × (pc ≡ base + bundleLength * ((pc - base) / bundleLength) + (pc - base) % bundleLength)
 split base n pc l u some = (omega arith, omega arith, omega arith)
 
 last-place : (base n pc : ℕ) → pc ≡ base + bundleLength * (n - 1) → ((pc - base) / bundleLength ≡ n - 1) × ((pc - base) % bundleLength ≡ 0)
@@ -235,7 +238,8 @@ module _ (lay : Layout) (ws : List ℕ) (n : ℕ) (is : ℕ → Instr) (room : l
 
 -- ---- from an installation
 pub ahead-all : (lay : Layout) (pol : Policy) (ws mem : List ℕ) (gs : List RunInput) → checkForwardAnswer lay ws .number ≡ 0 → HostPremise lay pol ws mem gs →
-    Ahead (lay .base) (length ws / bundleLength) (stepsIn (runsOf lay ws (initialSession lay pol mem) gs)) (afterRuns lay ws (initialSession lay pol mem) gs .machine .pc) (afterRuns lay ws (initialSession lay pol mem) gs .machine .status)
+    Ahead (lay .base) (length ws / bundleLength) (stepsIn (runsOf lay ws (initialSession lay pol mem) gs))
+    (afterRuns lay ws (initialSession lay pol mem) gs .machine .pc) (afterRuns lay ws (initialSession lay pol mem) gs .machine .status)
 ahead-all lay pol ws mem gs f v =
     let n = length ws / bundleLength in
     let bs = bundled-of lay ws (v .passed) in

@@ -76,7 +76,8 @@ module _ (lay : Layout) (ws : List ℕ) where
   was-running c g true t e = before lay ws c g t e
   was-running c g false t e = rw t at e
 
-  took : (c : Session) (g : RunInput) (t : Bool) → fits lay (g .memory) ≡ t → afterRun lay ws c g .machine .status ≡ Running → stepsChargedBy (runAs lay ws c g) ≤ runOn lay ws c g .outcome .answer .steps
+  took : (c : Session) (g : RunInput) (t : Bool) → fits lay (g .memory) ≡ t → afterRun lay ws c g .machine .status ≡ Running
+      → stepsChargedBy (runAs lay ws c g) ≤ runOn lay ws c g .outcome .answer .steps
   unfolding runOn runOf
   took c g true t e = charged lay ws c g t e _ refl
   took c g false t e = rw t (omega arith)
@@ -98,11 +99,13 @@ fit-of : (lay : Layout) (g : RunInput) → rightLayout lay ≡ true → Resumabl
 fit-of lay g right ok = rw (right, eq-eqb _ _ (ok .memory))
 
 -- ---- on the premise a machine runs, has ended or stopped: no passed list faults, and none of the class wants a landing
-pub going-or-over : (lay : Layout) (pol : Policy) (ws mem : List ℕ) (gs : List RunInput) → checkForwardAnswer lay ws .number ≡ 0 → HostPremise lay pol ws mem gs → (after lay pol ws mem gs .machine .status ≡ Running) ⊎ Terminated (after lay pol ws mem gs .machine)
+pub going-or-over : (lay : Layout) (pol : Policy) (ws mem : List ℕ) (gs : List RunInput) → checkForwardAnswer lay ws .number ≡ 0
+    → HostPremise lay pol ws mem gs → (after lay pol ws mem gs .machine .status ≡ Running) ⊎ Terminated (after lay pol ws mem gs .machine)
 going-or-over lay pol ws mem gs f v =
     let t = list-simulated lay pol ws mem gs v in
     let c = after lay pol ws mem gs in
-    by c _ _ _ (ahead-all lay pol ws mem gs f v .lands) (sim-invariant lay pol ws _ _ (t .right) (t .bundled) (c .records) (c .consumed) [] _ (c .begun) (startOf (c .machine) (c .memory) []) (t .last) .1 .sim)
+    by c _ _ _ (ahead-all lay pol ws mem gs f v .lands) (sim-invariant lay pol ws _ _ (t .right) (t .bundled) (c .records) (c .consumed) [] _ (c .begun)
+    (startOf (c .machine) (c .memory) []) (t .last) .1 .sim)
   where
     status : (t : Status) → (t ≡ Strayed → ⊥) → (t ≡ Faulted → ⊥) → (t ≡ Running) ⊎ ((t ≡ Ended) ⊎ (t ≡ Stopped))
     status Running l f = inl refl
@@ -111,7 +114,9 @@ going-or-over lay pol ws mem gs f v =
     status Faulted l f = absurd (f refl)
     status Strayed l f = absurd (l refl)
 
-    by : (c : Session) (g : Guest) (k b : ℕ) → (c .machine .status ≡ Strayed → ⊥) → InBundle lay pol (length ws / bundleLength) (bundleAt lay ws) g k b (startOf (c .machine) (c .memory) []) → (c .machine .status ≡ Running) ⊎ Terminated (c .machine)
+    by : (c : Session) (g : Guest) (k b : ℕ) → (c .machine .status ≡ Strayed → ⊥)
+        → InBundle lay pol (length ws / bundleLength) (bundleAt lay ws) g k b (startOf (c .machine) (c .memory) []) → (c .machine .status ≡ Running)
+        ⊎ Terminated (c .machine)
     by c g k b l (over f st h p lh lp pc ev q bk) = status (c .machine .status) l (λ e. f .1 (sym st ∙ e))
     by c g k b l (live gg st h p lh lp pc m) = inl st
 
@@ -120,7 +125,9 @@ takes-step lay pol ws mem gs v run g ok b =
     one-step lay ws (after lay pol ws mem gs) g (fit-of lay g (layout-of lay ws (v .passed)) ok) run (ok .log) (ok .readings) b
 
 -- ---- it is over if as many steps as the bound would be counted while it still runs
-over-by : (lay : Layout) (pol : Policy) (ws mem : List ℕ) (gs : List RunInput) → checkForwardAnswer lay ws .number ≡ 0 → HostPremise lay pol ws mem gs → (after lay pol ws mem gs .machine .status ≡ Running → mostSteps (length ws / bundleLength) ≤ stepsIn (allRuns lay pol ws mem gs)) → Terminated (after lay pol ws mem gs .machine)
+over-by : (lay : Layout) (pol : Policy) (ws mem : List ℕ) (gs : List RunInput) → checkForwardAnswer lay ws .number ≡ 0 → HostPremise lay pol ws mem gs
+    → (after lay pol ws mem gs .machine .status ≡ Running → mostSteps (length ws / bundleLength) ≤ stepsIn (allRuns lay pol ws mem gs))
+    → Terminated (after lay pol ws mem gs .machine)
 over-by lay pol ws mem gs f v most =
     ⊎-elim
     (λ run.
@@ -135,7 +142,8 @@ finishes lay pol ws mem gs f v p =
     over-by lay pol ws mem gs f v (λ run. omega (arith, took-all lay ws (initialSession lay pol mem) gs run))
 
 -- ---- by the count of runs: each that is resumed takes a step
-step-each : (lay : Layout) (ws : List ℕ) → rightLayout lay ≡ true → (c : Session) (gs : List RunInput) → Every (Resumable lay) gs → Every (λ (g : RunInput). 1 ≤ g .budget) gs → afterRuns lay ws c gs .machine .status ≡ Running → length gs ≤ stepsIn (runsOf lay ws c gs)
+step-each : (lay : Layout) (ws : List ℕ) → rightLayout lay ≡ true → (c : Session) (gs : List RunInput) → Every (Resumable lay) gs
+    → Every (λ (g : RunInput). 1 ≤ g .budget) gs → afterRuns lay ws c gs .machine .status ≡ Running → length gs ≤ stepsIn (runsOf lay ws c gs)
 unfolding afterAll eachRun
 step-each lay ws right c [] ok b e = omega arith
 step-each lay ws right c (g ∷ gs) ok b e =
@@ -165,7 +173,8 @@ module _ (lay : Layout) (ws : List ℕ) (right : rightLayout lay ≡ true) where
   adds false true x y n a b l = omega arith
   adds false false x y n a b l = omega (arith, b refl)
 
-  step-two : (p : Bool) (c : Session) (gs : List RunInput) → ResumedAfter lay p (runsOf lay ws c gs) → Every Sized gs → Every (λ (g : RunInput). 1 ≤ g .budget) gs → afterRuns lay ws c gs .machine .status ≡ Running → length gs ≤ 2 * stepsIn (runsOf lay ws c gs) + spare p
+  step-two : (p : Bool) (c : Session) (gs : List RunInput) → ResumedAfter lay p (runsOf lay ws c gs) → Every Sized gs
+      → Every (λ (g : RunInput). 1 ≤ g .budget) gs → afterRuns lay ws c gs .machine .status ≡ Running → length gs ≤ 2 * stepsIn (runsOf lay ws c gs) + spare p
   unfolding afterAll eachRun
   step-two p c [] ok m b e = omega arith
   step-two p c (g ∷ gs) ok m b e =
@@ -182,6 +191,8 @@ module _ (lay : Layout) (ws : List ℕ) (right : rightLayout lay ≡ true) where
             rest,
       )
 
-pub over-resumed : (lay : Layout) (pol : Policy) (ws mem : List ℕ) (gs : List RunInput) → checkForwardAnswer lay ws .number ≡ 0 → HostPremise lay pol ws mem gs → ResumedAfter lay false (allRuns lay pol ws mem gs) → Every (λ (g : RunInput). length (g .memory) ≡ lay .size) gs → Every (λ (g : RunInput). 1 ≤ g .budget) gs → 2 * mostSteps (length ws / bundleLength) ≤ length gs → Terminated (after lay pol ws mem gs .machine)
+pub over-resumed : (lay : Layout) (pol : Policy) (ws mem : List ℕ) (gs : List RunInput) → checkForwardAnswer lay ws .number ≡ 0 → HostPremise lay pol ws mem gs
+    → ResumedAfter lay false (allRuns lay pol ws mem gs) → Every (λ (g : RunInput). length (g .memory) ≡ lay .size) gs
+    → Every (λ (g : RunInput). 1 ≤ g .budget) gs → 2 * mostSteps (length ws / bundleLength) ≤ length gs → Terminated (after lay pol ws mem gs .machine)
 over-resumed lay pol ws mem gs f v ok m b l =
     over-by lay pol ws mem gs f v (λ run. omega (arith, step-two lay ws (layout-of lay ws (v .passed)) false (initialSession lay pol mem) gs ok m b run))

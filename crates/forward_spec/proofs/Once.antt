@@ -60,7 +60,8 @@ record Few (base size : ℕ) (s : State) : Type 0 where
 one-on : (base q pc : ℕ) → base ≤ pc → base + bundleLength * q ≤ pc + 1 → (pc - base) % bundleLength ≡ 2 → base + bundleLength * (q + 1) ≤ pc + 1 + 1
 one-on base q pc l h e = omega arith
 
-few-step : (caps rd : List ℕ) (base top size : ℕ) (s : State) (e : Effect) → top < 2 ^ 32 → Goes e → s .status ≡ Running → base ≤ s .pc → Few base size s → Leads (s .pc) top e → Third ((s .pc - base) % bundleLength) e → Few base size (applyOf caps rd e s)
+few-step : (caps rd : List ℕ) (base top size : ℕ) (s : State) (e : Effect) → top < 2 ^ 32 → Goes e → s .status ≡ Running → base ≤ s .pc → Few base size s
+    → Leads (s .pc) top e → Third ((s .pc - base) % bundleLength) e → Few base size (applyOf caps rd e s)
 unfolding applyOf
 few-step caps rd base top size s (Go to) b g r l f d q = let x = f .pairs r in let y = f .used r in record { log = f .log; pairs = λ _. omega (arith, d .0); used = λ _. omega (arith, d .0) }
 few-step caps rd base top size s (SetReg i v) b g r l f d q =
@@ -77,10 +78,12 @@ few-step caps rd base top size s (End t) b g r l f d q = record { log = f .log; 
 few-step caps rd base top size s (Wait w) b g r l f d q = absurd (g w refl)
 
 -- on a third command, which is before the last bundle, there is room for one more
-room-for : (base n k u pc size left : ℕ) → base ≤ pc → (pc - base) % bundleLength ≡ 2 → base + bundleLength * k ≤ pc + 1 → base + bundleLength * u ≤ pc + 1 → pc ≤ base + bundleLength * (n - 1) → 2 * (n - 1) ≤ size → n - 1 ≤ left → (2 ≤ size - 2 * k) × (1 ≤ left - u)
+room-for : (base n k u pc size left : ℕ) → base ≤ pc → (pc - base) % bundleLength ≡ 2 → base + bundleLength * k ≤ pc + 1 → base + bundleLength * u ≤ pc + 1
+    → pc ≤ base + bundleLength * (n - 1) → 2 * (n - 1) ≤ size → n - 1 ≤ left → (2 ≤ size - 2 * k) × (1 ≤ left - u)
 room-for base n k u pc size left b p x y l s r = (omega arith, omega arith)
 
-module _ (lay : Layout) (ws : List ℕ) (n : ℕ) (is : ℕ → Instr) (room : lay .base + bundleLength * n ≤ 2 ^ 32) (bs : Bundled lay ws n is) (fw : AllForward n is) (rd : List ℕ) (size : ℕ) (ls : 2 * (n - 1) ≤ size) (lr : n - 1 ≤ length rd) where
+module _ (lay : Layout) (ws : List ℕ) (n : ℕ) (is : ℕ → Instr) (room : lay .base + bundleLength * n ≤ 2 ^ 32) (bs : Bundled lay ws n is) (fw : AllForward n is)
+    (rd : List ℕ) (size : ℕ) (ls : 2 * (n - 1) ≤ size) (lr : n - 1 ≤ length rd) where
   abbrev top : ℕ
   top = lay .base + bundleLength * (n - 1)
 
@@ -136,7 +139,11 @@ finishes-at-once lay pol ws mem gs g f v am =
     let is = bundleAt lay ws in
     let bs = bundled-of lay ws (v .passed) in
     let ok = right-of lay pol ws mem (v .passed) (v .installed) in
-    let v₀ : HostPremise lay pol ws mem gs = record { passed = v .passed; installed = v .installed; preserved = lends-first (afterRun lay ws) lay (λ (c : Session). c .memory) (initialSession lay pol mem) gs (g ∷ []) (v .preserved) } in
+    let v₀ : HostPremise lay pol ws mem gs = record {
+      passed = v .passed;
+      installed = v .installed;
+      preserved = lends-first (afterRun lay ws) lay (λ (c : Session). c .memory) (initialSession lay pol mem) gs (g ∷ []) (v .preserved);
+    } in
     let c = after lay pol ws mem gs in
     let s = startOf (c .machine) (g .memory) (g .log) in
     let t : fits lay (g .memory) ≡ true = rw (layout-of lay ws (v .passed), eq-eqb (length (g .memory)) (lay .size) (am .memory)) in
@@ -146,7 +153,8 @@ finishes-at-once lay pol ws mem gs g f v am =
     (record { log = refl; pairs = λ r. omega (arith, a₀ .on r .0); used = λ r. omega (arith, a₀ .on r .0) }) in
     let a = ahead-all lay pol ws mem (gs ++ (g ∷ [])) f v in
     let ran : runOn lay ws c g ≡ runFrom lay ws (g .readings) (g .budget) 0 s = rw t in
-    let left : after lay pol ws mem (gs ++ (g ∷ [])) .machine ≡ runFrom lay ws (g .readings) (g .budget) 0 s .outcome .machine = ap (λ (x : Session). x .machine) (after-more (afterRun lay ws) (initialSession lay pol mem) gs g) ∙ rw t in
+    let left : after lay pol ws mem (gs ++ (g ∷ [])) .machine ≡ runFrom lay ws (g .readings) (g .budget) 0 s .outcome .machine = ap
+    (λ (x : Session). x .machine) (after-more (afterRun lay ws) (initialSession lay pol mem) gs g) ∙ rw t in
     ⊎-elim
     (λ run.
     let o = a .on run in

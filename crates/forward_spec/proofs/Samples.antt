@@ -17,9 +17,27 @@ use Rattle.forward_spec.specs.Forward.{forwardAt, forwardFrom, forwardAn
 use Rattle.forward_spec.specs.Sample.{layout, policy, commands, memory, runs, Answers, SampleReaches, shortCommands, oneStep, oneStepEach, fourthAlone, stepwise, Stepwise}
 
 pub answers : Answers
-unfolding ones leadingZeros rightLayout fieldsRefusal refusalAt firstRefused instrOf routine bundlesFor wordOf shapeOf valid decodeBundle bundleAt isBundle shapedAt passesAt checkFrom checkAnswer forwardAt forwardFrom forwardAnswer checkForwardAnswer
+unfolding ones leadingZeros rightLayout fieldsRefusal refusalAt firstRefused instrOf routine bundlesFor wordOf shapeOf valid decodeBundle bundleAt isBundle
+    shapedAt passesAt checkFrom checkAnswer forwardAt forwardFrom forwardAnswer checkForwardAnswer
 answers =
-    record { none = refl; end = refl; self = refl; back = refl; unreached = refl; indirect = refl; last = refl; grade = refl; long = refl; list = refl; listSelf = refl; listLowest = refl; listLayout = refl; listCount = refl; listBase = refl; listShape = refl }
+    record {
+      none = refl;
+      end = refl;
+      self = refl;
+      back = refl;
+      unreached = refl;
+      indirect = refl;
+      last = refl;
+      grade = refl;
+      long = refl;
+      list = refl;
+      listSelf = refl;
+      listLowest = refl;
+      listLayout = refl;
+      listCount = refl;
+      listBase = refl;
+      listShape = refl;
+    }
 
 passed : checkAnswer layout commands .number ≡ 0
 unfolding ones leadingZeros rightLayout instrOf routine bundlesFor wordOf shapeOf valid decodeBundle bundleAt isBundle shapedAt passesAt checkFrom checkAnswer
@@ -30,7 +48,9 @@ unfolding ones rightLayout rightPolicy rightLandings installAnswer eachRun
 premise = record { passed = passed; installed = refl; preserved = (λ l i s. refl, (λ l i s. refl, tt)) }
 
 pub reaches : SampleReaches
-unfolding ones leadingZeros rightLayout rightPolicy rightLandings landingsOf fieldsRefusal refusalAt firstRefused instrOf routine bundlesFor wordOf shapeOf isCommand commandOf fetchOf plainOf installAnswer installMemory installMachine effectOf applyOf loopFrom runOf runOn afterTaken afterRun eachRun baseRoomAnswer rewriteAnswer forwardAt forwardFrom forwardAnswer
+unfolding ones leadingZeros rightLayout rightPolicy rightLandings landingsOf fieldsRefusal refusalAt firstRefused instrOf routine bundlesFor wordOf shapeOf
+    isCommand commandOf fetchOf plainOf installAnswer installMemory installMachine effectOf applyOf loopFrom runOf runOn afterTaken afterRun eachRun
+    baseRoomAnswer rewriteAnswer forwardAt forwardFrom forwardAnswer
 reaches =
     record {
       rewritten = refl;
@@ -56,13 +76,27 @@ short-premise : HostPremise layout policy shortCommands memory stepwise
 short-premise = record { passed = short-passed; installed = premise .installed; preserved = lends (initialSession layout policy memory) fourthAlone }
 
 pub stepwise-holds : Stepwise
-unfolding ones leadingZeros rightLayout rightPolicy rightLandings landingsOf fieldsRefusal refusalAt firstRefused instrOf routine bundlesFor wordOf shapeOf isCommand commandOf fetchOf plainOf installAnswer installMemory installMachine effectOf applyOf loopFrom runOf runOn afterTaken afterRun eachRun baseRoomAnswer rewriteAnswer forwardAt forwardFrom forwardAnswer
+unfolding ones leadingZeros rightLayout rightPolicy rightLandings landingsOf fieldsRefusal refusalAt firstRefused instrOf routine bundlesFor wordOf shapeOf
+    isCommand commandOf fetchOf plainOf installAnswer installMemory installMachine effectOf applyOf loopFrom runOf runOn afterTaken afterRun eachRun
+    baseRoomAnswer rewriteAnswer forwardAt forwardFrom forwardAnswer
 stepwise-holds =
     record {
       premise = short-premise;
       rewritten = refl;
       forward = refl;
-      resumed = (λ e. no e, (λ e. no e, (λ e. no e, (λ e. record { memory = refl; log = lit≤ tt; readings = lit≤ tt }, (λ e. no e, (λ e. no e, (λ e. no e, (λ e. no e, (λ e. no e, (λ e. no e, tt))))))))));
+      resumed = (
+        λ e. no e,
+        (
+          λ e. no e,
+          (
+            λ e. no e,
+            (
+              λ e. record { memory = refl; log = lit≤ tt; readings = lit≤ tt },
+              (λ e. no e, (λ e. no e, (λ e. no e, (λ e. no e, (λ e. no e, (λ e. no e, tt)))))),
+            ),
+          ),
+        ),
+      );
       memories = (refl, (refl, (refl, (refl, (refl, (refl, (refl, (refl, (refl, (refl, tt))))))))));
       budgets = (lit≤ tt, (lit≤ tt, (lit≤ tt, (lit≤ tt, (lit≤ tt, (lit≤ tt, (lit≤ tt, (lit≤ tt, (lit≤ tt, (lit≤ tt, tt))))))))));
       enough = lit≤ tt;

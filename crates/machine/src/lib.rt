@@ -19,7 +19,8 @@ pub fn run_value(
     readings: &[u32],
     log: &mut [u32],
 ) -> Outcome
-    ensures { λ r. ⌜ MatchesResult r (now (memory .exit)) (now (log .exit)) (runOf layout (now (commands .entry)) machine (now (memory .entry)) budget (now (readings .entry)) (now (log .entry))) ⌝ }
+    ensures { λ r. ⌜ MatchesResult r (now (memory .exit)) (now (log .exit))
+        (runOf layout (now (commands .entry)) machine (now (memory .entry)) budget (now (readings .entry)) (now (log .entry))) ⌝ }
 {
     if !fits(layout, memory.len()) {
         return Outcome::refused(machine);
@@ -36,7 +37,8 @@ pub fn step_value(
     readings: &[u32],
     log: &mut [u32],
 ) -> Outcome
-    ensures { λ r. ⌜ MatchesResult r (now (memory .exit)) (now (log .exit)) (runOf layout (now (commands .entry)) machine (now (memory .entry)) 1 (now (readings .entry)) (now (log .entry))) ⌝ }
+    ensures { λ r. ⌜ MatchesResult r (now (memory .exit)) (now (log .exit))
+        (runOf layout (now (commands .entry)) machine (now (memory .entry)) 1 (now (readings .entry)) (now (log .entry))) ⌝ }
 {
     run_value(layout, commands, machine, memory, 1, readings, log)
 }

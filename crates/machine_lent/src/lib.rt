@@ -16,7 +16,8 @@ pub fn run(
     readings: &[u32],
     log: &mut [u32],
 ) -> RunAnswer
-    ensures { λ r. ⌜ MatchesResult (asOutcome (now (machine .exit)) r) (now (memory .exit)) (now (log .exit)) (runOf layout (now (commands .entry)) (now (machine .entry)) (now (memory .entry)) budget (now (readings .entry)) (now (log .entry))) ⌝ }
+    ensures { λ r. ⌜ MatchesResult (asOutcome (now (machine .exit)) r) (now (memory .exit)) (now (log .exit))
+        (runOf layout (now (commands .entry)) (now (machine .entry)) (now (memory .entry)) budget (now (readings .entry)) (now (log .entry))) ⌝ }
 {
     let out = machine::run_value(layout, commands, *machine, memory, budget, readings, log);
     *machine = out.machine;
@@ -32,7 +33,8 @@ pub fn step(
     readings: &[u32],
     log: &mut [u32],
 ) -> RunAnswer
-    ensures { λ r. ⌜ MatchesResult (asOutcome (now (machine .exit)) r) (now (memory .exit)) (now (log .exit)) (runOf layout (now (commands .entry)) (now (machine .entry)) (now (memory .entry)) 1 (now (readings .entry)) (now (log .entry))) ⌝ }
+    ensures { λ a. ⌜ MatchesResult (asOutcome (now (machine .exit)) a) (now (memory .exit)) (now (log .exit))
+        (runOf layout (now (commands .entry)) (now (machine .entry)) (now (memory .entry)) 1 (now (readings .entry)) (now (log .entry))) ⌝ }
 {
     let out = machine::step_value(layout, commands, *machine, memory, readings, log);
     *machine = out.machine;

@@ -35,7 +35,8 @@ module _ (lay : Layout) (mem work : List ℕ) (f : Bool) (e : f ≡ fits lay mem
     unfolding previewOf
     not-fitting t o eo = ran _ _ _ _ (rw (eo, ← e, t))
 
-    pub ran-copy : (f && eqb (length work) (lay .size)) ≡ true → (copied : List ℕ) → copied ≡ sets work 0 mem → (o : Outcome) (work′ log′ : List ℕ) → MatchesResult o work′ log′ (runOf lay ws m copied budget rd log)
+    pub ran-copy : (f && eqb (length work) (lay .size)) ≡ true → (copied : List ℕ) → copied ≡ sets work 0 mem → (o : Outcome) (work′ log′ : List ℕ)
+        → MatchesResult o work′ log′ (runOf lay ws m copied budget rd log)
         → MatchesResult o work′ log′ (previewOf lay ws m mem work budget rd log)
     unfolding previewOf
     ran-copy t copied c o work′ log′ er = ran _ _ _ _ (er .result ∙ rw (c ∙ store-all work mem (same-size t), ← e, t))

@@ -19,7 +19,9 @@ pub fn preview(
     readings: &[u32],
     log: &mut [u32],
 ) -> Outcome
-    ensures outcome { λ r. ⌜ MatchesResult r (now (work .exit)) (now (log .exit)) (previewOf layout (now (commands .entry)) machine (now (memory .entry)) (now (work .entry)) budget (now (readings .entry)) (now (log .entry))) ⌝ }
+    ensures outcome { λ r. ⌜ MatchesResult r (now (work .exit)) (now (log .exit))
+        (previewOf layout (now (commands .entry)) machine (now (memory .entry)) (now (work .entry)) budget (now (readings .entry))
+        (now (log .entry))) ⌝ }
     ensures memory { λ _. ⌜ now (memory .exit) ≡ now (memory .entry) ⌝ }
 {
     let fitting = fits(layout, memory.len());

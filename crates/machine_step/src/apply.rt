@@ -38,7 +38,8 @@ pub fn probe(
     log: &mut [u32],
 )
     requires { ⌜ (at .pairs < 2 ^ 62) × (length (now regs) ≡ registers) ⌝ }
-    ensures { λ _. ⌜ (now (regs .exit) ≡ set (now (regs .entry)) 0 (getD (now (readings .entry)) (at .used) 0)) × (now (log .exit) ≡ withPair (now (log .entry)) (at .pairs) v (getD (now (readings .entry)) (at .used) 0)) ⌝ }
+    ensures { λ _. ⌜ (now (regs .exit) ≡ set (now (regs .entry)) 0 (getD (now (readings .entry)) (at .used) 0))
+        × (now (log .exit) ≡ withPair (now (log .entry)) (at .pairs) v (getD (now (readings .entry)) (at .used) 0)) ⌝ }
 {
     let x = read(v, at, readings, log);
     set_register(regs, 0, x);
@@ -55,7 +56,8 @@ pub fn apply(
     log: &mut [u32],
 ) -> Point
     requires { ⌜ (at .pairs < 2 ^ 62) × (at .used < 2 ^ 63) × (length (now regs) ≡ registers) ⌝ }
-    ensures { λ r. ⌜ stateAt (now (regs .exit)) r (now (memory .exit)) (now (log .exit)) ≡ applyOf (now (ceilings .entry)) (now (readings .entry)) e (stateAt (now (regs .entry)) at (now (memory .entry)) (now (log .entry))) ⌝ }
+    ensures { λ r. ⌜ stateAt (now (regs .exit)) r (now (memory .exit)) (now (log .exit))
+        ≡ applyOf (now (ceilings .entry)) (now (readings .entry)) e (stateAt (now (regs .entry)) at (now (memory .entry)) (now (log .entry))) ⌝ }
 {
     let next = next_pc(at);
     match e {

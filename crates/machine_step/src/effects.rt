@@ -162,7 +162,8 @@ pub fn next_effect(
     free: usize,
     left: usize,
 ) -> Effect
-    ensures { λ r. ⌜ r ≡ effectOf (fetchOf (now (commands .entry)) base pc) (viewOf (now (regs .entry)) pc (now (memory .entry)) cell table base landings free left) ⌝ }
+    ensures { λ r. ⌜ r ≡ effectOf (fetchOf (now (commands .entry)) base pc)
+        (viewOf (now (regs .entry)) pc (now (memory .entry)) cell table base landings free left) ⌝ }
 {
     let at = std::num::wrapping_sub_usize(pc as usize, base as usize);
     if at < commands.len() {

@@ -16,7 +16,9 @@ ghost use Rattle.spec.specs.Machines.{eventEffect, ifRoom};
 
 // The policy's entry for event v in the present state; the address is summed without wrap.
 pub fn look(d: usize, cell: u32, table: u32, v: u32, memory: &[u32]) -> Effect
-    ensures { λ r. ⌜ r ≡ cond (ltb cell (length (now (memory .entry)))) (cond (ltb (table + events * getD (now (memory .entry)) cell 0 + v) (length (now (memory .entry)))) (SetReg d (getD (now (memory .entry)) (table + events * getD (now (memory .entry)) cell 0 + v) 0)) (End Faulted)) (End Faulted) ⌝ }
+    ensures { λ r. ⌜ r ≡ cond (ltb cell (length (now (memory .entry))))
+        (cond (ltb (table + events * getD (now (memory .entry)) cell 0 + v) (length (now (memory .entry))))
+        (SetReg d (getD (now (memory .entry)) (table + events * getD (now (memory .entry)) cell 0 + v) 0)) (End Faulted)) (End Faulted) ⌝ }
 {
     let i = cell as usize;
     if i < memory.len() {

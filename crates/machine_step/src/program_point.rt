@@ -58,7 +58,8 @@ pub fn probed(mut at: Point) -> Point
 // The next reading, with its pair in the log.
 pub fn read(v: u32, at: Point, readings: &[u32], log: &mut [u32]) -> u32
     requires { ⌜ at .pairs < 2 ^ 62 ⌝ }
-    ensures { λ r. ⌜ (r ≡ getD (now (readings .entry)) (at .used) 0) × (now (log .exit) ≡ withPair (now (log .entry)) (at .pairs) v (getD (now (readings .entry)) (at .used) 0)) ⌝ }
+    ensures { λ r. ⌜ (r ≡ getD (now (readings .entry)) (at .used) 0)
+        × (now (log .exit) ≡ withPair (now (log .entry)) (at .pairs) v (getD (now (readings .entry)) (at .used) 0)) ⌝ }
 {
     let x = buffers::cells::peek(readings, at.used);
     buffers::pairs::write_pair(log, at.pairs, v, x);

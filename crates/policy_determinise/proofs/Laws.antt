@@ -44,7 +44,8 @@ pub union-done : (ms : List ℕ) (x n k s set : ℕ) → set ≡ unionOf ms x n 
 union-done ms x n k s set e h l = let q : k ≡ s = omega arith in e ∙ ap (unionOf ms x n) q
 
 -- the maps that are left say what is left
-pub maps-more : (s : ℕ) (ms : List ℕ) (i : ℕ) (ok b : Bool) → (ok && mapsRight s (drop i ms)) ≡ mapsRight s ms → i < length ms → b ≡ ltb (getD ms i 0) (2 ^ s) → ((ok && b) && mapsRight s (drop (i + 1) ms)) ≡ mapsRight s ms
+pub maps-more : (s : ℕ) (ms : List ℕ) (i : ℕ) (ok b : Bool) → (ok && mapsRight s (drop i ms)) ≡ mapsRight s ms → i < length ms → b ≡ ltb (getD ms i 0) (2 ^ s)
+    → ((ok && b) && mapsRight s (drop (i + 1) ms)) ≡ mapsRight s ms
 maps-more s ms i ok b e h f =
     let n : i + 1 ≡ suc i = omega arith in
     rw (n, f) (and-assoc ok (ltb (getD ms i 0) (2 ^ s)) (mapsRight s (drop (suc i) ms)) ∙ ap (λ (l : List ℕ). ok && mapsRight s l) (sym (drop-cons ms i 0 h)) ∙ e)
@@ -63,7 +64,8 @@ pub many-states : (s q : ℕ) (ms : List ℕ) → 1 ≤ s → mostStates < s →
 unfolding drawingRight
 many-states s q ms l h = rw (le-leb 1 s l, lt-leb s mostStates h)
 
-pub states-right : (s q : ℕ) (ms : List ℕ) (b m : Bool) → 1 ≤ s → s ≤ mostStates → b ≡ ltb q (2 ^ s) → m ≡ mapsRight s ms → (((not (eqb q 0) && eqb (length ms) (events * s)) && b) && m) ≡ drawingRight (drawingOf s q ms)
+pub states-right : (s q : ℕ) (ms : List ℕ) (b m : Bool) → 1 ≤ s → s ≤ mostStates → b ≡ ltb q (2 ^ s) → m ≡ mapsRight s ms
+    → (((not (eqb q 0) && eqb (length ms) (events * s)) && b) && m) ≡ drawingRight (drawingOf s q ms)
 unfolding drawingRight
 states-right s q ms b m l h e f = rw (le-leb 1 s l, le-leb s mostStates h, e, f) (and-assoc (not (eqb q 0) && eqb (length ms) (events * s)) (ltb q (2 ^ s)) (mapsRight s ms))
 

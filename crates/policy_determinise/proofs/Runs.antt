@@ -160,7 +160,8 @@ module _ (d : Drawing) (fit : ValidDrawing d) where
 
   way-to : (es : List ℕ) (x s t : ℕ) → s < d .states → bit x s ≡ true → DrawingPath d s es t → bit (nodeAfter (setAfter d) x es) t ≡ true
   way-to [] x s t h e ends = e
-  way-to (n ∷ es) x s t h e (goes u a w) = way-to es (setAfter d x n) u t (bit-below (successors (d .arrows) s n) (d .states) u (successors-below s n) a) (union-to (d .arrows) x n (d .states) s u h e a) w
+  way-to (n ∷ es) x s t h e (goes u a w) = way-to es (setAfter d x n) u t (bit-below (successors (d .arrows) s n) (d .states) u (successors-below s n) a)
+      (union-to (d .arrows) x n (d .states) s u h e a) w
 
 pub sets-are-ends : SetsAreEnds
 sets-are-ends d es t r =

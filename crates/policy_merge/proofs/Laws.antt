@@ -48,7 +48,8 @@ pub next-none : (a b : Policy) (x n : ℕ) → x ≡ 0 → 0 ≡ pairAfter a b x
 unfolding pairAfter
 next-none a b x n e = rw e
 
-pub next-pair : (a b : Policy) (x n s t r : ℕ) → (x ≡ 0 → ⊥) → n < events → s ≡ getD (a .table) (events * left x + n) noArrow → t ≡ getD (b .table) (events * right x + n) noArrow → r ≡ both s t → r ≡ pairAfter a b x n
+pub next-pair : (a b : Policy) (x n s t r : ℕ) → (x ≡ 0 → ⊥) → n < events → s ≡ getD (a .table) (events * left x + n) noArrow
+    → t ≡ getD (b .table) (events * right x + n) noArrow → r ≡ both s t → r ≡ pairAfter a b x n
 unfolding pairAfter
 next-pair a b x n s t r z h e f g = rw (ne-eqb x 0 z, lt-ltb n events h) (g ∙ ap₂ both e f)
 
@@ -92,7 +93,9 @@ module _ (a b : Policy) (x y : Bool) (e : x ≡ sideRight a) (f : y ≡ sideRigh
       let t = side-of b (sym f ∙ r .1) in
       (omega (arith, s .start, s .few-states), omega (arith, t .start, t .few-states))
 
-  pub makes : (t t′ : List ℕ) (made : Made) (q : ℕ) (w : Worklist) → (x && y) ≡ true → q ≡ startPair a b → Explored (pairAfter (policyOf 0 0 (a .table) []) (policyOf 0 0 (b .table) [])) q w → made ≡ writtenOf w (length t) → t′ ≡ writtenTable w t → Makes t made t′
+  pub makes : (t t′ : List ℕ) (made : Made) (q : ℕ) (w : Worklist) → (x && y) ≡ true → q ≡ startPair a b
+      → Explored (pairAfter (policyOf 0 0 (a .table) []) (policyOf 0 0 (b .table) [])) q w → made ≡ writtenOf w (length t) → t′ ≡ writtenTable w t
+      → Makes t made t′
   unfolding mergeMade mergeTable
   makes t t′ made q w g i ex m n =
       let z : Explored (pairAfter a b) (startPair a b) w = rw (tables-alone a b, i) at ex in

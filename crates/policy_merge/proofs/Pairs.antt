@@ -105,7 +105,8 @@ module _ (a b : Policy) (sa : Side a) (sb : Side b) where
   pair-states [] s t h = refl
   pair-states (n ∷ es) s t h = ap (λ (x : ℕ). nodeAfter (pairAfter a b) x es) (pair-after a b s t n h) ∙ go (both (arrow a s n) (arrow b t n)) (boths (arrow a s n) (arrow b t n)) (pair-states es)
     where
-      go : (x : ℕ) → Both (arrow a s n) (arrow b t n) x → ((s t : ℕ) → t < mostStates → nodeAfter (pairAfter a b) (pair s t) es ≡ reached es s t) → nodeAfter (pairAfter a b) x es ≡ reached (n ∷ es) s t
+      go : (x : ℕ) → Both (arrow a s n) (arrow b t n) x → ((s t : ℕ) → t < mostStates → nodeAfter (pairAfter a b) (pair s t) es ≡ reached es s t)
+          → nodeAfter (pairAfter a b) x es ≡ reached (n ∷ es) s t
       go x (neither (inl e)) r = rw (after-none (pairAfter a b) (start-pairs a b .none) es, eq-eqb (arrow a s n) noArrow e)
       go x (neither (inr f)) r =
           rw (after-none (pairAfter a b) (start-pairs a b .none) es, eq-eqb (arrow b t n) noArrow f)

@@ -154,8 +154,10 @@ fn made_of(a: PolicyNumbers, left: &[u8], b: PolicyNumbers, right: &[u8], table:
 // Merges two policies, `left` the table of one and `right` that of the other: the table from the start of the one lent, the state count
 // and start, and the ceilings.
 pub fn merge(one: Side, left: &[u8], other: Side, right: &[u8], table: &mut [u8]) -> Merged
-    ensures merged { λ r. ⌜ r ≡ mergeOf (sideOf (one .policy) (now (left .entry))) (one .ceilings) (sideOf (other .policy) (now (right .entry))) (other .ceilings) (length (now (table .entry))) ⌝ }
-    ensures table { λ _. ⌜ now (table .exit) ≡ mergeTable (sideOf (one .policy) (now (left .entry))) (sideOf (other .policy) (now (right .entry))) (now (table .entry)) ⌝ }
+    ensures merged { λ r. ⌜ r ≡ mergeOf (sideOf (one .policy) (now (left .entry))) (one .ceilings) (sideOf (other .policy) (now (right .entry)))
+        (other .ceilings) (length (now (table .entry))) ⌝ }
+    ensures table { λ _. ⌜ now (table .exit) ≡ mergeTable (sideOf (one .policy) (now (left .entry))) (sideOf (other .policy) (now (right .entry)))
+        (now (table .entry)) ⌝ }
 {
     let made = made_of(one.policy, left, other.policy, right, table);
     let c = one.ceilings;

@@ -29,7 +29,12 @@ set-below l m j v (x ∷ xs) h =
 four-below : (l : List ℕ) (j a b c d : ℕ) (xs : List ℕ) → sets (sets l (suc (suc (suc (suc j)))) xs) j (a ∷ b ∷ c ∷ d ∷ []) ≡ sets l j (a ∷ b ∷ c ∷ d ∷ xs)
 four-below l j a b c d xs =
     let m : ℕ = suc (suc (suc (suc j))) in
-    rw (set-below l m j a xs (omega arith), set-below (set l j a) m (suc j) b xs (omega arith), set-below (set (set l j a) (suc j) b) m (suc (suc j)) c xs (omega arith), set-below (set (set (set l j a) (suc j) b) (suc (suc j)) c) m (suc (suc (suc j))) d xs (omega arith))
+    rw (
+      set-below l m j a xs (omega arith),
+      set-below (set l j a) m (suc j) b xs (omega arith),
+      set-below (set (set l j a) (suc j) b) m (suc (suc j)) c xs (omega arith),
+      set-below (set (set (set l j a) (suc j) b) (suc (suc j)) c) m (suc (suc (suc j))) d xs (omega arith),
+    )
 
 get-below : (l : List ℕ) (m j : ℕ) (xs : List ℕ) → j < m → getD (sets l m xs) j 0 ≡ getD l j 0
 get-below l m j [] h = refl

@@ -54,7 +54,8 @@ alike-in x y =
     rw (installed-with x, installed-with y) (λ i s. free-set mem 700 x refl i s ∙ sym (free-set mem 700 y refl i s))
 
 given-alike : (x y : ℕ) → Pairwise SameInputs (runs x) (runs y)
-unfolding ones leadingZeros rightLayout rightPolicy rightLandings bitsFrom landingsOf instrOf routine bundlesFor wordOf shapeOf isCommand commandOf fetchOf plainOf installAnswer installMemory installMachine effectOf applyOf loopFrom runOf runOn afterTaken afterRun
+unfolding ones leadingZeros rightLayout rightPolicy rightLandings bitsFrom landingsOf instrOf routine bundlesFor wordOf shapeOf isCommand commandOf fetchOf
+    plainOf installAnswer installMemory installMachine effectOf applyOf loopFrom runOf runOn afterTaken afterRun
 given-alike x y = (
   record { readings = refl; budget = refl; log = refl; memory = refl },
   (
@@ -80,7 +81,8 @@ guest-with x =
     ap (λ (y : Guest). y .records) four
 
 pub sample-holds : SampleHolds
-unfolding ones leadingZeros rightLayout rightPolicy rightLandings bitsFrom landingsOf instrOf routine bundlesFor wordOf shapeOf decodeBundle bundleAt isCommand commandOf fetchOf plainOf installAnswer installMemory installMachine effectOf applyOf loopFrom runOf begins runOn afterTaken afterRun afterAll eachRun
+unfolding ones leadingZeros rightLayout rightPolicy rightLandings bitsFrom landingsOf instrOf routine bundlesFor wordOf shapeOf decodeBundle bundleAt isCommand
+    commandOf fetchOf plainOf installAnswer installMemory installMachine effectOf applyOf loopFrom runOf begins runOn afterTaken afterRun afterAll eachRun
 sample-holds =
     record {
       premise = premise-with;

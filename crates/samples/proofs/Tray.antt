@@ -12,5 +12,8 @@ use Rattle.spec.specs.Machines.{installAnswer, installMemory, isLanding, effect
 use Rattle.samples.specs.Tray.{TrayHolds}
 
 pub tray-holds : TrayHolds
-unfolding ones leadingZeros rightLayout fieldsRefusal refusalAt firstRefused instrOf routine bundlesFor byteAt quadAt fieldsAt decodeFields decodeMap decodeOne scanOf readAnswer byteOut quadOut regsOut fieldsOut bytesOf routineOf writeAnswer writeOutput isCommand commandOf wordOf fetchOf plainOf shapeOf baseRoomAnswer rewriteAnswer valid decodeBundle bundleAt isBundle shapedAt passesAt checkFrom checkAnswer rightPolicy rightLandings bitsFrom landingsOf marked installAnswer installMemory isLanding effectOf applyOf loopFrom runOf
+unfolding ones leadingZeros rightLayout fieldsRefusal refusalAt firstRefused instrOf routine bundlesFor byteAt quadAt fieldsAt decodeFields decodeMap decodeOne
+    scanOf readAnswer byteOut quadOut regsOut fieldsOut bytesOf routineOf writeAnswer writeOutput isCommand commandOf wordOf fetchOf plainOf shapeOf
+    baseRoomAnswer rewriteAnswer valid decodeBundle bundleAt isBundle shapedAt passesAt checkFrom checkAnswer rightPolicy rightLandings bitsFrom landingsOf
+    marked installAnswer installMemory isLanding effectOf applyOf loopFrom runOf
 tray-holds = refl

@@ -14,7 +14,10 @@ use Rattle.sandbox_spec.specs.Loading.{translateAnswer, loadAnswer, loadCommand
 use Rattle.samples.specs.Trial.{TrialHolds}
 
 pub trial-holds : TrialHolds
-unfolding ones leadingZeros rightLayout rightPolicy rightLandings landingsOf fieldsRefusal refusalAt firstRefused instrOf routine bundlesFor byteAt quadAt fieldsAt decodeFields decodeMap decodeOne scanOf wordsOf readAnswer isCommand commandOf wordOf fetchOf plainOf shapeOf baseRoomAnswer rewriteAnswer valid decodeBundle bundleAt isBundle shapedAt passesAt checkFrom checkAnswer installAnswer installMemory installMachine effectOf applyOf loopFrom runOf runOn translateAnswer loadAnswer loadCommands loadMemory loadMachine eachRun
+unfolding ones leadingZeros rightLayout rightPolicy rightLandings landingsOf fieldsRefusal refusalAt firstRefused instrOf routine bundlesFor byteAt quadAt
+    fieldsAt decodeFields decodeMap decodeOne scanOf wordsOf readAnswer isCommand commandOf wordOf fetchOf plainOf shapeOf baseRoomAnswer rewriteAnswer valid
+    decodeBundle bundleAt isBundle shapedAt passesAt checkFrom checkAnswer installAnswer installMemory installMachine effectOf applyOf loopFrom runOf runOn
+    translateAnswer loadAnswer loadCommands loadMemory loadMachine eachRun
 trial-holds =
     record {
       answers = refl;

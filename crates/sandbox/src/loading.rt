@@ -27,9 +27,12 @@ pub fn load(
     commands: &mut [u64],
     memory: &mut [u32],
 ) -> Installed
-    ensures answer { λ r. ⌜ r ≡ loadOf layout (lentPolicy policy (now (table .entry)) (now (landings .entry))) (now (bytes .entry)) (length (now (commands .entry))) (now (memory .entry)) ⌝ }
-    ensures commands { λ _. ⌜ now (commands .exit) ≡ loadCommands layout (lentPolicy policy (now (table .entry)) (now (landings .entry))) (now (bytes .entry)) (now (commands .entry)) (now (memory .entry)) ⌝ }
-    ensures memory { λ _. ⌜ now (memory .exit) ≡ loadMemory layout (lentPolicy policy (now (table .entry)) (now (landings .entry))) (now (bytes .entry)) (length (now (commands .entry))) (now (memory .entry)) ⌝ }
+    ensures answer { λ r. ⌜ r ≡ loadOf layout (lentPolicy policy (now (table .entry)) (now (landings .entry))) (now (bytes .entry))
+        (length (now (commands .entry))) (now (memory .entry)) ⌝ }
+    ensures commands { λ _. ⌜ now (commands .exit) ≡ loadCommands layout (lentPolicy policy (now (table .entry)) (now (landings .entry)))
+        (now (bytes .entry)) (now (commands .entry)) (now (memory .entry)) ⌝ }
+    ensures memory { λ _. ⌜ now (memory .exit) ≡ loadMemory layout (lentPolicy policy (now (table .entry)) (now (landings .entry)))
+        (now (bytes .entry)) (length (now (commands .entry))) (now (memory .entry)) ⌝ }
     ensures within { λ r. ⌜ (r .answer .number ≡ 0 → r .answer .place ≤ length (now (commands .exit))) ⌝ }
 {
     let a = translate_answer(layout, bytes, commands.len());

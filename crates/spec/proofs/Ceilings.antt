@@ -24,7 +24,8 @@ abbrev pub LimitedIn : Layout → List ℕ → ℕ → Type 0
 LimitedIn lay log n = Every (Limited lay) (pairsOf log n)
 
 -- a step records nothing, an order within its ceiling, or a reading
-pub apply-limited : (lay : Layout) (rd : List ℕ) (e : Effect) (s : State) → Room (length (s .log) - 2 * s .pairs) (length rd - s .used) e → LimitedIn lay (s .log) (s .pairs) → let t = applyOf (lay .ceilings) rd e s in LimitedIn lay (t .log) (t .pairs)
+pub apply-limited : (lay : Layout) (rd : List ℕ) (e : Effect) (s : State) → Room (length (s .log) - 2 * s .pairs) (length rd - s .used) e
+    → LimitedIn lay (s .log) (s .pairs) → let t = applyOf (lay .ceilings) rd e s in LimitedIn lay (t .log) (t .pairs)
 unfolding applyOf
 apply-limited lay rd (Go to) s r h = h
 apply-limited lay rd (SetReg d x) s r h = h
@@ -34,7 +35,8 @@ apply-limited lay rd (Order v) s r h =
     subst (Every (Limited lay)) (sym (pairs-more (s .log) (s .pairs) v x (omega arith))) (every-append (Limited lay) (pairsOf (s .log) (s .pairs)) (pairOf v x ∷ []) h ((λ _. omega arith), tt))
 apply-limited lay rd (Probe v) s r h =
     let x = getD rd (s .used) 0 in
-    subst (Every (Limited lay)) (sym (pairs-more (s .log) (s .pairs) v x (omega (arith, r .0)))) (every-append (Limited lay) (pairsOf (s .log) (s .pairs)) (pairOf v x ∷ []) h ((λ l. absurd (omega (arith, r .2))), tt))
+    subst (Every (Limited lay)) (sym (pairs-more (s .log) (s .pairs) v x (omega (arith, r .0))))
+    (every-append (Limited lay) (pairsOf (s .log) (s .pairs)) (pairOf v x ∷ []) h ((λ l. absurd (omega (arith, r .2))), tt))
 apply-limited lay rd (End t) s r h = h
 apply-limited lay rd (Wait e) s r h = h
 

@@ -20,7 +20,8 @@ use Rattle.spec.specs.Policies.{Policy, entryRight, entriesRight, rightP
 use Rattle.spec.specs.Landings.{rightLandings, landingsOf}
 use Rattle.spec.specs.Words.{kindOf, refusalAt, instrOf, routine, bundlesFor}
 use Rattle.spec.specs.Commands.{commandOf, wordOf, fetchOf}
-use Rattle.spec.specs.Bundles.{shapeOf, bundlesFrom, commandsOf, commandCount, baseRight, baseRoomAnswer, rewriteAnswer, valid, decodeBundle, bundleAt, isBundle, shapedAt, passesAt, checkFrom, countRight, checkAnswer}
+use Rattle.spec.specs.Bundles.{shapeOf, bundlesFrom, commandsOf, commandCount, baseRight, baseRoomAnswer, rewriteAnswer, valid, decodeBundle}
+use Rattle.spec.specs.Bundles.{bundleAt, isBundle, shapedAt, passesAt, checkFrom, countRight, checkAnswer}
 use Rattle.spec.specs.Claims.{Placed, SizeLaws, Installs}
 use Rattle.spec.specs.Machines.{fits, installAnswer, installMemory, installMachine}
 use Rattle.types.specs.Records.{machineAt}
@@ -130,8 +131,17 @@ valid-is n (PLAIN k d a b v) t =
     let t₃ = both _ _ (t₄ .0) in
     let t₂ = both _ _ (t₃ .0) in
     let t₁ = both _ _ (t₂ .0) in
-    let t₀ = both _ _ (t₁ .0) in
-    (leb-true _ _ (t₀ .0), leb-true _ _ (t₀ .1), ltb-true _ _ (t₁ .1), ltb-true _ _ (t₂ .1), ltb-true _ _ (t₃ .1), leb-true _ _ (t₄ .1), leb-true _ _ (t₅ .1), leb-true _ _ (t₆ .1), leb-true _ _ (t₇ .1))
+    let t₀ = both _ _ (t₁ .0) in (
+      leb-true _ _ (t₀ .0),
+      leb-true _ _ (t₀ .1),
+      ltb-true _ _ (t₁ .1),
+      ltb-true _ _ (t₂ .1),
+      ltb-true _ _ (t₃ .1),
+      leb-true _ _ (t₄ .1),
+      leb-true _ _ (t₅ .1),
+      leb-true _ _ (t₆ .1),
+      leb-true _ _ (t₇ .1),
+    )
 valid-is n (LOAD d a) t = let t₀ = both _ _ t in (ltb-true _ _ (t₀ .0), ltb-true _ _ (t₀ .1))
 valid-is n (STORE a b) t = let t₀ = both _ _ t in (ltb-true _ _ (t₀ .0), ltb-true _ _ (t₀ .1))
 valid-is n (GOIF a b c v) t =
@@ -158,7 +168,8 @@ fetched ws base h p l =
     let at : base + 4 * h + p - base ≡ 4 * h + p = omega arith in
     rw (le-leb base (base + 4 * h + p) (omega arith), at, lt-ltb (4 * h + p) (length ws) l)
 
-pub bundle-parts : (lay : Layout) (n : ℕ) (i : Instr) (w x y z : ℕ) → isBundle lay n i w x y z ≡ true → Valid n i × (w ≡ wordOf (shapeOf lay n i 0)) × (x ≡ wordOf (shapeOf lay n i 1)) × (y ≡ wordOf (shapeOf lay n i 2)) × (z ≡ wordOf (shapeOf lay n i 3))
+pub bundle-parts : (lay : Layout) (n : ℕ) (i : Instr) (w x y z : ℕ) → isBundle lay n i w x y z ≡ true → Valid n i × (w ≡ wordOf (shapeOf lay n i 0))
+    × (x ≡ wordOf (shapeOf lay n i 1)) × (y ≡ wordOf (shapeOf lay n i 2)) × (z ≡ wordOf (shapeOf lay n i 3))
 unfolding isBundle
 bundle-parts lay n i w x y z t =
     let t₃ = both _ _ t in
@@ -168,7 +179,8 @@ bundle-parts lay n i w x y z t =
     (valid-is n i (t₀ .0), eqb-true _ _ (t₀ .1), eqb-true _ _ (t₁ .1), eqb-true _ _ (t₂ .1), eqb-true _ _ (t₃ .1))
 
 -- four words, by position
-pub four-words : (ws : List ℕ) (at : ℕ) (word : ℕ → ℕ) → getD ws at 0 ≡ word 0 → getD ws (at + 1) 0 ≡ word 1 → getD ws (at + 2) 0 ≡ word 2 → getD ws (at + 3) 0 ≡ word 3 → (p : ℕ) → p < bundleLength → getD ws (at + p) 0 ≡ word p
+pub four-words : (ws : List ℕ) (at : ℕ) (word : ℕ → ℕ) → getD ws at 0 ≡ word 0 → getD ws (at + 1) 0 ≡ word 1 → getD ws (at + 2) 0 ≡ word 2
+    → getD ws (at + 3) 0 ≡ word 3 → (p : ℕ) → p < bundleLength → getD ws (at + p) 0 ≡ word p
 four-words ws at word a b c d zero l = let z : at + 0 ≡ at = omega arith in rw z a
 four-words ws at word a b c d (suc zero) l = b
 four-words ws at word a b c d (suc (suc zero)) l = c
@@ -287,7 +299,8 @@ laid-of lay pol mem e =
                 λ i h.
                 sets-beside marks mid (lay .landings) (lay .table + i) (⊎-elim (λ x. inl (omega arith)) (λ x. inr (omega (arith, wide))) (f .table-landings))
                 ∙ sets-at (pol .table) start (lay .table) i noArrow (omega (arith, p .size, p .states, f .table)) (omega (arith, p .size, p .states));
-            marks = marks-of (sets mid (lay .landings) marks) (pol .landings) (lay .landings) (λ k h. sets-at marks mid (lay .landings) k 0 (omega (arith, wide, same, f .landings)) (omega (arith, wide)));
+            marks = marks-of (sets mid (lay .landings) marks) (pol .landings) (lay .landings)
+                (λ k h. sets-at marks mid (lay .landings) k 0 (omega (arith, wide, same, f .landings)) (omega (arith, wide)));
           };
       cell =
           sets-beside marks mid (lay .landings) (lay .cell) (⊎-elim (λ h. inl h) (λ h. inr (omega (arith, wide))) (f .cell-landings))
@@ -462,7 +475,8 @@ module _ (lay : Layout) (code : List ℕ) (taken : Taken lay code) where
 pub bundled-routine : (lay : Layout) (code : List ℕ) (room : ℕ) → rewriteAnswer lay code room .number ≡ 0 → Bundled lay (commandsOf lay code) (bundlesFor (length code)) (routine code)
 bundled-routine lay code room e = routine-bundled lay code (taken-of lay code room e)
 
-pub right-routine : (lay : Layout) (pol : Policy) (code mem : List ℕ) (room : ℕ) → rewriteAnswer lay code room .number ≡ 0 → installAnswer lay pol mem .number ≡ 0 → Right lay pol (bundlesFor (length code))
+pub right-routine : (lay : Layout) (pol : Policy) (code mem : List ℕ) (room : ℕ) → rewriteAnswer lay code room .number ≡ 0
+    → installAnswer lay pol mem .number ≡ 0 → Right lay pol (bundlesFor (length code))
 right-routine lay pol code mem room r e =
     let t = taken-of lay code room r in
     right-facts lay pol _ (t .right) (fits-of lay pol mem e .1) (size-laws lay code t .power) (count-most lay code t) (t .base)

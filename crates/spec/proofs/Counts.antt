@@ -249,7 +249,8 @@ pair-rest l log n e x h i m =
     getD-set-other (set log (2 * n) e) (2 * n + 1) i x 0 (λ z. omega arith) ∙ getD-set-other log (2 * n) i e 0 (λ z. omega arith) ∙ h i (omega arith)
 
 -- one step adds at most one
-pub step-counts : (caps l : List ℕ) (p u : ℕ) (rd : List ℕ) (e : Effect) (s : State) → Counted l rd p u s → Room (length (s .log) - 2 * s .pairs) (length rd - s .used) e → Counted l rd (p + 1) (u + 1) (applyOf caps rd e s)
+pub step-counts : (caps l : List ℕ) (p u : ℕ) (rd : List ℕ) (e : Effect) (s : State) → Counted l rd p u s
+    → Room (length (s .log) - 2 * s .pairs) (length rd - s .used) e → Counted l rd (p + 1) (u + 1) (applyOf caps rd e s)
 unfolding applyOf
 step-counts caps l p u rd (Go to) s b r = record { log = b .log; pairs = omega arith; used = omega arith; drawn = b .drawn; room = b .room; rest = b .rest }
 step-counts caps l p u rd (SetReg d x) s b r = record { log = b .log; pairs = omega arith; used = omega arith; drawn = b .drawn; room = b .room; rest = b .rest }

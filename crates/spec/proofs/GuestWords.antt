@@ -37,7 +37,8 @@ abbrev fields : ℕ → ℕ → ℕ → ℕ → ℕ → ℕ → Fields
 fields k d a b c v = record { kind = k; d = d; a = a; b = b; c = c; v = v }
 
 -- the tables of a guest's plain kinds and of the commands that they become agree
-plain-limits : (k d a b c v : ℕ) → InLimits (guestLimits k) (fields k d a b c v) → k < guest .load → (d ≤ limitsOf (k + plainStep) .d) × (a ≤ limitsOf (k + plainStep) .a) × (b ≤ limitsOf (k + plainStep) .b) × (v ≤ limitsOf (k + plainStep) .v)
+plain-limits : (k d a b c v : ℕ) → InLimits (guestLimits k) (fields k d a b c v) → k < guest .load → (d ≤ limitsOf (k + plainStep) .d)
+    × (a ≤ limitsOf (k + plainStep) .a) × (b ≤ limitsOf (k + plainStep) .b) × (v ≤ limitsOf (k + plainStep) .v)
 unfolding all
 plain-limits k d a b c v g h = (up (λ l. l .d) refl d (g .d), up (λ l. l .a) refl a (g .a), up (λ l. l .b) refl b (g .b), up (λ l. l .v) refl v (g .v))
   where
@@ -118,12 +119,23 @@ pack-judged n k d a b c v h g =
     (rw j (lands n k v (g .2)))
 
 -- the plain kinds
-plain-fine : (n k d a b v : ℕ) → k ≤ guest .sar → d < guestRegisters → a < guestRegisters → b < guestRegisters → d ≤ limitsOf (k + plainStep) .d → a ≤ limitsOf (k + plainStep) .a → b ≤ limitsOf (k + plainStep) .b → v ≤ limitsOf (k + plainStep) .v → Fine n k d a b 0 v
+plain-fine : (n k d a b v : ℕ) → k ≤ guest .sar → d < guestRegisters → a < guestRegisters → b < guestRegisters → d ≤ limitsOf (k + plainStep) .d
+    → a ≤ limitsOf (k + plainStep) .a → b ≤ limitsOf (k + plainStep) .b → v ≤ limitsOf (k + plainStep) .v → Fine n k d a b 0 v
 unfolding all
-plain-fine n k d a b v h hd ha hb ld la lb lv =
-    (omega arith, (down (λ l. l .d) refl d hd ld, down (λ l. l .a) refl a ha la, down (λ l. l .b) refl b hb lb, zero-le, raised (λ k. limitsOf (k + plainStep) .v) (λ k. guestLimits k .v) (guest .load) refl k v (omega arith) lv), λ e. omega arith)
+plain-fine n k d a b v h hd ha hb ld la lb lv = (
+  omega arith,
+  (
+    down (λ l. l .d) refl d hd ld,
+    down (λ l. l .a) refl a ha la,
+    down (λ l. l .b) refl b hb lb,
+    zero-le,
+    raised (λ k. limitsOf (k + plainStep) .v) (λ k. guestLimits k .v) (guest .load) refl k v (omega arith) lv,
+  ),
+  λ e. omega arith,
+)
   where
-    down : (f : Limits → ℕ) → all (λ k. leb topGuest (f (guestLimits k)) || leb (f (limitsOf (k + plainStep))) (f (guestLimits k))) (guest .load) ≡ true → (x : ℕ) → x < guestRegisters → x ≤ f (limitsOf (k + plainStep)) → x ≤ f (guestLimits k)
+    down : (f : Limits → ℕ) → all (λ k. leb topGuest (f (guestLimits k)) || leb (f (limitsOf (k + plainStep))) (f (guestLimits k))) (guest .load) ≡ true
+        → (x : ℕ) → x < guestRegisters → x ≤ f (limitsOf (k + plainStep)) → x ≤ f (guestLimits k)
     down f e x m l =
         ⊎-elim (λ t. let u : topGuest ≤ f (guestLimits k) = leb-true _ _ t in omega arith) (λ t. let u : f (limitsOf (k + plainStep)) ≤ f (guestLimits k) = leb-true _ _ t in omega arith)
         (either _ _ (each (λ k. leb topGuest (f (guestLimits k)) || leb (f (limitsOf (k + plainStep))) (f (guestLimits k))) k (guest .load) e (omega arith)))

@@ -29,7 +29,8 @@ use Rattle.spec.proofs.RunSimulation.{recorded as recorded-runs, stays-
 use Rattle.spec.proofs.Noninterference.{noninterference}
 
 -- the simulation holds of an installation that answered 0
-at-first : (lay : Layout) (pol : Policy) (ws mem : List ℕ) (n : ℕ) (is : ℕ → Instr) → Right lay pol n → Bundled lay ws n is → installAnswer lay pol mem .number ≡ 0 → SessionInvariant lay pol n is (guestStart lay pol (installMemory lay pol mem)) (initialSession lay pol mem)
+at-first : (lay : Layout) (pol : Policy) (ws mem : List ℕ) (n : ℕ) (is : ℕ → Instr) → Right lay pol n → Bundled lay ws n is
+    → installAnswer lay pol mem .number ≡ 0 → SessionInvariant lay pol n is (guestStart lay pol (installMemory lay pol mem)) (initialSession lay pol mem)
 at-first lay pol ws mem n is ok bs z =
     subst (λ (m : Machine). SessionInvariant lay pol n is (guestStart lay pol (installMemory lay pol mem)) (sessionOf m (installMemory lay pol mem) [] [] 0)) (sym (machine-of lay pol mem z))
     (install lay pol ws n is ok bs (installMemory lay pol mem) (laid-of lay pol mem z))
@@ -43,7 +44,8 @@ pub record SimulatedRuns (lay : Layout) (pol : Policy) (ws mem : List ℕ) (gs :
   pub first : SessionInvariant lay pol n is (guestStart lay pol (installMemory lay pol mem)) (initialSession lay pol mem)
   pub last : SessionInvariant lay pol n is (guestStart lay pol (installMemory lay pol mem)) (after lay pol ws mem gs)
 
-simulated : (lay : Layout) (pol : Policy) (ws mem : List ℕ) (gs : List RunInput) (n : ℕ) (is : ℕ → Instr) → Right lay pol n → Bundled lay ws n is → ((h : ℕ) → h < n → bundleAt lay ws h ≡ is h) → HostPremise lay pol ws mem gs → SimulatedRuns lay pol ws mem gs n is
+simulated : (lay : Layout) (pol : Policy) (ws mem : List ℕ) (gs : List RunInput) (n : ℕ) (is : ℕ → Instr) → Right lay pol n → Bundled lay ws n is
+    → ((h : ℕ) → h < n → bundleAt lay ws h ≡ is h) → HostPremise lay pol ws mem gs → SimulatedRuns lay pol ws mem gs n is
 simulated lay pol ws mem gs n is ok bs read v =
     let w = at-first lay pol ws mem n is ok bs (v .installed) in
     record { right = ok; bundled = bs; read = read; first = w; last = stays-runs lay pol ws n is ok bs _ (initialSession lay pol mem) gs (v .preserved) w }
@@ -52,7 +54,8 @@ simulated lay pol ws mem gs n is ok bs read v =
 pub list-simulated : (lay : Layout) (pol : Policy) (ws mem : List ℕ) (gs : List RunInput) → HostPremise lay pol ws mem gs → SimulatedRuns lay pol ws mem gs (length ws / bundleLength) (bundleAt lay ws)
 list-simulated lay pol ws mem gs v = simulated lay pol ws mem gs _ _ (right-of lay pol ws mem (v .passed) (v .installed)) (bundled-of lay ws (v .passed)) (λ h l. refl) v
 
-pub routine-simulated : (lay : Layout) (pol : Policy) (code mem : List ℕ) (room : ℕ) (gs : List RunInput) → rewriteAnswer lay code room .number ≡ 0 → HostPremise lay pol (commandsOf lay code) mem gs → SimulatedRuns lay pol (commandsOf lay code) mem gs (bundlesFor (length code)) (routine code)
+pub routine-simulated : (lay : Layout) (pol : Policy) (code mem : List ℕ) (room : ℕ) (gs : List RunInput) → rewriteAnswer lay code room .number ≡ 0
+    → HostPremise lay pol (commandsOf lay code) mem gs → SimulatedRuns lay pol (commandsOf lay code) mem gs (bundlesFor (length code)) (routine code)
 routine-simulated lay pol code mem room gs z v =
     let t = taken-of lay code room z in
     simulated lay pol (commandsOf lay code) mem gs _ _ (right-routine lay pol code mem room z (v .installed)) (bundled-routine lay code room z)

@@ -17,7 +17,8 @@ every-append P [] ys a b = b
 every-append P (x ∷ xs) ys a b = (a .0, every-append P xs ys (a .1) b)
 
 -- a run that counts its pairs and readings, and leaves memory as it should
-pub kept-by : {O : Type 0} (lay : Layout) (r : Run O) (n k : ℕ) → Tally (r .input .log) (r .input .readings) n k (r .pairs) (r .used) (r .result .log) → length (r .result .mem) ≡ length (r .input .memory)
+pub kept-by : {O : Type 0} (lay : Layout) (r : Run O) (n k : ℕ) → Tally (r .input .log) (r .input .readings) n k (r .pairs) (r .used) (r .result .log)
+    → length (r .result .mem) ≡ length (r .input .memory)
     → ((i : ℕ) → inBox lay i ≡ false → (i ≡ lay .cell → ⊥) → getD (r .result .mem) i 0 ≡ getD (r .input .memory) i 0) → FrameCondition lay r
 kept-by lay r n k t size cells =
     record { size = size; cells = cells; counted = omega (arith, t .room, t .log); drawn = t .drawn; logSize = t .log; logRest = t .rest }
@@ -57,26 +58,30 @@ module _ {C : Type 0} (on : C → RunInput → C) where
       stays-all c [] l w = w
       stays-all c (g ∷ gs) l w = stays-all (on c g) gs (l .1) (keeps c g (l .0) w)
 
-      pub lasts-all : {A : Type 0} (of : C → A) → ((c : C) (g : RunInput) → MemoryPreserved lay (memory c) g → S c → of (on c g) ≡ of c) → (c : C) (gs : List RunInput) → AllPreserved c gs → S c → of (afterAll on c gs) ≡ of c
+      pub lasts-all : {A : Type 0} (of : C → A) → ((c : C) (g : RunInput) → MemoryPreserved lay (memory c) g → S c → of (on c g) ≡ of c)
+          → (c : C) (gs : List RunInput) → AllPreserved c gs → S c → of (afterAll on c gs) ≡ of c
       unfolding eachRun afterAll
       lasts-all of each c [] l w = refl
       lasts-all of each c (g ∷ gs) l w = lasts-all of each (on c g) gs (l .1) (keeps c g (l .0) w) ∙ each c g (l .0) w
 
-      pub every-run : {R : Type 0} (run : C → RunInput → R) (P : R → Type 0) → ((c : C) (g : RunInput) → MemoryPreserved lay (memory c) g → S c → P (run c g)) → (c : C) (gs : List RunInput) → AllPreserved c gs → S c → Every P (eachRun run on c gs)
+      pub every-run : {R : Type 0} (run : C → RunInput → R) (P : R → Type 0) → ((c : C) (g : RunInput) → MemoryPreserved lay (memory c) g → S c → P (run c g))
+          → (c : C) (gs : List RunInput) → AllPreserved c gs → S c → Every P (eachRun run on c gs)
       unfolding eachRun
       every-run run P each c [] l w = tt
       every-run run P each c (g ∷ gs) l w = (each c g (l .0) w, every-run run P each (on c g) gs (l .1) (keeps c g (l .0) w))
 
 -- ---- the pairs that the runs' answers count
 module _ {C O : Type 0} (run : C → RunInput → Run O) (on : C → RunInput → C) where
-  pub recorded-all : (records : C → List Pair) → ((c : C) (g : RunInput) → records (on c g) ≡ records c ++ pairsOf (run c g .result .log) (run c g .pairs)) → (c : C) (gs : List RunInput) → records (afterAll on c gs) ≡ records c ++ recordedIn (eachRun run on c gs)
+  pub recorded-all : (records : C → List Pair) → ((c : C) (g : RunInput) → records (on c g) ≡ records c ++ pairsOf (run c g .result .log) (run c g .pairs))
+      → (c : C) (gs : List RunInput) → records (afterAll on c gs) ≡ records c ++ recordedIn (eachRun run on c gs)
   unfolding afterAll eachRun
   recorded-all records each c [] = sym (append-nil (records c))
   recorded-all records each c (g ∷ gs) =
       let rest = recordedIn (eachRun run on (on c g) gs) in
       recorded-all records each (on c g) gs ∙ ap (λ (ps : List Pair). ps ++ rest) (each c g) ∙ append-assoc (records c) _ rest
 
-  pub recorded-every : (P : Pair → Type 0) → ((c : C) (g : RunInput) → Every P (pairsOf (run c g .result .log) (run c g .pairs))) → (c : C) (gs : List RunInput) → Every P (recordedIn (eachRun run on c gs))
+  pub recorded-every : (P : Pair → Type 0) → ((c : C) (g : RunInput) → Every P (pairsOf (run c g .result .log) (run c g .pairs)))
+      → (c : C) (gs : List RunInput) → Every P (recordedIn (eachRun run on c gs))
   unfolding eachRun
   recorded-every P each c [] = tt
   recorded-every P each c (g ∷ gs) = every-append P (pairsOf (run c g .result .log) (run c g .pairs)) (recordedIn (eachRun run on (on c g) gs)) (each c g) (recorded-every P each (on c g) gs)

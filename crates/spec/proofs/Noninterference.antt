@@ -69,13 +69,16 @@ set-alike l l′ a i v n k =
     getD-set-other l a i v 0 q ∙ k q ∙ sym (getD-set-other l′ a i v 0 q))
     (cases (eqb i a))
 
-pub pair-alike : (log log′ : List ℕ) (n e x i : ℕ) → length log ≡ length log′ → ((j : ℕ) → j < 2 * n → getD log j 0 ≡ getD log′ j 0) → i < 2 * (n + 1) → getD (withPair log n e x) i 0 ≡ getD (withPair log′ n e x) i 0
+pub pair-alike : (log log′ : List ℕ) (n e x i : ℕ) → length log ≡ length log′ → ((j : ℕ) → j < 2 * n → getD log j 0 ≡ getD log′ j 0) → i < 2 * (n + 1)
+    → getD (withPair log n e x) i 0 ≡ getD (withPair log′ n e x) i 0
 pair-alike log log′ n e x i l h m =
     set-alike (set log (2 * n) e) (set log′ (2 * n) e) (2 * n + 1) i x (simp length-set l)
     (λ p. set-alike log log′ (2 * n) i e l (λ q. h i (omega arith)))
 
 -- one more pair in both logs, whatever becomes of registers, pc and readings used
-logs-alike : (lay : Layout) (s : State) (mem log regs : List ℕ) (pc used e x : ℕ) → LowEqualState lay s (besides s mem log) → LowEqualState lay (stateOf regs pc (s .status) (s .mem) (withPair (s .log) (s .pairs) e x) (s .pairs + 1) used) (stateOf regs pc (s .status) mem (withPair log (s .pairs) e x) (s .pairs + 1) used)
+logs-alike : (lay : Layout) (s : State) (mem log regs : List ℕ) (pc used e x : ℕ) → LowEqualState lay s (besides s mem log)
+    → LowEqualState lay (stateOf regs pc (s .status) (s .mem) (withPair (s .log) (s .pairs) e x) (s .pairs + 1) used)
+    (stateOf regs pc (s .status) mem (withPair log (s .pairs) e x) (s .pairs + 1) used)
 logs-alike lay s mem log regs pc used e x t =
     record {
       same = refl;
@@ -86,7 +89,8 @@ logs-alike lay s mem log regs pc used e x t =
     }
 
 -- the same effect keeps two states low-equivalent
-pub apply-alike : (lay : Layout) (rd : List ℕ) (e : Effect) (s : State) (mem log : List ℕ) → LowEqualState lay s (besides s mem log) → LowEqualState lay (applyOf (lay .ceilings) rd e s) (applyOf (lay .ceilings) rd e (besides s mem log))
+pub apply-alike : (lay : Layout) (rd : List ℕ) (e : Effect) (s : State) (mem log : List ℕ) → LowEqualState lay s (besides s mem log)
+    → LowEqualState lay (applyOf (lay .ceilings) rd e s) (applyOf (lay .ceilings) rd e (besides s mem log))
 unfolding applyOf
 apply-alike lay rd (Go to) s mem log t = record { same = refl; lowEqual = t .lowEqual; size = t .size; long = t .long; logged = t .logged }
 apply-alike lay rd (SetReg d x) s mem log t = record { same = refl; lowEqual = t .lowEqual; size = t .size; long = t .long; logged = t .logged }
@@ -133,7 +137,9 @@ lands-alike lay mem mem′ to m = by (leb (lay .base) to && eqb ((to - lay .base
     by true false e = refl
     by false t e = refl
 
-effect-alike : (lay : Layout) (c : Command) (regs mem mem′ : List ℕ) (pc free left : ℕ) → length mem ≡ length mem′ → LowEqual lay mem mem′ → Safe lay c regs mem → effectOf c (viewOf regs pc mem′ (lay .cell) (lay .table) (lay .base) (lay .landings) free left) ≡ effectOf c (viewOf regs pc mem (lay .cell) (lay .table) (lay .base) (lay .landings) free left)
+effect-alike : (lay : Layout) (c : Command) (regs mem mem′ : List ℕ) (pc free left : ℕ) → length mem ≡ length mem′ → LowEqual lay mem mem′
+    → Safe lay c regs mem → effectOf c (viewOf regs pc mem′ (lay .cell) (lay .table) (lay .base) (lay .landings) free left)
+    ≡ effectOf c (viewOf regs pc mem (lay .cell) (lay .table) (lay .base) (lay .landings) free left)
 unfolding effectOf
 effect-alike lay Nop regs mem mem′ pc free left n m f = refl
 effect-alike lay Halt regs mem mem′ pc free left n m f = refl
@@ -152,7 +158,8 @@ effect-alike lay (Keep d) regs mem mem′ pc free left n m f = rw (← n)
 effect-alike lay (Event v) regs mem mem′ pc free left n m f = refl
 effect-alike lay Invalid regs mem mem′ pc free left n m f = refl
 
-next-alike : (lay : Layout) (ws rd : List ℕ) (s : State) (mem log : List ℕ) → LowEqualState lay s (besides s mem log) → Safe lay (fetchOf ws (lay .base) (s .pc)) (s .regs) (s .mem) → nextOf lay ws rd (besides s mem log) ≡ nextOf lay ws rd s
+next-alike : (lay : Layout) (ws rd : List ℕ) (s : State) (mem log : List ℕ) → LowEqualState lay s (besides s mem log)
+    → Safe lay (fetchOf ws (lay .base) (s .pc)) (s .regs) (s .mem) → nextOf lay ws rd (besides s mem log) ≡ nextOf lay ws rd s
 next-alike lay ws rd s mem log t f =
     rw (← t .long) (effect-alike lay (fetchOf ws (lay .base) (s .pc)) (s .regs) (s .mem) mem (s .pc) _ _ (t .size) (t .lowEqual) f)
 
@@ -175,7 +182,11 @@ module _ {R : Type 0} (a : Loop ℕ R) (lay : Layout) (In : State → Type 0)
       → (n k : ℕ) (s : State) (mem log : List ℕ) → In s → LowEqualState lay s (besides s mem log) → Q (a .from n k s) (a .from n k (besides s mem log))
   loop-alike Q ends n k s mem log i w =
       alikes a (λ s t. In s × LowEqualState lay s t) Q (λ s t x. ap (λ (y : State). y .status) (x .1 .same)) same-next
-      (λ s t x r g. (step s (x .0) r g, subst (LowEqualState lay (stepIn a s)) (ap (λ (e : Effect). a .act e (paired s t)) (sym (same-next s t x r)) ∙ ap (a .act (a .next t)) (sym (x .1 .same))) (acts s (t .mem) (t .log) (x .0) r (besides-low-equal s t (x .1)))))
+      (λ s t x r g. (
+        step s (x .0) r g,
+        subst (LowEqualState lay (stepIn a s)) (ap (λ (e : Effect). a .act e (paired s t)) (sym (same-next s t x r))
+            ∙ ap (a .act (a .next t)) (sym (x .1 .same))) (acts s (t .mem) (t .log) (x .0) r (besides-low-equal s t (x .1))),
+      ))
       (λ k s t x. one t k ∙ sym (one s k))
       (λ e k s t x. subst (λ (y : State). Q (a .ends e k s) (a .ends e k y)) (sym (x .1 .same)) (ends e k s (t .mem) (t .log) (besides-low-equal s t (x .1)))) n k s (besides s mem log) (i, w)
     where
@@ -195,7 +206,9 @@ pub record SameResults {O : Type 0} (lay : Layout) (pairs : O → ℕ) (r r′ :
   pub lowEqual : LowEqual lay (r .mem) (r′ .mem)
 
 -- two runs given alike start low-equivalent
-pub starts-alike : (lay : Layout) (regs : List ℕ) (pc : ℕ) (t : Status) (mem mem′ : List ℕ) (g g′ : RunInput) → length (g .memory) ≡ lay .size → SameInputs g g′ → MemoryPreserved lay mem g → MemoryPreserved lay mem′ g′ → LowEqual lay mem mem′ → LowEqualState lay (stateOf regs pc t (g .memory) (g .log) 0 0) (stateOf regs pc t (g′ .memory) (g′ .log) 0 0)
+pub starts-alike : (lay : Layout) (regs : List ℕ) (pc : ℕ) (t : Status) (mem mem′ : List ℕ) (g g′ : RunInput) → length (g .memory) ≡ lay .size
+    → SameInputs g g′ → MemoryPreserved lay mem g → MemoryPreserved lay mem′ g′ → LowEqual lay mem mem′
+    → LowEqualState lay (stateOf regs pc t (g .memory) (g .log) 0 0) (stateOf regs pc t (g′ .memory) (g′ .log) 0 0)
 starts-alike lay regs pc t mem mem′ g g′ l a lent lent′ m =
     record {
       same = refl;
@@ -216,8 +229,10 @@ pub record SameAfter {M O : Type 0} (lay : Layout) (m m′ : M) (r r′ : Run O)
 module _ {C M O : Type 0} (lay : Layout) (of : C → M) (memory : C → List ℕ) (run : C → RunInput → Run O) (on : C → RunInput → C) (Out : C → Type 0)
     (left : (c : C) (g : RunInput) → run c g .memory ≡ memory (on c g))
     (stays : (c : C) (g : RunInput) → MemoryPreserved lay (memory c) g → Out c → Out (on c g))
-    (each : (c c′ : C) (g g′ : RunInput) → SameInputs g g′ → MemoryPreserved lay (memory c) g → MemoryPreserved lay (memory c′) g′ → Out c → of c ≡ of c′ → LowEqual lay (memory c) (memory c′) → SameAfter lay (of (on c g)) (of (on c′ g′)) (run c g) (run c′ g′)) where
-  pub runs-alike : (c c′ : C) (gs gs′ : List RunInput) → Pairwise SameInputs gs gs′ → AllPreserved on lay memory c gs → AllPreserved on lay memory c′ gs′ → Out c → of c ≡ of c′ → LowEqual lay (memory c) (memory c′) → Pairwise (SameObservations lay) (eachRun run on c gs) (eachRun run on c′ gs′)
+    (each : (c c′ : C) (g g′ : RunInput) → SameInputs g g′ → MemoryPreserved lay (memory c) g → MemoryPreserved lay (memory c′) g′ → Out c → of c ≡ of c′
+    → LowEqual lay (memory c) (memory c′) → SameAfter lay (of (on c g)) (of (on c′ g′)) (run c g) (run c′ g′)) where
+  pub runs-alike : (c c′ : C) (gs gs′ : List RunInput) → Pairwise SameInputs gs gs′ → AllPreserved on lay memory c gs → AllPreserved on lay memory c′ gs′
+      → Out c → of c ≡ of c′ → LowEqual lay (memory c) (memory c′) → Pairwise (SameObservations lay) (eachRun run on c gs) (eachRun run on c′ gs′)
   unfolding eachRun
   runs-alike c c′ [] [] a l l′ w e m = tt
   runs-alike c c′ [] (g′ ∷ gs′) a l l′ w e m = absurd a
@@ -244,19 +259,22 @@ abbrev pairsIn : Outcome → ℕ
 pairsIn o = o .answer .pairs
 
 module _ (lay : Layout) (ws : List ℕ) (In : List ℕ → State → Type 0) (Out : Session → Type 0) (known : Invariant lay ws In Out) where
-  run-alike : (rd : List ℕ) (n k : ℕ) (s : State) (mem log : List ℕ) → In rd s → LowEqualState lay s (besides s mem log) → SameResults lay pairsIn (runFrom lay ws rd n k s) (runFrom lay ws rd n k (besides s mem log))
+  run-alike : (rd : List ℕ) (n k : ℕ) (s : State) (mem log : List ℕ) → In rd s → LowEqualState lay s (besides s mem log)
+      → SameResults lay pairsIn (runFrom lay ws rd n k s) (runFrom lay ws rd n k (besides s mem log))
   run-alike rd n k s mem log w t =
       loop-alike (machineLoop lay ws rd) lay (In rd) (λ s k. refl) (λ s mem log i r w. next-alike lay ws rd s mem log w (known .safe rd s i r))
       (λ s mem log i r w. apply-alike lay rd (nextOf lay ws rd s) s mem log w) (known .step rd) (SameResults lay pairsIn)
       (λ e k s mem log w. record { outcome = refl; logged = pairs-alike (s .log) log (s .pairs) (w .logged); lowEqual = w .lowEqual }) n k s mem log w t
 
-  nextPc : (c c′ : Session) (g g′ : RunInput) (b : Bool) → fits lay (g .memory) ≡ b → SameInputs g g′ → MemoryPreserved lay (c .memory) g → MemoryPreserved lay (c′ .memory) g′ → Out c → c .machine ≡ c′ .machine → LowEqual lay (c .memory) (c′ .memory)
+  nextPc : (c c′ : Session) (g g′ : RunInput) (b : Bool) → fits lay (g .memory) ≡ b → SameInputs g g′ → MemoryPreserved lay (c .memory) g
+      → MemoryPreserved lay (c′ .memory) g′ → Out c → c .machine ≡ c′ .machine → LowEqual lay (c .memory) (c′ .memory)
       → SameAfter lay (afterRun lay ws c g .machine) (afterRun lay ws c′ g′ .machine) (runAs lay ws c g) (runAs lay ws c′ g′)
   unfolding runOn runOf afterRun afterTaken
   nextPc c c′ g g′ true f a lent lent′ w e m =
       let f′ : fits lay (g′ .memory) ≡ true = rw (← a .memory) f in
       let l = eqb-true _ _ (both (rightLayout lay) (eqb (length (g .memory)) (lay .size)) f .1) in
-      let r = run-alike (g .readings) (g .budget) 0 (startOf (c .machine) (g .memory) (g .log)) (g′ .memory) (g′ .log) (known .enter c g l lent w) (starts-alike lay _ _ _ (c .memory) (c′ .memory) g g′ l a lent lent′ m) in
+      let r = run-alike (g .readings) (g .budget) 0 (startOf (c .machine) (g .memory) (g .log)) (g′ .memory) (g′ .log) (known .enter c g l lent w)
+      (starts-alike lay _ _ _ (c .memory) (c′ .memory) g g′ l a lent lent′ m) in
       rw (f, f′, ← a .readings, ← a .budget, ← e) (record { outcome = r .outcome; logged = r .logged; from = ap (λ (o : Outcome). o .machine) (r .outcome); lowEqual = r .lowEqual })
   nextPc c c′ g g′ false f a lent lent′ w e m =
       let f′ : fits lay (g′ .memory) ≡ false = rw (← a .memory) f in
@@ -273,7 +291,8 @@ start-safe lay n regs mem (GOIF a b c x) v l = tt
 start-safe lay n regs mem (GOX d a b c) v l = tt
 start-safe lay n regs mem (EVENT e) v l = omega arith
 
-mid-safe : (lay : Layout) (pol : Policy) (n : ℕ) (regs mem : List ℕ) (g : Guest) (h k b : ℕ) (i : Instr) (p : ℕ) → Right lay pol n → Valid n i → g .state < lay .states → MidBundle lay pol n g h k b (getD regs hidden 0) (getD mem (lay .cell) 0) i p → Safe lay (shapeOf lay n i p) regs mem
+mid-safe : (lay : Layout) (pol : Policy) (n : ℕ) (regs mem : List ℕ) (g : Guest) (h k b : ℕ) (i : Instr) (p : ℕ) → Right lay pol n → Valid n i
+    → g .state < lay .states → MidBundle lay pol n g h k b (getD regs hidden 0) (getD mem (lay .cell) 0) i p → Safe lay (shapeOf lay n i p) regs mem
 unfolding shapeOf
 mid-safe lay pol n regs mem g h k b i p ok v l (start at bk q) = start-safe lay n regs mem i v (rw q l)
 mid-safe lay pol n regs mem g h k b i p ok v l (rest low nop lt at bk q) = rw (nop p (omega arith)) tt
@@ -288,7 +307,8 @@ mid-safe lay pol n regs mem g h k b i p ok v l (event1 at bk q e) = tt
 mid-safe lay pol n regs mem g h k b i p ok v l (event2 at bk q e some) = tt
 mid-safe lay pol n regs mem g h k b i p ok v l (event3 es lt at bk e er q) = tt
 
-sim-safe : (lay : Layout) (pol : Policy) (ws : List ℕ) (n : ℕ) (is : ℕ → Instr) (s : State) (g : Guest) (k b : ℕ) → Right lay pol n → Bundled lay ws n is → g .state < lay .states → s .status ≡ Running → InBundle lay pol n is g k b s → Safe lay (fetchOf ws (lay .base) (s .pc)) (s .regs) (s .mem)
+sim-safe : (lay : Layout) (pol : Policy) (ws : List ℕ) (n : ℕ) (is : ℕ → Instr) (s : State) (g : Guest) (k b : ℕ) → Right lay pol n → Bundled lay ws n is
+    → g .state < lay .states → s .status ≡ Running → InBundle lay pol n is g k b s → Safe lay (fetchOf ws (lay .base) (s .pc)) (s .regs) (s .mem)
 sim-safe lay pol ws n is s g k b ok bs l run (over f st h p lh lp si pc q bk) = absurd (f .0 (sym st ∙ run))
 sim-safe lay pol ws n is s g k b ok bs l run (live gg st h p lh lp pc m) =
     let e : fetchOf ws (lay .base) (s .pc) ≡ shapeOf lay n (is h) p = ap (fetchOf ws (lay .base)) pc ∙ bs .each h p lh lp in
@@ -301,7 +321,8 @@ record Within (lay : Layout) (pol : Policy) (n : ℕ) (is : ℕ → Instr) (g0 :
   begun : ℕ
   known : RunInvariant lay pol n is past before rd g0 begun s
 
-invariant-after : (lay : Layout) (pol : Policy) (ws : List ℕ) (n : ℕ) (is : ℕ → Instr) (g0 : Guest) → Right lay pol n → Bundled lay ws n is → Invariant lay ws (Within lay pol n is g0) (SessionInvariant lay pol n is g0)
+invariant-after : (lay : Layout) (pol : Policy) (ws : List ℕ) (n : ℕ) (is : ℕ → Instr) (g0 : Guest) → Right lay pol n → Bundled lay ws n is
+    → Invariant lay ws (Within lay pol n is g0) (SessionInvariant lay pol n is g0)
 invariant-after lay pol ws n is g0 ok bs =
     record {
       safe =
@@ -315,10 +336,15 @@ invariant-after lay pol ws n is g0 ok bs =
       leave = λ c g lent w. stays-run lay pol ws n is ok bs g0 c g _ refl lent w;
     }
 
-pub noninterference : (lay : Layout) (pol : Policy) (ws mem : List ℕ) (gs : List RunInput) (n : ℕ) (is : ℕ → Instr) → Right lay pol n → Bundled lay ws n is → SessionInvariant lay pol n is (guestStart lay pol (installMemory lay pol mem)) (initialSession lay pol mem) → HostPremise lay pol ws mem gs → (pol′ : Policy) (mem′ : List ℕ) (gs′ : List RunInput) → HostPremise lay pol′ ws mem′ gs′ → LowEqual lay (installMemory lay pol mem) (installMemory lay pol′ mem′) → Pairwise SameInputs gs gs′ → Pairwise (SameObservations lay) (allRuns lay pol ws mem gs) (allRuns lay pol′ ws mem′ gs′)
+pub noninterference : (lay : Layout) (pol : Policy) (ws mem : List ℕ) (gs : List RunInput) (n : ℕ) (is : ℕ → Instr) → Right lay pol n → Bundled lay ws n is
+    → SessionInvariant lay pol n is (guestStart lay pol (installMemory lay pol mem)) (initialSession lay pol mem) → HostPremise lay pol ws mem gs
+    → (pol′ : Policy) (mem′ : List ℕ) (gs′ : List RunInput) → HostPremise lay pol′ ws mem′ gs′
+    → LowEqual lay (installMemory lay pol mem) (installMemory lay pol′ mem′) → Pairwise SameInputs gs gs′
+    → Pairwise (SameObservations lay) (allRuns lay pol ws mem gs) (allRuns lay pol′ ws mem′ gs′)
 noninterference lay pol ws mem gs n is ok bs w v pol′ mem′ gs′ v′ m a =
     let g0 = guestStart lay pol (installMemory lay pol mem) in
     let k = invariant-after lay pol ws n is g0 ok bs in
     runs-alike lay (λ c. c .machine) (λ c. c .memory) (runAs lay ws) (afterRun lay ws) (SessionInvariant lay pol n is g0) (λ c g. refl) (k .leave)
-    (λ c c′ g g′. nextPc lay ws (Within lay pol n is g0) (SessionInvariant lay pol n is g0) k c c′ g g′ _ refl) (initialSession lay pol mem) (initialSession lay pol′ mem′) gs gs′ a (v .preserved) (v′ .preserved) w
+    (λ c c′ g g′. nextPc lay ws (Within lay pol n is g0) (SessionInvariant lay pol n is g0) k c c′ g g′ _ refl) (initialSession lay pol mem)
+    (initialSession lay pol′ mem′) gs gs′ a (v .preserved) (v′ .preserved) w
     (machine-of lay pol mem (v .installed) ∙ sym (machine-of lay pol′ mem′ (v′ .installed))) m

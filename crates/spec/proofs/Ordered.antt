@@ -23,7 +23,8 @@ use Rattle.spec.specs.Layouts.{rightLayout}
 use Rattle.spec.specs.Landings.{listed}
 use Rattle.spec.specs.Words.{kindOf, dOf, aOf, bOf, cOf, vOf}
 use Rattle.spec.specs.Commands.{isCommand, named, commandOf, fetchOf, holdsOf}
-use Rattle.spec.specs.Machines.{View, entryFrom, isLanding, eventEffect, effectOf, State, stateOf, applyOf, viewAt, nextOf, endingOf, RunResult, resultIn, finalState, fits, runFrom, startOf, runOf}
+use Rattle.spec.specs.Machines.{View, entryFrom, isLanding, eventEffect, effectOf, State, stateOf, applyOf, viewAt, nextOf, endingOf, RunResult}
+use Rattle.spec.specs.Machines.{resultIn, finalState, fits, runFrom, startOf, runOf}
 use Rattle.spec.specs.Endings.{commandAt, registerAt, cellsUsed, FaultsAt, outside, unknown, beyond, EndsAt, WaitsAt, MachineOrder, OverStays, OnlyWhen, EndsOnlyWhen}
 use Rattle.spec.proofs.Bools.{no, cases, both, or-left, or-right, either, cond-ind}
 use Rattle.spec.proofs.Loops.{Loop, over-from, wait-from, go-from, keeps, runs-compose-at, machineLoop}

@@ -17,7 +17,8 @@ use Rattle.types.specs.declared.Instr.the-variants.{HALT, PLAIN, LOAD, STORE, G
 use Rattle.types.specs.Names.{mostInstructions, mostCommands, bundleLength, bundleShift, hidden, guestRegisters, topCondition, events, guest, command, plainStep, answer}
 use Rattle.spec.specs.Words.{kindOf, refusalAt, instrOf, routine, bundlesFor}
 use Rattle.spec.specs.Commands.{limitsOf, wordOf}
-use Rattle.spec.specs.Bundles.{addressOf, shapeOf, commandsOf, commandCount, baseRoomAnswer, rewriteAnswer, rewriteOutput, valid, decodeBundle, bundleAt, isBundle, shapedAt, passesAt, checkFrom, checkAnswer}
+use Rattle.spec.specs.Bundles.{addressOf, shapeOf, commandsOf, commandCount, baseRoomAnswer, rewriteAnswer, rewriteOutput, valid, decodeBundle}
+use Rattle.spec.specs.Bundles.{bundleAt, isBundle, shapedAt, passesAt, checkFrom, checkAnswer}
 use Rattle.spec.specs.Claims.{Placed, RewriteLeaves, RewrittenPasses, Rewrites, PassedRewrites, PassedDecodes}
 use Rattle.spec.proofs.Facts.{Valid}
 use Rattle.spec.proofs.Bools.{cases}
@@ -26,7 +27,8 @@ use Rattle.spec.proofs.Refusals.{none-refused, output-start}
 use Rattle.spec.proofs.Counts.{length-commands, rewrite-taken as answer-taken}
 use Rattle.spec.proofs.Packing.{InBits, guest-bits, condition-bits, pack-kind, pack-d, pack-a, pack-b, pack-c, pack-v}
 use Rattle.spec.proofs.GuestWords.{guestWord, guest-taken, guest-instr}
-use Rattle.spec.proofs.Conditions.{counted, Passed, passed-of, passed-valid, passed-word, passed-last, Taken, taken-of, past-end, some-ones, size-laws, count-most, routine-valid, routine-last, routine-length, routine-word, bundled-of}
+use Rattle.spec.proofs.Conditions.{counted, Passed, passed-of, passed-valid, passed-word, passed-last, Taken, taken-of, past-end, some-ones}
+use Rattle.spec.proofs.Conditions.{size-laws, count-most, routine-valid, routine-last, routine-length, routine-word, bundled-of}
 
 -- ---- an instruction is read off its bundle
 
@@ -55,7 +57,14 @@ module _ (lay : Layout) (n : ℕ) where
       let l = plain-kind k (g .0) (g .1) in
       let h : InBits (k + plainStep) d a b 0 = (l .in-bits, guest-bits d (g .2), guest-bits a (g .3), guest-bits b (g .4), lit< tt) in
       rw (pack-kind (k + plainStep) d a b 0 v h, pack-d (k + plainStep) d a b 0 v h, pack-a (k + plainStep) d a b 0 v h, pack-b (k + plainStep) d a b 0 v h, pack-v (k + plainStep) d a b 0 v h)
-      (rw (ne-eqb _ (command .halt) (l .no-halt), ne-eqb _ (command .andi) (l .no-andi), ne-eqb _ (command .goif) (l .no-goif), ne-eqb _ (command .shl) (l .no-shl), ne-eqb _ (command .look) (l .no-look), l .back))
+      (rw (
+        ne-eqb _ (command .halt) (l .no-halt),
+        ne-eqb _ (command .andi) (l .no-andi),
+        ne-eqb _ (command .goif) (l .no-goif),
+        ne-eqb _ (command .shl) (l .no-shl),
+        ne-eqb _ (command .look) (l .no-look),
+        l .back,
+      ))
   bundle-back (LOAD d a) g =
       let h : InBits (command .andi) hidden a 0 0 = (lit< tt, lit< tt, guest-bits a (g .1), lit< tt, lit< tt) in
       let j : InBits (command .load) d hidden 0 0 = (lit< tt, guest-bits d (g .0), lit< tt, lit< tt, lit< tt) in
@@ -63,14 +72,32 @@ module _ (lay : Layout) (n : ℕ) where
   bundle-back (STORE a b) g =
       let h : InBits (command .andi) hidden a 0 0 = (lit< tt, lit< tt, guest-bits a (g .0), lit< tt, lit< tt) in
       let j : InBits (command .store) 0 hidden b 0 = (lit< tt, lit< tt, lit< tt, guest-bits b (g .1), lit< tt) in
-      rw (pack-kind (command .andi) hidden a 0 0 (lay .high) h, pack-kind (command .store) 0 hidden b 0 0 j, pack-a (command .andi) hidden a 0 0 (lay .high) h, pack-b (command .store) 0 hidden b 0 0 j)
+      rw (
+        pack-kind (command .andi) hidden a 0 0 (lay .high) h,
+        pack-kind (command .store) 0 hidden b 0 0 j,
+        pack-a (command .andi) hidden a 0 0 (lay .high) h,
+        pack-b (command .store) 0 hidden b 0 0 j,
+      )
   bundle-back (GOIF a b c v) g =
       let h : InBits (command .goif) 0 a b c = (lit< tt, lit< tt, guest-bits a (g .0), guest-bits b (g .1), condition-bits c (g .2)) in
-      rw (pack-kind (command .goif) 0 a b c (addressOf lay v) h, pack-a (command .goif) 0 a b c (addressOf lay v) h, pack-b (command .goif) 0 a b c (addressOf lay v) h, pack-c (command .goif) 0 a b c (addressOf lay v) h, pack-v (command .goif) 0 a b c (addressOf lay v) h, bundle-of (lay .base) v)
+      rw (
+        pack-kind (command .goif) 0 a b c (addressOf lay v) h,
+        pack-a (command .goif) 0 a b c (addressOf lay v) h,
+        pack-b (command .goif) 0 a b c (addressOf lay v) h,
+        pack-c (command .goif) 0 a b c (addressOf lay v) h,
+        pack-v (command .goif) 0 a b c (addressOf lay v) h,
+        bundle-of (lay .base) v,
+      )
   bundle-back (GOX d a b c) g =
       let h : InBits (command .shl) hidden d 0 0 = (lit< tt, lit< tt, guest-bits d (g .0), lit< tt, lit< tt) in
       let j : InBits (command .goxr) hidden a b c = (lit< tt, lit< tt, guest-bits a (g .1), guest-bits b (g .2), condition-bits c (g .3)) in
-      rw (pack-kind (command .shl) hidden d 0 0 bundleShift h, pack-a (command .shl) hidden d 0 0 bundleShift h, pack-a (command .goxr) hidden a b c 0 j, pack-b (command .goxr) hidden a b c 0 j, pack-c (command .goxr) hidden a b c 0 j)
+      rw (
+        pack-kind (command .shl) hidden d 0 0 bundleShift h,
+        pack-a (command .shl) hidden d 0 0 bundleShift h,
+        pack-a (command .goxr) hidden a b c 0 j,
+        pack-b (command .goxr) hidden a b c 0 j,
+        pack-c (command .goxr) hidden a b c 0 j,
+      )
   bundle-back (EVENT e) g =
       let h : InBits (command .look) hidden 0 0 0 = (lit< tt, lit< tt, lit< tt, lit< tt, lit< tt) in
       rw (pack-kind (command .look) hidden 0 0 0 e h, pack-v (command .look) hidden 0 0 0 e h)

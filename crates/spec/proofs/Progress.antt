@@ -23,7 +23,8 @@ use Rattle.types.specs.Names.{orders, noArrow, bundleLength, hidden}
 use Rattle.spec.specs.Policies.{Policy}
 use Rattle.spec.specs.Commands.{fetchOf, holdsOf}
 use Rattle.spec.specs.Bundles.{at4, addressOf, positionOf, shapeOf}
-use Rattle.spec.specs.Machines.{State, RunResult, View, regAt, ifCell, isLanding, ifLanding, ifRoom, entryOf, nextPc, effectOf, applyOf, viewAt, nextOf, stepOf, runFrom, startOf, runOf, fits, loopFrom}
+use Rattle.spec.specs.Machines.{State, RunResult, View, regAt, ifCell, isLanding, ifLanding, ifRoom, entryOf, nextPc, effectOf, applyOf, viewAt}
+use Rattle.spec.specs.Machines.{nextOf, stepOf, runFrom, startOf, runOf, fits, loopFrom}
 use Rattle.spec.specs.Guests.{Pair, Guest, guestReg}
 use Rattle.spec.specs.Runs.{RunInput, Session, begins, begunFrom, runOn, afterTaken, afterRun, after}
 use Rattle.spec.specs.Claims.{AtBoundary, ReachesBoundary, Resumes, Progress}
@@ -174,7 +175,9 @@ module _ (lay : Layout) (rd : List ℕ) (s : State) where
   start-moves n (GOX d a b c) = moves-put hidden _
   start-moves n (EVENT e) = moves-at _ _ (moves-at _ _ (moves-put hidden _))
 
-  mid-moves : (pol : Policy) (n : ℕ) (g : Guest) (h k b : ℕ) (i : Instr) (p : ℕ) → MidBundle lay pol n g h k b (getD (s .regs) hidden 0) (getD (s .mem) (lay .cell) 0) i p → Moves lay rd s (effectOf (shapeOf lay n i p) (viewAt lay rd s))
+  mid-moves : (pol : Policy) (n : ℕ) (g : Guest) (h k b : ℕ) (i : Instr) (p : ℕ)
+      → MidBundle lay pol n g h k b (getD (s .regs) hidden 0) (getD (s .mem) (lay .cell) 0) i p
+      → Moves lay rd s (effectOf (shapeOf lay n i p) (viewAt lay rd s))
   unfolding effectOf shapeOf
   mid-moves pol n g h k b i p (start at bk q) = start-moves n i
   mid-moves pol n g h k b i p (rest low nop lt at bk q) = rw (nop p (omega arith)) moves-on
@@ -213,7 +216,8 @@ came-now : (lay : Layout) (ws rd : List ℕ) (most k b : ℕ) (s : State) → At
 unfolding loopFrom
 came-now lay ws rd most k b s x = record { j = 0; few = omega arith; boundary = x; begun = refl }
 
-came-then : (lay : Layout) (ws rd : List ℕ) (most k b b₁ b₂ : ℕ) (s : State) → s .status ≡ Running → Goes (nextOf lay ws rd s) → b + begins lay (s .pc) ≡ b₁ → BoundaryReached lay ws rd most (k + 1) b₁ b₂ (stepOf lay ws rd s) → BoundaryReached lay ws rd (suc most) k b b₂ s
+came-then : (lay : Layout) (ws rd : List ℕ) (most k b b₁ b₂ : ℕ) (s : State) → s .status ≡ Running → Goes (nextOf lay ws rd s) → b + begins lay (s .pc) ≡ b₁
+    → BoundaryReached lay ws rd most (k + 1) b₁ b₂ (stepOf lay ws rd s) → BoundaryReached lay ws rd (suc most) k b b₂ s
 came-then lay ws rd most k b b₁ b₂ s run go z c =
     record {
       j = suc (c .j);
@@ -275,7 +279,8 @@ module _ (lay : Layout) (pol : Policy) (ws : List ℕ) (n : ℕ) (is : ℕ → I
       rw (w .0, w .1, w .2) r
 
   -- from position p of bundle h, with r more commands after this one
-  reach : (r p h k b b₂ : ℕ) (s : State) → p + suc r ≡ bundleLength → h < n → b + begins lay (s .pc) ≡ b₂ → RunInvariant lay pol n is past u0 rd g0 b s → s .status ≡ Running → s .pc ≡ addressOf lay h + p → (p ≤ 2 → Room rd s) → BoundaryReached lay ws rd (suc r) k b b₂ s
+  reach : (r p h k b b₂ : ℕ) (s : State) → p + suc r ≡ bundleLength → h < n → b + begins lay (s .pc) ≡ b₂ → RunInvariant lay pol n is past u0 rd g0 b s
+      → s .status ≡ Running → s .pc ≡ addressOf lay h + p → (p ≤ 2 → Room rd s) → BoundaryReached lay ws rd (suc r) k b b₂ s
   reach zero p h k b b₂ s e lh z w run pc room =
       let go = goes-at s h p lh (left-in _ p e) pc room in
       let t = sim-invariant lay pol ws n is ok bs past u0 rd g0 b s w in
@@ -289,19 +294,24 @@ module _ (lay : Layout) (pol : Policy) (ws : List ℕ) (n : ℕ) (is : ℕ → I
       let more : stepOf lay ws rd s .pc ≡ nextPc (s .pc) → stepOf lay ws rd s .status ≡ Running → BoundaryReached lay ws rd (suc r) (k + 1) b₂ b₂ (stepOf lay ws rd s) =
       λ y l.
       let to : stepOf lay ws rd s .pc ≡ addressOf lay h + suc p = takes-step (lay .base) n h p (s .pc) _ (ok .room) lh lp pc y in
-      reach r (suc p) h (k + 1) b₂ b₂ (stepOf lay ws rd s) (left r p e) lh (plus-none b₂ _ (first-no lay (stepOf lay ws rd s .pc) (within (lay .base) h p _ lp to))) (subst (λ (x : ℕ). RunInvariant lay pol n is past u0 rd g0 x (stepOf lay ws rd s)) z (step-known lay pol ws n is ok bs past u0 rd g0 b s w run go)) l to (λ m. room-on s h p lh m pc (room (up-to p m))) in
+      reach r (suc p) h (k + 1) b₂ b₂ (stepOf lay ws rd s) (left r p e) lh
+      (plus-none b₂ _ (first-no lay (stepOf lay ws rd s .pc) (within (lay .base) h p _ lp to)))
+      (subst (λ (x : ℕ). RunInvariant lay pol n is past u0 rd g0 x (stepOf lay ws rd s)) z (step-known lay pol ws n is ok bs past u0 rd g0 b s w run go))
+      l to (λ m. room-on s h p lh m pc (room (up-to p m))) in
       came-then lay ws rd (suc r) k b b₂ b₂ s run go z
       (⊎-elim (λ y. ⊎-elim (λ l. more y l) (λ l. now (inr l)) (running (stepOf lay ws rd s .status))) (λ y. now y) (sim-moves s _ (t .0) b run (t .1 .sim) go))
 
   -- from wherever it is
-  from-here : (b : ℕ) (s : State) (g : Guest) (k : ℕ) → RunInvariant lay pol n is past u0 rd g0 b s → s .status ≡ Running → Room rd s → InBundle lay pol n is g k b s → BoundaryReached lay ws rd bundleLength 0 b (b + begins lay (s .pc)) s
+  from-here : (b : ℕ) (s : State) (g : Guest) (k : ℕ) → RunInvariant lay pol n is past u0 rd g0 b s → s .status ≡ Running → Room rd s
+      → InBundle lay pol n is g k b s → BoundaryReached lay ws rd bundleLength 0 b (b + begins lay (s .pc)) s
   from-here b s g k w run room (over f st h p lh lp si pc q bk) = absurd (f .0 (sym st ∙ run))
   from-here b s g k w run room (live gg st h p lh lp pc m) =
       let y = reach (3 - p) p h 0 b (b + begins lay (s .pc)) s (omega arith) lh refl w run pc (λ _. room) in
       record { j = y .j; few = omega (arith, y .few); boundary = y .boundary; begun = y .begun }
 
 -- and so does the run that is given that budget, where it is not refused
-reaches-boundary : (lay : Layout) (ws : List ℕ) (c : Session) (g : RunInput) (b : ℕ) → fits lay (g .memory) ≡ true → BoundaryReached lay ws (g .readings) bundleLength 0 (c .begun) b (startOf (c .machine) (g .memory) (g .log)) → ReachesBoundary lay ws c g b
+reaches-boundary : (lay : Layout) (ws : List ℕ) (c : Session) (g : RunInput) (b : ℕ) → fits lay (g .memory) ≡ true
+    → BoundaryReached lay ws (g .readings) bundleLength 0 (c .begun) b (startOf (c .machine) (g .memory) (g .log)) → ReachesBoundary lay ws c g b
 unfolding afterRun afterTaken runOn runOf
 reaches-boundary lay ws c g b fit y = record { budget = y .j; few = y .few; boundary = rw fit (y .boundary); begun = rw fit (y .begun) }
 

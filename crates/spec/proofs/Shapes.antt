@@ -26,10 +26,22 @@ module _ (lay : Layout) (n : ℕ) where
       let z : 0 + p ≡ p = omega arith in
       rw z at (four-words (bundleOf lay n i .words) 0 (λ (q : ℕ). wordOf (shapeOf lay n i q)) refl refl refl refl p l)
 
-  found : (i : Instr) (w x y z : ℕ) → Valid n i → w ≡ wordOf (shapeOf lay n i 0) → x ≡ wordOf (shapeOf lay n i 1) → y ≡ wordOf (shapeOf lay n i 2) → z ≡ wordOf (shapeOf lay n i 3) → isBundle lay n (decodeBundle lay w y z) w x y z ≡ true
+  found : (i : Instr) (w x y z : ℕ) → Valid n i → w ≡ wordOf (shapeOf lay n i 0) → x ≡ wordOf (shapeOf lay n i 1) → y ≡ wordOf (shapeOf lay n i 2)
+      → z ≡ wordOf (shapeOf lay n i 3) → isBundle lay n (decodeBundle lay w y z) w x y z ≡ true
   unfolding isBundle
   found i w x y z g a b c d =
-      rw (a, b, c, d, bundle-back lay n i g, is-valid lay n i g, eq-eqb (wordOf (shapeOf lay n i 0)) _ refl, eq-eqb (wordOf (shapeOf lay n i 1)) _ refl, eq-eqb (wordOf (shapeOf lay n i 2)) _ refl, eq-eqb (wordOf (shapeOf lay n i 3)) _ refl)
+      rw (
+        a,
+        b,
+        c,
+        d,
+        bundle-back lay n i g,
+        is-valid lay n i g,
+        eq-eqb (wordOf (shapeOf lay n i 0)) _ refl,
+        eq-eqb (wordOf (shapeOf lay n i 1)) _ refl,
+        eq-eqb (wordOf (shapeOf lay n i 2)) _ refl,
+        eq-eqb (wordOf (shapeOf lay n i 3)) _ refl,
+      )
 
   words-at : (words : List ℕ) (i : Instr) (p : ℕ) → bundleOf lay n i .words ≡ words → p < bundleLength → getD words p 0 ≡ wordOf (shapeOf lay n i p)
   words-at words i p e l = ap (λ (l : List ℕ). getD l p 0) (sym e) ∙ bundle-word i p l
@@ -46,7 +58,9 @@ module _ (lay : Layout) (n : ℕ) where
         rw (rw z at (word-at 0 (lit< tt)), word-at 2 (lit< tt), word-at 3 (lit< tt)) (bundle-back lay n i g)
 
   -- and back
-  bundle-at : (ws : List ℕ) (h : ℕ) (i : Instr) → bundleLength * h + bundleLength ≤ length ws → ((p : ℕ) → p < bundleLength → getD ws (bundleLength * h + p) 0 ≡ wordOf (shapeOf lay n i p)) → bundleOf lay n i .words ≡ take bundleLength (drop (bundleLength * h) ws)
+  bundle-at : (ws : List ℕ) (h : ℕ) (i : Instr) → bundleLength * h + bundleLength ≤ length ws
+      → ((p : ℕ) → p < bundleLength → getD ws (bundleLength * h + p) 0 ≡ wordOf (shapeOf lay n i p))
+      → bundleOf lay n i .words ≡ take bundleLength (drop (bundleLength * h) ws)
   bundle-at ws h i l each =
       let size : length (take bundleLength (drop (bundleLength * h) ws)) ≡ bundleLength = omega (arith, length-take bundleLength (drop (bundleLength * h) ws), length-drop (bundleLength * h) ws) in
       ext-getD 0 (bundleOf lay n i .words) (take bundleLength (drop (bundleLength * h) ws)) (sym size)

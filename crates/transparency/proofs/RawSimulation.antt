@@ -141,14 +141,16 @@ module _ (lay : Layout) (pol : Policy) (N : ℕ) (fixed : (x : ℕ) → inBox la
   by-status Faulted x g y r a b = b
   by-status Strayed x g y r a b = b
 
-  step-like : (is : ℕ → Instr) (g : Guest) (r : Raw) → (r .status ≡ Running → Behaves lay pol N (is (r .at)) r) → RawSimulates lay pol g r → RawSimulates lay pol (guestStep lay pol N is reads g) (rawStep lay is reads r)
+  step-like : (is : ℕ → Instr) (g : Guest) (r : Raw) → (r .status ≡ Running → Behaves lay pol N (is (r .at)) r) → RawSimulates lay pol g r
+      → RawSimulates lay pol (guestStep lay pol N is reads g) (rawStep lay is reads r)
   unfolding guestStep rawStep
   step-like is g r h l =
       let e = ap is (l .at) in
       subst (λ (c : Status). RawSimulates lay pol (unlessOver (g .status) g (execInstr lay pol N reads (is (g .at)) g)) (unlessOver c r (rawExec lay reads (is (r .at)) r))) (sym (l .status))
       (by-status (g .status) _ g _ r (λ t. rw e (exec-raw (is (g .at)) g r (rw e at (h (l .status ∙ t))) l)) l)
 
-  pub after-like : (is : ℕ → Instr) (g : Guest) (r : Raw) (k : ℕ) → BehavesFor lay pol N is reads r k → RawSimulates lay pol g r → RawSimulates lay pol (guestAfter lay pol N is reads g k) (rawAfter lay is reads r k)
+  pub after-like : (is : ℕ → Instr) (g : Guest) (r : Raw) (k : ℕ) → BehavesFor lay pol N is reads r k → RawSimulates lay pol g r
+      → RawSimulates lay pol (guestAfter lay pol N is reads g k) (rawAfter lay is reads r k)
   unfolding guestAfter rawAfter
   after-like is g r zero h l = l
   after-like is g r (suc k) h l = step-like is _ _ (h k (omega arith)) (after-like is g r k (λ j m. h j (omega arith)) l)

@@ -67,7 +67,9 @@ record MachineHolds : Type 0 where
   resumable : ResumableAsRaw layout (after layout policy commands memory (pausedRun ∷ [])) readings resumedRun
 
 machine-holds : MachineHolds
-unfolding ones leadingZeros rightLayout rightPolicy rightLandings bitsFrom landingsOf marked instrOf routine bundlesFor wordOf shapeOf decodeBundle bundleAt isCommand commandOf fetchOf plainOf isLanding installAnswer installMemory installMachine effectOf applyOf loopFrom runOf begins runOn afterTaken afterRun afterAll
+unfolding ones leadingZeros rightLayout rightPolicy rightLandings bitsFrom landingsOf marked instrOf routine bundlesFor wordOf shapeOf decodeBundle bundleAt
+    isCommand commandOf fetchOf plainOf isLanding installAnswer installMemory installMachine effectOf applyOf loopFrom runOf begins runOn afterTaken afterRun
+    afterAll
 machine-holds =
     record {
       begun = refl;
@@ -87,7 +89,9 @@ record EngineHolds : Type 0 where
   used : IsPrefix (engineAfter layout policy code memory (run ∷ []) .consumed) readings
 
 engine-holds : EngineHolds
-unfolding ones leadingZeros rightLayout rightPolicy rightLandings bitsFrom landingsOf marked fieldsRefusal refusalAt firstRefused instrOf routine bundlesFor plainOf installAnswer installMemory applyOf checkedEvent instrEffect instrEffectAt withState applyEffect loopFrom refusalBy engineRunOf engineOn engineTaken engineRun afterAll
+unfolding ones leadingZeros rightLayout rightPolicy rightLandings bitsFrom landingsOf marked fieldsRefusal refusalAt firstRefused instrOf routine bundlesFor
+    plainOf installAnswer installMemory applyOf checkedEvent instrEffect instrEffectAt withState applyEffect loopFrom refusalBy engineRunOf engineOn
+    engineTaken engineRun afterAll
 engine-holds = record { taken = refl; counted = refl; over = refl; used = λ i h. refl }
 
 pub sample-holds : SampleHolds

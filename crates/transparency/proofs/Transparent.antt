@@ -36,7 +36,9 @@ use Rattle.engine_spec.specs.Engines.{refusalBy}
 use Rattle.engine_spec.proofs.Rule.{engine-rule, same-guest, step-uses}
 use Rattle.engine_spec.proofs.StepTogether.{run-counts-one, machine-uses}
 use Rattle.transparency.specs.Raw.{rawStart, rawRun}
-use Rattle.transparency.specs.Claims.{IsPrefix, Behaved, SameAsRaw, Sandboxed, MachineSameAsRaw, Transparent, EngineTransparent, TransparentPaused, TransparentNext, ResumableAsRaw, ReachesSameAsRaw, TransparentStep, TransparentResumed, EngineTransparentNext}
+use Rattle.transparency.specs.Claims.{IsPrefix, Behaved, SameAsRaw, Sandboxed, MachineSameAsRaw, Transparent, EngineTransparent}
+use Rattle.transparency.specs.Claims.{TransparentPaused, TransparentNext, ResumableAsRaw, ReachesSameAsRaw, TransparentStep, TransparentResumed}
+use Rattle.transparency.specs.Claims.{EngineTransparentNext}
 use Rattle.transparency.proofs.RawSimulation.{RawSimulates, after-like}
 
 -- a cell of the sandbox, among the memory's and among the sandbox's own
@@ -96,7 +98,8 @@ module _ (lay : Layout) (pol : Policy) (code mem raw us reads : List ℕ) (k : �
       (after-like lay pol N (masks lay (fitted .0) .fixed) reads (routine code) g0 (rawStart raw) k (b .behaves) start-like)
 
   -- what simulates the guest is the same as the raw run
-  alike : (regs m : List ℕ) (records : List Pair) (t : Status) → t ≡ guest .status → regs ≡ guest .regs → boxOf lay m ≡ guest .box → records ≡ guest .records → length us ≡ guest .used → SameAsRaw lay (rawRun lay code raw reads k) regs m records (length us) t
+  alike : (regs m : List ℕ) (records : List Pair) (t : Status) → t ≡ guest .status → regs ≡ guest .regs → boxOf lay m ≡ guest .box → records ≡ guest .records
+      → length us ≡ guest .used → SameAsRaw lay (rawRun lay code raw reads k) regs m records (length us) t
   alike regs m records t e r x p u =
       let l = raw-like u in
       record {

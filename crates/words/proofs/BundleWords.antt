@@ -61,7 +61,8 @@ module _ (l : Layout) (n : ℕ) (i : Instr) (f : Packable l n i) where
         (ex ∙ untruncated-word (command .ori) hidden hidden 0 0 (l .low) (omega arith) (omega arith) (omega arith) (omega arith) (omega arith) hl)
         ey refl
 
-    pub lay-load : (d a : ℕ) → i ≡ LOAD d a → (w x y : ℕ) → w ≡ truncatedWord (command .andi) hidden a 0 0 (l .high) → x ≡ truncatedWord (command .ori) hidden hidden 0 0 (l .low) → y ≡ truncatedWord (command .load) d hidden 0 0 0
+    pub lay-load : (d a : ℕ) → i ≡ LOAD d a → (w x y : ℕ) → w ≡ truncatedWord (command .andi) hidden a 0 0 (l .high)
+        → x ≡ truncatedWord (command .ori) hidden hidden 0 0 (l .low) → y ≡ truncatedWord (command .load) d hidden 0 0 0
         → record { words = w ∷ x ∷ y ∷ 0 ∷ [] } ≡ bundleOf l n i
     unfolding shapeOf wordOf
     lay-load d a e w x y ew ex ey =
@@ -70,7 +71,8 @@ module _ (l : Layout) (n : ℕ) (i : Instr) (f : Packable l n i) where
         (lay-access a (omega (arith, g .1)) w x y _ ew ex
         (ey ∙ untruncated-word (command .load) d hidden 0 0 0 (omega arith) (omega (arith, g .0)) (omega arith) (omega arith) (omega arith) (omega arith)))
 
-    pub lay-store : (a b : ℕ) → i ≡ STORE a b → (w x y : ℕ) → w ≡ truncatedWord (command .andi) hidden a 0 0 (l .high) → x ≡ truncatedWord (command .ori) hidden hidden 0 0 (l .low) → y ≡ truncatedWord (command .store) 0 hidden b 0 0
+    pub lay-store : (a b : ℕ) → i ≡ STORE a b → (w x y : ℕ) → w ≡ truncatedWord (command .andi) hidden a 0 0 (l .high)
+        → x ≡ truncatedWord (command .ori) hidden hidden 0 0 (l .low) → y ≡ truncatedWord (command .store) 0 hidden b 0 0
         → record { words = w ∷ x ∷ y ∷ 0 ∷ [] } ≡ bundleOf l n i
     unfolding shapeOf wordOf
     lay-store a b e w x y ew ex ey =
@@ -85,7 +87,8 @@ module _ (l : Layout) (n : ℕ) (i : Instr) (f : Packable l n i) where
       let g = facts (GOIF a b c v) e in
       let m = f .top in
       rw e
-      (four _ _ _ _ _ _ _ _ (ew ∙ untruncated-word (command .goif) 0 a b c (addressOf l v) (omega arith) (omega arith) (omega (arith, g .0)) (omega (arith, g .1)) (omega (arith, g .2)) (omega (arith, g .3, f .top))) refl refl refl)
+      (four _ _ _ _ _ _ _ _ (ew ∙ untruncated-word (command .goif) 0 a b c (addressOf l v) (omega arith) (omega arith) (omega (arith, g .0))
+      (omega (arith, g .1)) (omega (arith, g .2)) (omega (arith, g .3, f .top))) refl refl refl)
 
   pub lay-gox : (d a b c : ℕ) → i ≡ GOX d a b c → (w x y z : ℕ) → w ≡ truncatedWord (command .shl) hidden d 0 0 bundleShift → x ≡ truncatedWord (command .andi) hidden hidden 0 0 (lastAddress l n)
       → y ≡ truncatedWord (command .ori) hidden hidden 0 0 (l .base) → z ≡ truncatedWord (command .goxr) hidden a b c 0 → record { words = w ∷ x ∷ y ∷ z ∷ [] } ≡ bundleOf l n i
@@ -99,7 +102,8 @@ module _ (l : Layout) (n : ℕ) (i : Instr) (f : Packable l n i) where
       (ey ∙ untruncated-word (command .ori) hidden hidden 0 0 (l .base) (omega arith) (omega arith) (omega arith) (omega arith) (omega arith) (omega arith))
       (ez ∙ untruncated-word (command .goxr) hidden a b c 0 (omega arith) (omega arith) (omega (arith, g .1)) (omega (arith, g .2)) (omega (arith, g .3)) (omega arith)))
 
-  pub lay-event : (v : ℕ) → i ≡ EVENT v → (w x y z : ℕ) → w ≡ truncatedWord (command .look) hidden 0 0 0 v → x ≡ truncatedWord (command .stopif) hidden 0 0 0 0 → y ≡ truncatedWord (command .event) 0 0 0 0 v
+  pub lay-event : (v : ℕ) → i ≡ EVENT v → (w x y z : ℕ) → w ≡ truncatedWord (command .look) hidden 0 0 0 v → x ≡ truncatedWord (command .stopif) hidden 0 0 0 0
+      → y ≡ truncatedWord (command .event) 0 0 0 0 v
       → z ≡ truncatedWord (command .keep) hidden 0 0 0 0 → record { words = w ∷ x ∷ y ∷ z ∷ [] } ≡ bundleOf l n i
   unfolding shapeOf wordOf
   lay-event v e w x y z ew ex ey ez =

@@ -50,7 +50,8 @@ narrow s q ms room m e = subst (λ (x : Made). x .answer .place < 2 ^ 32) (sym e
 -- what is answered and left is that of the starts as the host gave them
 module _ (s q r : ℕ) (ms table : List ℕ) (e : r ≡ startsFrom q) where
   abbrev SameObservations : Type 0
-  SameObservations = (determiniseOf (drawingOf s r ms) (length table) ≡ determiniseOf (drawingOf s q ms) (length table)) × (determiniseTable (drawingOf s r ms) table ≡ determiniseTable (drawingOf s q ms) table)
+  SameObservations = (determiniseOf (drawingOf s r ms) (length table) ≡ determiniseOf (drawingOf s q ms) (length table))
+      × (determiniseTable (drawingOf s r ms) table ≡ determiniseTable (drawingOf s q ms) table)
 
   same : SameObservations
   unfolding startsFrom determiniseOf determiniseTable

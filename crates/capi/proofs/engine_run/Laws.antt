@@ -17,7 +17,8 @@ use Rattle.engine_spec.proofs.Continues.{continue-counts, continue-place}
 use Rattle.capi_spec.specs.engine.Records.{engineFrom, engineTo, answerTo, resultTo, engineFor, continueFor}
 
 -- place, pairs and readings have 32 bits
-narrow-by : (rd log mem′ log′ : List ℕ) (budget : ℕ) (o : EngineOutcome) (r : RunResult) → RunCounts log rd budget r → r .outcome .answer .place ≤ mostInstructions → runResultOf o mem′ log′ ≡ r → budget < 2 ^ 32
+narrow-by : (rd log mem′ log′ : List ℕ) (budget : ℕ) (o : EngineOutcome) (r : RunResult) → RunCounts log rd budget r
+    → r .outcome .answer .place ≤ mostInstructions → runResultOf o mem′ log′ ≡ r → budget < 2 ^ 32
     → (o .answer .place < 2 ^ 32) × (o .pairs < 2 ^ 32) × (o .used < 2 ^ 32)
 narrow-by rd log mem′ log′ budget o r n p q h =
     let b = subst (RunCounts log rd budget) (sym q) n in
@@ -36,7 +37,8 @@ module _ (xs ms ws mem rd log mem′ log′ : List ℕ) (budget : ℕ) (l : Layo
     pub narrow : budget < 2 ^ 32 → (o .answer .place < 2 ^ 32) × (o .pairs < 2 ^ 32) × (o .used < 2 ^ 32)
     narrow = narrow-by rd log mem′ log′ budget o _ (run-counts l ws m mem budget rd log) (run-place l ws m mem budget rd log) q
 
-    pub left : l ≡ layoutFrom xs → m ≡ engineFrom ms → (ms′ ns : List ℕ) → ms′ ≡ numbersAfter guestRegisters ms (engineTo (o .engine)) → ns ≡ answerTo o → hostResult ns ms′ mem′ log′ ≡ engineFor xs ws ms mem budget rd log
+    pub left : l ≡ layoutFrom xs → m ≡ engineFrom ms → (ms′ ns : List ℕ) → ms′ ≡ numbersAfter guestRegisters ms (engineTo (o .engine)) → ns ≡ answerTo o
+        → hostResult ns ms′ mem′ log′ ≡ engineFor xs ws ms mem budget rd log
     unfolding engineFor
     left e p ms′ ns = left-by (λ l m. runOf l ws m mem budget rd log) xs ms log′ l m o e p mem′ ms′ ns q
 
@@ -47,6 +49,7 @@ module _ (xs ms ws mem rd log mem′ log′ : List ℕ) (budget : ℕ) (l : Layo
         let z : continueOf l ws m mem budget rd log .outcome .answer .place ≤ mostInstructions = omega (arith, continue-place l ws m mem budget rd log) in
         narrow-by rd log mem′ log′ budget o _ (continue-counts l ws m mem budget rd log) z q
 
-    pub left-on : l ≡ layoutFrom xs → m ≡ engineFrom ms → (ms′ ns : List ℕ) → ms′ ≡ numbersAfter guestRegisters ms (engineTo (o .engine)) → ns ≡ answerTo o → hostResult ns ms′ mem′ log′ ≡ continueFor xs ws ms mem budget rd log
+    pub left-on : l ≡ layoutFrom xs → m ≡ engineFrom ms → (ms′ ns : List ℕ) → ms′ ≡ numbersAfter guestRegisters ms (engineTo (o .engine)) → ns ≡ answerTo o
+        → hostResult ns ms′ mem′ log′ ≡ continueFor xs ws ms mem budget rd log
     unfolding continueFor
     left-on e p ms′ ns = left-by (λ l m. continueOf l ws m mem budget rd log) xs ms log′ l m o e p mem′ ms′ ns q

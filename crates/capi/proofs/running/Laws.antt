@@ -24,7 +24,8 @@ counts l ws mem rd log mem′ log′ budget m o q h =
     (omega (arith, b .pairs), omega (arith, b .used))
 
 -- a preview's too
-pub preview-counts : (l : Layout) (ws mem work rd log work′ log′ : List ℕ) (budget : ℕ) (m : Machine) (o : Outcome) → runResultOf o work′ log′ ≡ previewOf l ws m mem work budget rd log → budget < 2 ^ 32
+pub preview-counts : (l : Layout) (ws mem work rd log work′ log′ : List ℕ) (budget : ℕ) (m : Machine) (o : Outcome)
+    → runResultOf o work′ log′ ≡ previewOf l ws m mem work budget rd log → budget < 2 ^ 32
     → (o .answer .pairs < 2 ^ 32) × (o .answer .used < 2 ^ 32)
 unfolding previewOf
 preview-counts l ws mem work rd log work′ log′ budget m o q h =
@@ -39,7 +40,8 @@ module _ (xs ms ws mem rd log log′ : List ℕ) (budget : ℕ) (l : Layout) (m 
   left mem′ ms′ ns q t u = rw (t, u, ← e, ← p) (ap (λ (r : RunResult). hostAfter registers ms (resultTo r)) q)
 
   -- a preview leaves what a run would, its memory in the work, but memory and record as they were
-  pub looked : (work work′ ms′ ns : List ℕ) → runResultOf o work′ log′ ≡ previewOf l ws m mem work budget rd log → ms′ ≡ numbersAfter registers ms (machineTo (o .machine)) → ns ≡ runAnswerTo (o .answer)
+  pub looked : (work work′ ms′ ns : List ℕ) → runResultOf o work′ log′ ≡ previewOf l ws m mem work budget rd log
+      → ms′ ≡ numbersAfter registers ms (machineTo (o .machine)) → ns ≡ runAnswerTo (o .answer)
       → hostPreviewed (hostResult ns ms′ work′ log′) ms mem ≡ previewFor xs ws ms mem work budget rd log
   unfolding previewFor
   looked work work′ ms′ ns q t u = rw (t, u, ← e, ← p) (ap (λ (r : RunResult). hostPreviewed (hostAfter registers ms (resultTo r)) ms mem) q)

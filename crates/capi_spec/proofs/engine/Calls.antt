@@ -31,14 +31,16 @@ use Rattle.engine_spec.proofs.Runs.{engineLoop, taken-size}
 use Rattle.engine_spec.specs.Continues.{Entry, judgesAll, judgesReached, Call, inputsOf}
 use Rattle.engine_spec.proofs.Isolation.{engine-isolation}
 use Rattle.capi_spec.specs.engine.Records.{engineTo, answerTo, resultTo, engineFor, engineFrom, continueFor}
-use Rattle.capi_spec.specs.engine.Claims.{EngineRoundTrips, engineCall, InstalledMemory, installed, loaded, HostEngineIsolation, pairsPlace, HostEngineNoninterference, zeros, entryFor, entryCall, HostEntriesMix}
+use Rattle.capi_spec.specs.engine.Claims.{EngineRoundTrips, engineCall, InstalledMemory, installed, loaded, HostEngineIsolation, pairsPlace}
+use Rattle.capi_spec.specs.engine.Claims.{HostEngineNoninterference, zeros, entryFor, entryCall, HostEntriesMix}
 use Rattle.engine_spec.proofs.Continues.{entries-agree, words-taken, preserved-as-runs}
 
 pub engine-round-trips : EngineRoundTrips
 engine-round-trips = comes-back guestRegisters engineOf (λ m. m .regs) (λ m. m .at) (λ m. m .status) (λ _. refl) (λ _ _ _. refl)
 
 -- ---- the session has the record that the run left
-carries : (lay : Layout) (ws : List ℕ) (c : Session) (g : RunInput) (t : Bool) → eqb (refusalOf lay ws (g .memory) .number) 0 ≡ t → (runOn lay ws c g .outcome .engine ≡ afterRun lay ws c g .engine) × (length (afterRun lay ws c g .engine .regs) ≡ length (c .engine .regs))
+carries : (lay : Layout) (ws : List ℕ) (c : Session) (g : RunInput) (t : Bool) → eqb (refusalOf lay ws (g .memory) .number) 0 ≡ t
+    → (runOn lay ws c g .outcome .engine ≡ afterRun lay ws c g .engine) × (length (afterRun lay ws c g .engine .regs) ≡ length (c .engine .regs))
 unfolding afterRun afterTaken runOn runOf applyEffect
 carries lay ws c g true e =
     rw e (
@@ -48,7 +50,9 @@ carries lay ws c g true e =
     )
 carries lay ws c g false e = rw e (refl, refl)
 
-calls-are : (lay ws : List ℕ) (c : Session) (gs : List RunInput) → length (c .engine .regs) ≡ guestRegisters → callsOf (engineCall lay ws) (engineTo (c .engine)) gs ≡ map (λ r. resultTo (r .result)) (eachRun (runAs (layoutFrom lay) ws) (afterRun (layoutFrom lay) ws) c gs)
+calls-are : (lay ws : List ℕ) (c : Session) (gs : List RunInput) → length (c .engine .regs) ≡ guestRegisters
+    → callsOf (engineCall lay ws) (engineTo (c .engine)) gs ≡ map (λ r. resultTo (r .result))
+    (eachRun (runAs (layoutFrom lay) ws) (afterRun (layoutFrom lay) ws) c gs)
 unfolding engineFor runOn
 calls-are lay ws =
     let l = layoutFrom lay in

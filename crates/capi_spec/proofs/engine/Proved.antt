@@ -4,4 +4,10 @@ use Rattle.capi_spec.proofs.engine.Calls.{engine-round-trips, host-engi
 use Rattle.capi_spec.proofs.engine.Samples.{sample-holds}
 
 pub proved : Proved
-proved = record { engineRoundTrips = engine-round-trips; hostEngineIsolation = host-engine-isolation; hostEngineNoninterference = host-engine-noninterference; hostEntriesMix = host-entries-mix; sampleHolds = sample-holds }
+proved = record {
+  engineRoundTrips = engine-round-trips;
+  hostEngineIsolation = host-engine-isolation;
+  hostEngineNoninterference = host-engine-noninterference;
+  hostEntriesMix = host-entries-mix;
+  sampleHolds = sample-holds;
+}

@@ -26,7 +26,11 @@ use Rattle.capi_spec.specs.engine.Claims.{loaded}
 use Rattle.capi_spec.specs.engine.Sample.{left, SampleHolds}
 
 pub sample-holds : SampleHolds
-unfolding ones leadingZeros layoutFrom rightLayout rightPolicy rightLandings inBox inTable inLandings protected bitsFrom landingsOf fieldsRefusal refusalAt firstRefused byteAt quadAt fieldsAt decodeFields decodeMap decodeOne scanOf wordsOf readAnswer instrOf routine bundlesFor wordOf shapeOf baseRoomAnswer rewriteAnswer valid decodeBundle bundleAt isBundle shapedAt passesAt checkFrom checkAnswer isCommand commandOf fetchOf plainOf installAnswer installMemory installMachine translateAnswer loadAnswer loadCommands loadMemory loadMachine applyOf loopFrom checkFor installFor loadFor checkedEvent instrEffect instrEffectAt withState applyEffect refusalBy runOf runOn afterTaken afterRun engineFor callsOf eachRun
+unfolding ones leadingZeros layoutFrom rightLayout rightPolicy rightLandings inBox inTable inLandings protected bitsFrom landingsOf fieldsRefusal refusalAt
+    firstRefused byteAt quadAt fieldsAt decodeFields decodeMap decodeOne scanOf wordsOf readAnswer instrOf routine bundlesFor wordOf shapeOf baseRoomAnswer
+    rewriteAnswer valid decodeBundle bundleAt isBundle shapedAt passesAt checkFrom checkAnswer isCommand commandOf fetchOf plainOf installAnswer installMemory
+    installMachine translateAnswer loadAnswer loadCommands loadMemory loadMachine applyOf loopFrom checkFor installFor loadFor checkedEvent instrEffect
+    instrEffectAt withState applyEffect refusalBy runOf runOn afterTaken afterRun engineFor callsOf eachRun
 sample-holds =
     record {
       laid = loaded bytes (replicate 40 0) refl;

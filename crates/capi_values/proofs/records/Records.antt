@@ -26,7 +26,8 @@ module _ (xs regs : List ℕ) (l : length xs ≡ length regs + trailer) where
   stored at k =
       let n = length regs in
       let one : sets xs 0 regs ≡ regs ++ getD xs n 0 ∷ statusIn n xs ∷ [] = store-front xs regs (omega arith) ∙ ap (λ (ys : List ℕ). regs ++ ys) (last-two n xs l) in
-      let two : set (sets xs 0 regs) n at ≡ (regs ++ at ∷ []) ++ statusIn n xs ∷ [] = ap (λ (ys : List ℕ). set ys n at) one ∙ set-at regs _ _ at n refl ∙ sym (append-assoc regs (at ∷ []) (statusIn n xs ∷ [])) in
+      let two : set (sets xs 0 regs) n at ≡ (regs ++ at ∷ []) ++ statusIn n xs ∷ [] = ap (λ (ys : List ℕ). set ys n at) one ∙ set-at regs _ _ at n refl
+      ∙ sym (append-assoc regs (at ∷ []) (statusIn n xs ∷ [])) in
       ap (λ (ys : List ℕ). set ys (n + 1) k) two ∙ set-at (regs ++ at ∷ []) _ [] k (n + 1) (simp length-append (omega arith)) ∙ append-assoc regs (at ∷ []) (k ∷ [])
 
   pub is-status : (ys : List ℕ) (at k : ℕ) (t : Status) → statusIn (length regs) xs < statuses → ys ≡ sets xs 0 regs → k ≡ statusNumber t

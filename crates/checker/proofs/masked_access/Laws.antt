@@ -11,7 +11,8 @@ use Rattle.spec.specs.Commands.{wordOf}
 use Rattle.spec.specs.Bundles.{shapeOf, valid, isBundle}
 use Rattle.checker.specs.masked_access.MaskedAccess.{maskWords, loadOf, storeOf, accessOf}
 
-pub masks-is : (l : Layout) (w x a : ℕ) (p q : Bool) → a ≡ aOf w → p ≡ eqb w (packOf (command .andi) hidden a 0 0 (l .high)) → q ≡ eqb x (packOf (command .ori) hidden hidden 0 0 (l .low)) → (ltb a guestRegisters && p && q) ≡ maskWords l w x
+pub masks-is : (l : Layout) (w x a : ℕ) (p q : Bool) → a ≡ aOf w → p ≡ eqb w (packOf (command .andi) hidden a 0 0 (l .high))
+    → q ≡ eqb x (packOf (command .ori) hidden hidden 0 0 (l .low)) → (ltb a guestRegisters && p && q) ≡ maskWords l w x
 masks-is l w x a p q ea ep eq = rw (ep, eq, ea)
 
 pub loads-is : (y d : ℕ) (p : Bool) → d ≡ dOf y → p ≡ eqb y (packOf (command .load) d hidden 0 0 0) → (ltb d guestRegisters && p) ≡ loadOf y

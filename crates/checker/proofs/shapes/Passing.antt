@@ -72,7 +72,8 @@ module _ (l : Layout) (n w x y z : ℕ) where
             let lo : command .set ≤ k = leb-true _ _ (h .0) in
             let hi : k ≤ command .sar = leb-true _ _ (h .1) in
             passing (PLAIN (kindOf w - plainStep) (dOf w) (aOf w) (bOf w) (vOf w))
-            (off-plain (λ (e : kindOf w ≡ command .halt). omega arith) (λ (e : kindOf w ≡ command .andi). omega arith) (λ (e : kindOf w ≡ command .goif). omega arith) (λ (e : kindOf w ≡ command .shl). omega arith) (λ (e : kindOf w ≡ command .look). omega arith))
+            (off-plain (λ (e : kindOf w ≡ command .halt). omega arith) (λ (e : kindOf w ≡ command .andi). omega arith) (λ (e : kindOf w
+            ≡ command .goif). omega arith) (λ (e : kindOf w ≡ command .shl). omega arith) (λ (e : kindOf w ≡ command .look). omega arith))
             (er ∙ plain-is n w (omega arith) (omega arith) l x y z)
 
         pub pass-access : k ≡ command .andi → r ≡ isBundle l 0 (accessOf w y) w x y z → r ≡ passesOf l n w x y z m
@@ -94,7 +95,8 @@ module _ (l : Layout) (n w x y z : ℕ) where
         pass-event e er = passing (EVENT (vOf w)) (rw (← ek, e)) (er ∙ event-is)
 
       -- a kind that no shape begins with
-      pub pass-none : (leb (command .set) k && leb k (command .sar)) ≡ false → (k ≡ command .halt → ⊥) → (k ≡ command .andi → ⊥) → (k ≡ command .shl → ⊥) → (k ≡ command .goif → ⊥) → (k ≡ command .look → ⊥) → false ≡ passesOf l n w x y z m
+      pub pass-none : (leb (command .set) k && leb k (command .sar)) ≡ false → (k ≡ command .halt → ⊥) → (k ≡ command .andi → ⊥) → (k ≡ command .shl → ⊥)
+          → (k ≡ command .goif → ⊥) → (k ≡ command .look → ⊥) → false ≡ passesOf l n w x y z m
       unfolding isBundle valid
       pass-none t no-halt no-andi no-shl no-goif no-look =
           rw (← (off-plain (λ e. no-halt (ek ∙ e)) (λ e. no-andi (ek ∙ e)) (λ e. no-goif (ek ∙ e)) (λ e. no-shl (ek ∙ e)) (λ e. no-look (ek ∙ e)))) (go (leb (command .set) k) refl)

@@ -106,7 +106,18 @@ module _ (n w : ℕ) (lo : command .set ≤ kindOf w) (hi : kindOf w ≤ command
       let none = no-condition (kindOf w) (cOf w) hi (i₀ .c) in
       let ec : cOf w ≡ 0 = omega arith in
       let ew : w ≡ packFields plain-fields = rw next (sym (rw ec at (pack-fields w (i₀ .zero)))) in
-      simp (le-leb (guest .set) (kindOf w - plainStep) (omega arith), le-leb (kindOf w - plainStep) (guest .sar) (omega arith), r .0, r .1, r .2, le-leb _ _ (i .d), le-leb _ _ (i .a), le-leb _ _ (i .b), le-leb _ _ (i .v), eq-eqb w (packFields plain-fields) ew)
+      simp (
+        le-leb (guest .set) (kindOf w - plainStep) (omega arith),
+        le-leb (kindOf w - plainStep) (guest .sar) (omega arith),
+        r .0,
+        r .1,
+        r .2,
+        le-leb _ _ (i .d),
+        le-leb _ _ (i .a),
+        le-leb _ _ (i .b),
+        le-leb _ _ (i .v),
+        eq-eqb w (packFields plain-fields) ew,
+      )
 
   plain-out : (valid n plain-instr && eqb w (packFields plain-fields)) ≡ true → (isCommand w && onlyGuestRegisters w) ≡ true
   plain-out t =

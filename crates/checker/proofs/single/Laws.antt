@@ -17,7 +17,8 @@ use Rattle.checker.specs.single.Single.{plainWords, bundleIndex, isBundl
 pub plain-words : (w x y z : ℕ) (p q : Bool) → p ≡ isCommand w → q ≡ onlyGuestRegisters w → (p && q && eqb x 0 && eqb y 0 && eqb z 0) ≡ plainWords w x y z
 plain-words w x y z p q ep eq = rw (ep, eq)
 
-pub goif-words : (l : Layout) (n w x y z v : ℕ) (p q s : Bool) → v ≡ vOf w → p ≡ isCommand w → q ≡ onlyGuestRegisters w → s ≡ isBundleAddress l n v → (p && q && s && eqb x 0 && eqb y 0 && eqb z 0) ≡ goifWords l n w x y z
+pub goif-words : (l : Layout) (n w x y z v : ℕ) (p q s : Bool) → v ≡ vOf w → p ≡ isCommand w → q ≡ onlyGuestRegisters w → s ≡ isBundleAddress l n v
+    → (p && q && s && eqb x 0 && eqb y 0 && eqb z 0) ≡ goifWords l n w x y z
 goif-words l n w x y z v p q s ev ep eq es = rw (ep, eq, es, ev)
 
 module _ (l : Layout) (n v : ℕ) where

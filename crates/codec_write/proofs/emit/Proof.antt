@@ -12,7 +12,8 @@ use Rattle.codec_write.proofs.emit.Lts as lts
 use Rattle.codec_write.proofs.encode.encode_word.Reads as put-one-reads
 
 abbrev Inv-loop : tie.InvT-loop
-Inv-loop words bytes₀ at to₀ i₀ bytes to i = (i ≤ length words) × (length bytes ≡ length bytes₀) × (to + length (bytesOf (drop i words)) ≤ length bytes₀) × (stores bytes₀ at (bytesOf words) ≡ stores bytes to (bytesOf (drop i words)))
+Inv-loop words bytes₀ at to₀ i₀ bytes to i = (i ≤ length words) × (length bytes ≡ length bytes₀) × (to + length (bytesOf (drop i words)) ≤ length bytes₀)
+    × (stores bytes₀ at (bytesOf words) ≡ stores bytes to (bytesOf (drop i words)))
 
 abbrev μ-loop : tie.MeasureT-loop
 μ-loop words bytes₀ at to₀ i₀ bytes to i = length words - i

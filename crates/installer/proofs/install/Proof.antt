@@ -25,7 +25,8 @@ store-cells-requires c κs =
     let k = b .before .before .before .before .before in
     let m = k .before .before .before in
     let i = m .before .before in
-    landings-fit _ _ _ _ _ _ _ (i .install-answer .ensures) (m .before .if1 .left) (k .poke .last .0) (b .store-bytes .last .0) (k .poke .kept .0) (b .store-bytes .kept .0) _ (m .landing-cells .ensures)
+    landings-fit _ _ _ _ _ _ _ (i .install-answer .ensures) (m .before .if1 .left) (k .poke .last .0) (b .store-bytes .last .0) (k .poke .kept .0)
+    (b .store-bytes .kept .0) _ (m .landing-cells .ensures)
 
 returns-2 : tie.Need-returns-2
 returns-2 c =
@@ -35,7 +36,8 @@ returns-2 c =
     let k = b .before .before .before .before .before in
     let m = k .before .before .before in
     let i = m .before .before in
-    laid _ _ _ _ _ _ _ (i .install-answer .ensures) (m .before .if1 .left) _ (n .new .ensures) _ (m .landing-cells .ensures) _ (k .poke .ensures) _ (b .store-bytes .ensures) _ (s .store-cells .ensures)
+    laid _ _ _ _ _ _ _ (i .install-answer .ensures) (m .before .if1 .left) _ (n .new .ensures) _ (m .landing-cells .ensures) _ (k .poke .ensures) _
+    (b .store-bytes .ensures) _ (s .store-cells .ensures)
 
 pub install-spec : {M : Type 1} → statement M
 install-spec =

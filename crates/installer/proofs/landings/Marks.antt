@@ -54,7 +54,8 @@ below-most ls i e h = each-below 0 ls i e h
 pub one-shifted : (s : ℕ) → s < 32 → 1 * 2 ^ s % 2 ^ 32 ≡ 2 ^ s
 one-shifted s l = let g : suc s ≤ 32 = l in omega (arith, pow-mono g, pow-suc 2 s, pow-pos s)
 
-pub marked-in : (cells : List ℕ) (x : ℕ) → x < mostBundles → set cells (x / cellBits) (bitOr (getD cells (x / cellBits) 0) (1 * 2 ^ (x % cellBits) % 2 ^ 32)) ≡ set cells (x / cellBits) (bitOr (getD cells (x / cellBits) 0) (2 ^ (x % cellBits)))
+pub marked-in : (cells : List ℕ) (x : ℕ) → x < mostBundles → set cells (x / cellBits) (bitOr (getD cells (x / cellBits) 0) (1 * 2 ^ (x % cellBits) % 2 ^ 32))
+    ≡ set cells (x / cellBits) (bitOr (getD cells (x / cellBits) 0) (2 ^ (x % cellBits)))
 marked-in cells x l = rw (one-shifted (x % cellBits) (omega arith))
 
 pub no-marks : replicate landingCells 0 ≡ landingsOf []
@@ -150,7 +151,9 @@ marks-more ls x l =
     paired i f = ⊎-elim (λ q. inl (omega (arith, ltb-true (x / cellBits) i q))) (λ q. inr (omega (arith, ltb-false (x / cellBits) i q))) (cases (ltb (x / cellBits) i))
 
 module _ (ls cells : List ℕ) (i : ℕ) (e : cells ≡ landingsOf (take i ls)) where
-  pub mark-more : i < length ls → getD ls i 0 < mostBundles → (cells′ : List ℕ) → cells′ ≡ set cells (getD ls i 0 / cellBits) (bitOr (getD cells (getD ls i 0 / cellBits) 0) (2 ^ (getD ls i 0 % cellBits))) → cells′ ≡ landingsOf (take (i + 1) ls)
+  pub mark-more : i < length ls → getD ls i 0 < mostBundles → (cells′ : List ℕ)
+      → cells′ ≡ set cells (getD ls i 0 / cellBits) (bitOr (getD cells (getD ls i 0 / cellBits) 0) (2 ^ (getD ls i 0 % cellBits)))
+      → cells′ ≡ landingsOf (take (i + 1) ls)
   mark-more h l cells′ q =
       let n : i + 1 ≡ suc i = omega arith in
       rw (q, e, n, take-suc ls i 0 h) (marks-more (take i ls) (getD ls i 0) l)

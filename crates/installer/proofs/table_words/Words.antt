@@ -138,7 +138,8 @@ module _ (s : ℕ) (some : 1 ≤ s) (most : s ≤ mostStates) where
       let x = 128 - s in
       let high = w / 256 in
       ap₂ eqb (apart ors x (omega arith) (fill 127 n) (fill x n) (fill 128 n) w) (apart ands 1 (lit≤ tt) (fill 127 n) (fill 1 n) (fill 128 n) w)
-      ∙ pair (over n x high) (full n high) (tops bitOr 127 x 128 b) (tops bitAnd 127 1 128 b) (omega (arith, and-le-r (bitOr (bitAnd b 127 + x) b) 128)) (omega (arith, and-le-r (bitAnd (bitAnd b 127 + 1) b) 128))
+      ∙ pair (over n x high) (full n high) (tops bitOr 127 x 128 b) (tops bitAnd 127 1 128 b) (omega (arith, and-le-r (bitOr (bitAnd b 127 + x) b) 128))
+      (omega (arith, and-le-r (bitAnd (bitAnd b 127 + 1) b) 128))
       ∙ ap₂ _&&_ (one-byte s b some most (mod-lt w (lit< tt))) (each n high)
 
   -- the test of a word, its four numbers being these
@@ -167,7 +168,8 @@ four t i h =
     let e₃ : i + 3 ≡ suc (suc (suc i)) = omega arith in
     rw (e₁, e₂, e₃, drop-cons t i 0 (omega arith), drop-cons t (suc i) 0 (omega arith), drop-cons t (suc (suc i)) 0 (omega arith), drop-cons t (suc (suc (suc i))) 0 (omega arith))
 
-pub word-of : (t : List ℕ) (i a b c d : ℕ) → i + wordBytes ≤ length t → (a ≡ getD t i 0) × (a < 256) → (b ≡ getD t (i + 1) 0) × (b < 256) → (c ≡ getD t (i + 2) 0) × (c < 256) → (d ≡ getD t (i + 3) 0) × (d < 256)
+pub word-of : (t : List ℕ) (i a b c d : ℕ) → i + wordBytes ≤ length t → (a ≡ getD t i 0) × (a < 256) → (b ≡ getD t (i + 1) 0) × (b < 256)
+    → (c ≡ getD t (i + 2) 0) × (c < 256) → (d ≡ getD t (i + 3) 0) × (d < 256)
     → lowBytes wordBytes (a + (b * 2 ^ 8) % 2 ^ 32 + (c * 2 ^ 16) % 2 ^ 32 + (d * 2 ^ 24) % 2 ^ 32) ≡ take wordBytes (drop i t)
 word-of t i a b c d h ea eb ec ed =
     let wb : (b * 2 ^ 8) % 2 ^ 32 ≡ b * 2 ^ 8 = omega arith in

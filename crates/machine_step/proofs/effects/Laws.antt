@@ -91,11 +91,23 @@ pub word-fits : (v : ℕ) → v ≤ topWord → Held w32 v
 word-fits v h = record { fits = omega arith }
 
 -- a kind that is not plain puts nothing of its own
-pub other-kind : (k x y v : ℕ) → (k ≡ command .set → ⊥) → (k ≡ command .move → ⊥) → (k ≡ command .add → ⊥) → (k ≡ command .sub → ⊥) → (k ≡ command .and → ⊥) → (k ≡ command .or → ⊥) → (k ≡ command .sar → ⊥) → (k ≡ command .andi → ⊥) → (k ≡ command .ori → ⊥) → (k ≡ command .shl → ⊥)
+pub other-kind : (k x y v : ℕ) → (k ≡ command .set → ⊥) → (k ≡ command .move → ⊥) → (k ≡ command .add → ⊥) → (k ≡ command .sub → ⊥) → (k ≡ command .and → ⊥)
+    → (k ≡ command .or → ⊥) → (k ≡ command .sar → ⊥) → (k ≡ command .andi → ⊥) → (k ≡ command .ori → ⊥) → (k ≡ command .shl → ⊥)
     → 0 ≡ plainOf k x y v
 unfolding plainOf
 other-kind k x y v a b c d e f g h i j =
-    rw (ne-eqb k (command .set) a, ne-eqb k (command .move) b, ne-eqb k (command .add) c, ne-eqb k (command .sub) d, ne-eqb k (command .and) e, ne-eqb k (command .or) f, ne-eqb k (command .sar) g, ne-eqb k (command .andi) h, ne-eqb k (command .ori) i, ne-eqb k (command .shl) j)
+    rw (
+      ne-eqb k (command .set) a,
+      ne-eqb k (command .move) b,
+      ne-eqb k (command .add) c,
+      ne-eqb k (command .sub) d,
+      ne-eqb k (command .and) e,
+      ne-eqb k (command .or) f,
+      ne-eqb k (command .sar) g,
+      ne-eqb k (command .andi) h,
+      ne-eqb k (command .ori) i,
+      ne-eqb k (command .shl) j,
+    )
 
 -- each command's effect
 module _ (regs : List ℕ) (pc : ℕ) (mem : List ℕ) (cell table base landings free left : ℕ) (c : Command) where

@@ -23,7 +23,8 @@ returns-2 c =
     let explored = written .before .before in
     let judged = explored .before .before in
     let start = judged .before .before .before in
-    makes _ _ (judged .drawing-right .ensures) (now (start .args .table)) _ _ _ (not-false _ (explored .before .if1 .left)) (explored .explore .ensures) (written .write .ensures .0) (written .write .ensures .1)
+    makes _ _ (judged .drawing-right .ensures) (now (start .args .table)) _ _ _ (not-false _ (explored .before .if1 .left)) (explored .explore .ensures)
+    (written .write .ensures .0) (written .write .ensures .1)
 
 pub determinise-spec : {M : Type 1} → statement M
 determinise-spec =

@@ -45,7 +45,8 @@ loop-again c =
     let test = c .before .before .before in
     let at = test .before .before .loop in
     let start = test .before .before .before .before .before .before in
-    holds-more _ (start .args .start) (pairs _ _ _ (λ z. omega (arith, start .pre))) (at .found) (at .k) (at .inv) _ (test .before .has-pending .ensures) (test .if1 .taken) _ _ (c .before .before .node .ensures) (c .before .next .ensures) _ (c .step .ensures)
+    holds-more _ (start .args .start) (pairs _ _ _ (λ z. omega (arith, start .pre))) (at .found) (at .k) (at .inv) _ (test .before .has-pending .ensures)
+    (test .if1 .taken) _ _ (c .before .before .node .ensures) (c .before .next .ensures) _ (c .step .ensures)
 
 returns : tie.Need-returns Inv-loop μ-loop
 returns c =

@@ -10,7 +10,8 @@ returns : tie.Need-returns
 returns c =
     let second = c .before .before in
     let first = second .before in
-    bad-policy _ _ _ _ (first .table-right .ensures) (second .table-right2 .ensures) (now (first .before .before .before .before .args .table)) _ (not-true _ (c .before .if1 .taken)) (c .refused .ensures)
+    bad-policy _ _ _ _ (first .table-right .ensures) (second .table-right2 .ensures) (now (first .before .before .before .before .args .table)) _
+    (not-true _ (c .before .if1 .taken)) (c .refused .ensures)
 
 pair-requires : tie.Need-pair-requires
 pair-requires c κs =
@@ -30,7 +31,8 @@ returns-2 c =
     let test = paired .before .before .before in
     let second = test .before in
     let first = second .before in
-    makes _ _ _ _ (first .table-right .ensures) (second .table-right2 .ensures) (now (first .before .before .before .before .args .table)) _ _ _ _ (not-false _ (test .if1 .left)) (paired .pair .ensures) (explored .explore .ensures) (written .write .ensures .0) (written .write .ensures .1)
+    makes _ _ _ _ (first .table-right .ensures) (second .table-right2 .ensures) (now (first .before .before .before .before .args .table)) _ _ _ _
+    (not-false _ (test .if1 .left)) (paired .pair .ensures) (explored .explore .ensures) (written .write .ensures .0) (written .write .ensures .1)
 
 pub made-of-spec : {M : Type 1} → statement M
 made-of-spec =

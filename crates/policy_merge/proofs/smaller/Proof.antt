@@ -20,8 +20,11 @@ abbrev μ-loop : tie.MeasureT-loop
 loop-again : tie.Need-loop-again Inv-loop μ-loop
 loop-again c =
     let start = c .before .before .before in
-    let at = c .before .before .loop in
-    (fill-more (λ j. min (getD (start .args .t1) j 0) (getD (start .args .t2) j 0)) (replicate orders 0) (at .out) (at .i) _ (at .inv .0) (c .before .loop-test .taken) (c .least .ensures), search needs)
+    let at = c .before .before .loop in (
+      fill-more (λ j. min (getD (start .args .t1) j 0) (getD (start .args .t2) j 0)) (replicate orders 0) (at .out) (at .i) _ (at .inv .0)
+          (c .before .loop-test .taken) (c .least .ensures),
+      search needs,
+    )
 
 returns : tie.Need-returns Inv-loop μ-loop
 returns c =

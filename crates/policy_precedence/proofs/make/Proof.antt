@@ -47,7 +47,8 @@ returns-2 c =
     let start = isNamed .before .before .before in
     let ps = now (start .args .pairs) in
     let are = states-are ps _ (isNamed .named-events .ensures) _ (judged .pairs-right .ensures) _ (counted .states .ensures) in
-    no-room ps _ (isNamed .named-events .ensures) _ (judged .pairs-right .ensures) (now (start .args .table)) _ _ (not-false _ (counted .before .if1 .left)) (bytes-are ps _ are) (c .before .if2 .taken) (c .refused2 .ensures)
+    no-room ps _ (isNamed .named-events .ensures) _ (judged .pairs-right .ensures) (now (start .args .table)) _ _ (not-false _ (counted .before .if1 .left))
+    (bytes-are ps _ are) (c .before .if2 .taken) (c .refused2 .ensures)
 
 fill-requires : tie.Need-fill-requires
 fill-requires c κs =
@@ -63,8 +64,10 @@ taken-requires c κs =
     let counted = c .before .before .before .before .before in
     let judged = counted .before .before in
     let isNamed = judged .before in
-    let ps = now (isNamed .before .before .before .args .pairs) in
-    (fit-of ps _ (isNamed .named-events .ensures) _ (judged .pairs-right .ensures) (not-false _ (counted .before .if1 .left)), states-are ps _ (isNamed .named-events .ensures) _ (judged .pairs-right .ensures) _ (counted .states .ensures))
+    let ps = now (isNamed .before .before .before .args .pairs) in (
+      fit-of ps _ (isNamed .named-events .ensures) _ (judged .pairs-right .ensures) (not-false _ (counted .before .if1 .left)),
+      states-are ps _ (isNamed .named-events .ensures) _ (judged .pairs-right .ensures) _ (counted .states .ensures),
+    )
 
 same-length : tie.Need-same-length
 same-length c = search needs
@@ -79,7 +82,8 @@ returns-3 c =
     let start = isNamed .before .before .before in
     let ps = now (start .args .pairs) in
     let are = states-are ps _ (isNamed .named-events .ensures) _ (judged .pairs-right .ensures) _ (counted .states .ensures) in
-    makes ps _ (isNamed .named-events .ensures) _ (judged .pairs-right .ensures) (now (start .args .table)) _ _ _ (not-false _ (counted .before .if1 .left)) (bytes-are ps _ are) (roomy .if2 .left) (filled .fill .ensures) (c .taken .ensures)
+    makes ps _ (isNamed .named-events .ensures) _ (judged .pairs-right .ensures) (now (start .args .table)) _ _ _ (not-false _ (counted .before .if1 .left))
+    (bytes-are ps _ are) (roomy .if2 .left) (filled .fill .ensures) (c .taken .ensures)
 
 pub make-spec : {M : Type 1} → statement M
 make-spec =

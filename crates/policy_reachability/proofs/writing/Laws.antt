@@ -39,7 +39,8 @@ module _ (f : Worklist) (sized : WorklistSized f) where
   unfolding writtenOf writtenTable worklistAnswer
   no-room t made b h e l q = rw (le-leb (f .count) mostStates h, lt-ltb (length t) (events * f .count) (omega arith)) (q, refl)
 
-  pub writes : (t t′ : List ℕ) (b : ℕ) → f .count ≤ mostStates → b ≡ events * f .count → b ≤ length t → t′ ≡ take b (f .arrows) ++ drop b t → (a : Answer) → a ≡ answer 0 b → Writes t (madeWith a (f .count)) t′
+  pub writes : (t t′ : List ℕ) (b : ℕ) → f .count ≤ mostStates → b ≡ events * f .count → b ≤ length t → t′ ≡ take b (f .arrows) ++ drop b t → (a : Answer)
+      → a ≡ answer 0 b → Writes t (madeWith a (f .count)) t′
   unfolding writtenOf writtenTable worklistAnswer
   writes t t′ b h e l q a ea =
       let n : length (take (events * f .count) (f .arrows)) ≡ events * f .count = length-take-le (events * f .count) (f .arrows) (omega (arith, sized .arrows)) in

@@ -244,7 +244,8 @@ bit-map p n e h =
     let s : suc e + (n - suc e) ≡ n = omega arith in
     let q : 1 + e ≡ suc e = omega arith in
     let l : mapWhere p n % 2 ^ suc e ≡ mapWhere p (suc e) = rw s at (map-low p (n - suc e) (suc e)) in
-    let f : mapWhere p n / 2 ^ e % 2 ^ 1 ≡ bit-of (p e) = sym (field (mapWhere p n) 1 e) ∙ ap (λ (x : ℕ). mapWhere p n % 2 ^ x / 2 ^ e) q ∙ ap (λ (x : ℕ). x / 2 ^ e) (l ∙ top p e) ∙ high (bit-of (p e)) e (map-lt p e) in
+    let f : mapWhere p n / 2 ^ e % 2 ^ 1 ≡ bit-of (p e) = sym (field (mapWhere p n) 1 e) ∙ ap (λ (x : ℕ). mapWhere p n % 2 ^ x / 2 ^ e) q
+    ∙ ap (λ (x : ℕ). x / 2 ^ e) (l ∙ top p e) ∙ high (bit-of (p e)) e (map-lt p e) in
     ap (λ (x : ℕ). eqb x 1) f ∙ go (p e)
   where
     go : (b : Bool) → eqb (bit-of b) 1 ≡ b

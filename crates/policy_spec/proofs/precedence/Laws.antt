@@ -17,7 +17,9 @@ use Rattle.types.specs.Names.{events, noArrow, answer, refusal}
 use Rattle.spec.proofs.Bools.{both}
 use Rattle.policy_spec.specs.declared.precedence.Made.{Made}
 use Rattle.policy_spec.specs.maps.Maps.{every, some, mapWhere, bit, build}
-use Rattle.policy_spec.specs.precedence.Precedence.{ValidPairs, namedIn, isNamed, knownIn, known, mostNamed, firstAt, pairsIn, bitIndex, firstsIn, statesOf, tableBytes, namedCount, arrowOf, byteOf, blocked, advanceOf, iterate, fixpointOf, unreachableEvents, pairsRight, makeAnswer, madeWith, makeOf, makeTable}
+use Rattle.policy_spec.specs.precedence.Precedence.{ValidPairs, namedIn, isNamed, knownIn, known, mostNamed, firstAt, pairsIn, bitIndex}
+use Rattle.policy_spec.specs.precedence.Precedence.{firstsIn, statesOf, tableBytes, namedCount, arrowOf, byteOf, blocked, advanceOf, iterate}
+use Rattle.policy_spec.specs.precedence.Precedence.{fixpointOf, unreachableEvents, pairsRight, makeAnswer, madeWith, makeOf, makeTable}
 use Rattle.policy_spec.proofs.maps.Maps.{every-at, map-or, map-one, map-none, map-low, map-ones, bit-map, count-less, map-lt, length-build}
 
 pub known-none : (ps : List ℕ) → knownIn ps 0 ≡ true
@@ -271,7 +273,8 @@ module _ (ps : List ℕ) (m : ℕ) (e : m ≡ mapWhere (isNamed ps) events) (r :
   unfolding makeOf makeTable makeAnswer
   no-room t made b f z h q = let l : ltb (length t) (tableBytes ps) ≡ true = lt-ltb (length t) (tableBytes ps) (rw z at h) in rw (← g, f, l) (q, refl)
 
-  pub makes : (t t′ : List ℕ) (made : Made) (b : ℕ) → r ≡ true → b ≡ tableBytes ps → b ≤ length t → t′ ≡ build (byteOf ps) b ++ drop b t → made ≡ madeWith (answer 0 b) (statesOf ps) (unreachableEvents ps) → Makes t made t′
+  pub makes : (t t′ : List ℕ) (made : Made) (b : ℕ) → r ≡ true → b ≡ tableBytes ps → b ≤ length t → t′ ≡ build (byteOf ps) b ++ drop b t
+      → made ≡ madeWith (answer 0 b) (statesOf ps) (unreachableEvents ps) → Makes t made t′
   unfolding makeOf makeTable makeAnswer
   makes t t′ made b f z h w q =
       let l : ltb (length t) (tableBytes ps) ≡ false = le-ltb (length t) (tableBytes ps) (rw z at h) in
@@ -283,7 +286,8 @@ states-fit ps m s fit e = omega (arith, states-most ps m fit)
 pub unreachable-fits : (p : ℕ → Bool) (x : ℕ) → x ≡ mapWhere p events → x < 2 ^ 16
 unreachable-fits p x e = rw e (map-lt p events)
 
-pub taken-is : (ps : List ℕ) (b s r x : ℕ) → s ≡ statesOf ps → r ≡ fixpointOf ps → x ≡ mapWhere (blocked ps r) events → (a : Answer) → a ≡ answer 0 b → madeWith a s x ≡ madeWith (answer 0 b) (statesOf ps) (unreachableEvents ps)
+pub taken-is : (ps : List ℕ) (b s r x : ℕ) → s ≡ statesOf ps → r ≡ fixpointOf ps → x ≡ mapWhere (blocked ps r) events → (a : Answer) → a ≡ answer 0 b
+    → madeWith a s x ≡ madeWith (answer 0 b) (statesOf ps) (unreachableEvents ps)
 taken-is ps b s r x e f g a ea = let h : x ≡ unreachableEvents ps = g ∙ ap (λ (y : ℕ). mapWhere (blocked ps y) events) f in rw (ea, e, h)
 
 pub bytes-are : (ps : List ℕ) (s : ℕ) → s ≡ statesOf ps → events * s ≡ tableBytes ps

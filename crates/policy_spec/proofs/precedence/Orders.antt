@@ -105,11 +105,16 @@ module _ (ps es : List ℕ) (m : ℕ) (fit : ValidPairs ps m) where
       of-named : isNamed ps x ≡ true → SimInvariant (arrowOf ps s x) (suc i)
       of-named n =
           let p = bitIndex ps x in
-          let e : (f : ℕ) → bit (arrowOf ps s x) (bitIndex ps f) ≡ (bit s (bitIndex ps f) || bit (2 ^ p) (bitIndex ps f)) = λ f. ap (λ (y : ℕ). bit y (bitIndex ps f)) (moves-named ps m fit s x (r .state) k t n) ∙ bit-or s (2 ^ p) (bitIndex ps f) in
+          let e : (f : ℕ) → bit (arrowOf ps s x) (bitIndex ps f) ≡ (bit s (bitIndex ps f) || bit (2 ^ p) (bitIndex ps f)) = λ f. ap
+          (λ (y : ℕ). bit y (bitIndex ps f)) (moves-named ps m fit s x (r .state) k t n) ∙ bit-or s (2 ^ p) (bitIndex ps f) in
           record {
             state = moves-below ps m fit s x (r .state) k t;
-            heard = λ f nf b. ⊎-elim (λ c. later i f (r .heard f nf c)) (λ c. record { at = i; below = omega arith; is = place-apart ps x f n nf (same p (bitIndex ps f) c) }) (either (bit s (bitIndex ps f)) (bit (2 ^ p) (bitIndex ps f)) (sym (e f) ∙ b));
-            kept = λ f nf a. e f ∙ ⊎-elim (λ c. or-right (bit s (bitIndex ps f)) (bit (2 ^ p) (bitIndex ps f)) (ap (λ (y : ℕ). bit (2 ^ p) (bitIndex ps y)) (sym c) ∙ bit-same p)) (λ c. or-left (bit s (bitIndex ps f)) (bit (2 ^ p) (bitIndex ps f)) (r .kept f nf c)) (last i f a);
+            heard = λ f nf b. ⊎-elim (λ c. later i f (r .heard f nf c)) (λ c. record
+                { at = i; below = omega arith; is = place-apart ps x f n nf (same p (bitIndex ps f) c) })
+                (either (bit s (bitIndex ps f)) (bit (2 ^ p) (bitIndex ps f)) (sym (e f) ∙ b));
+            kept = λ f nf a. e f ∙ ⊎-elim (λ c. or-right (bit s (bitIndex ps f)) (bit (2 ^ p) (bitIndex ps f))
+                (ap (λ (y : ℕ). bit (2 ^ p) (bitIndex ps y)) (sym c) ∙ bit-same p))
+                (λ c. or-left (bit s (bitIndex ps f)) (bit (2 ^ p) (bitIndex ps f)) (r .kept f nf c)) (last i f a);
           }
         where
           same : (p q : ℕ) → bit (2 ^ p) q ≡ true → p ≡ q
@@ -140,7 +145,8 @@ module _ (ps es : List ℕ) (m : ℕ) (fit : ValidPairs ps m) where
     abbrev Rest : ℕ → ℕ → Type 0
     Rest s i = allowedFrom (madePolicy ps) s (drop i es) ≡ true
 
-    unfolds : (s i : ℕ) → i < length es → s < statesOf ps → allowedFrom (madePolicy ps) s (drop i es) ≡ (not (blocked ps s (getD es i 0)) && allowedFrom (madePolicy ps) (arrowOf ps s (getD es i 0)) (drop (suc i) es))
+    unfolds : (s i : ℕ) → i < length es → s < statesOf ps → allowedFrom (madePolicy ps) s (drop i es)
+        ≡ (not (blocked ps s (getD es i 0)) && allowedFrom (madePolicy ps) (arrowOf ps s (getD es i 0)) (drop (suc i) es))
     unfolds s i h l = rw (drop-cons es i 0 h, arrow-is ps s (getD es i 0) l (are i h))
 
     at-place : (s i : ℕ) → i < length es → SimInvariant s i → blocked ps s (getD es i 0) ≡ false → AtPlace i

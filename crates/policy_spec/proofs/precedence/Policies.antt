@@ -12,7 +12,8 @@ use borrow.Author.Tests.{eq-eqb, lt-ltb, le-ltb}
 use Rattle.types.specs.Names.{events, mostStates, noArrow}
 use Rattle.spec.specs.Policies.{Policy, arrow, entryRight, rightPolicy}
 use Rattle.policy_spec.specs.maps.Maps.{mapWhere}
-use Rattle.policy_spec.specs.precedence.Precedence.{ValidPairs, isNamed, namedCount, statesOf, tableBytes, arrowOf, byteOf, blocked, tableOf, madePolicy, pairsRight, makeAnswer, makeOf, makeTable}
+use Rattle.policy_spec.specs.precedence.Precedence.{ValidPairs, isNamed, namedCount, statesOf, tableBytes, arrowOf, byteOf, blocked, tableOf}
+use Rattle.policy_spec.specs.precedence.Precedence.{madePolicy, pairsRight, makeAnswer, makeOf, makeTable}
 use Rattle.policy_spec.specs.precedence.Claims.{Makes, TakenMakes, MadeRight}
 use Rattle.policy_spec.proofs.maps.Tables.{entries-build}
 use Rattle.policy_spec.proofs.maps.Maps.{length-build, build-at}

@@ -15,7 +15,8 @@ use Rattle.types.specs.Names.{events, noArrow}
 use Rattle.spec.specs.Policies.{Policy, arrow, stateFrom, allowedFrom, allowed}
 use Rattle.spec.proofs.Bools.{no, cases, both, either, join, or-left, or-right}
 use Rattle.policy_spec.specs.maps.Maps.{count, mapWhere, bit}
-use Rattle.policy_spec.specs.precedence.Precedence.{ValidPairs, mostNamed, isNamed, namedCount, pairsIn, firstAt, bitIndex, statesOf, firstsIn, arrowOf, blocked, advanceOf, iterate, fixpointOf, unreachableEvents, madePolicy}
+use Rattle.policy_spec.specs.precedence.Precedence.{ValidPairs, mostNamed, isNamed, namedCount, pairsIn, firstAt, bitIndex, statesOf, firstsIn}
+use Rattle.policy_spec.specs.precedence.Precedence.{arrowOf, blocked, advanceOf, iterate, fixpointOf, unreachableEvents, madePolicy}
 use Rattle.policy_spec.specs.precedence.Claims.{Unreachable, UnreachableLaws, UnreachableExact}
 use Rattle.policy_spec.proofs.maps.Maps.{bit-or, bit-same, bit-zero, bit-map, bit-high, bit-kept, map-lt, count-le, count-sub-less}
 use Rattle.policy_spec.proofs.precedence.Laws.{on-is, blocked-is, turns-below, place-less}
@@ -49,7 +50,8 @@ module _ (ps : List ℕ) (m : ℕ) (fit : ValidPairs ps m) where
       go true a false c b d = inl (is true false a c)
       go true a true c true d = inl (is true true a c ∙ bit-kept s p d)
       go true a true c false d =
-          inr (rw (is true true a c) (count-sub-less (bit s) (bit (bitOr s (2 ^ p))) mostNamed p set (place-less ps m fit e k a) d (bit-or s (2 ^ p) p ∙ or-right (bit s p) (bit (2 ^ p) p) (bit-same p))))
+          inr (rw (is true true a c) (count-sub-less (bit s) (bit (bitOr s (2 ^ p))) mostNamed p set (place-less ps m fit e k a) d (bit-or s (2 ^ p) p
+          ∙ or-right (bit s p) (bit (2 ^ p) p) (bit-same p))))
 
   -- no event goes on
   Closed : ℕ → Type 0
@@ -244,12 +246,14 @@ module _ (ps : List ℕ) (m : ℕ) (fit : ValidPairs ps m) where
   unfolding allowed
   never-laws e = record {
     event = λ t. low t;
-    unreachable = λ t es a r. unheard-from e (low t) (sym (bit-map (blocked ps (fixpointOf ps)) events e (low t)) ∙ t) es (length es) 0 0 (omega arith) (pow-pos (namedCount ps)) starts-within a (r .at) (omega arith) (r .below) (r .is);
+    unreachable = λ t es a r. unheard-from e (low t) (sym (bit-map (blocked ps (fixpointOf ps)) events e (low t))
+        ∙ t) es (length es) 0 0 (omega arith) (pow-pos (namedCount ps)) starts-within a (r .at) (omega arith) (r .below) (r .is);
     complete = λ k u. bit-map (blocked ps (fixpointOf ps)) events e k ∙ ⊎-elim (λ t. t) (λ t. absurd (heard e k t u)) (cases (blocked ps (fixpointOf ps) e));
   }
     where
       low : bit (unreachableEvents ps) e ≡ true → e < events
-      low t = ⊎-elim (λ l. ltb-true e events l) (λ l. no (sym (bit-high (unreachableEvents ps) events e (map-lt (blocked ps (fixpointOf ps)) events) (ltb-false e events l)) ∙ t)) (cases (ltb e events))
+      low t = ⊎-elim (λ l. ltb-true e events l) (λ l. no (sym (bit-high (unreachableEvents ps) events e (map-lt (blocked ps (fixpointOf ps)) events)
+          (ltb-false e events l)) ∙ t)) (cases (ltb e events))
 
 pub unreachable-allowed : UnreachableExact
 unreachable-allowed ps e t = never-laws ps (mapWhere (isNamed ps) events) (fit-right ps t) e

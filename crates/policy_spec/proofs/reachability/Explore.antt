@@ -72,7 +72,14 @@ going f k b e t = let m = more-few f k (sym e ∙ t) in (m .0, omega arith)
 
 module _ (next : ℕ → ℕ → ℕ) (q : ℕ) (ok : Arrows next q) where
   pub holds-start : (f : Worklist) → f ≡ initialWorklist q → WorklistInvariant next q f 0
-  holds-start f e = rw e (record { sized = record { most = omega arith; nodes = refl; arrows = refl }; count = ap length (sym (reached-zero next q)); list = sym (reached-zero next q); arrows = fill-none (byteOf next (nodes next q)) (replicate (events * mostStates) 0); taken = omega arith; few = omega arith })
+  holds-start f e = rw e (record {
+    sized = record { most = omega arith; nodes = refl; arrows = refl };
+    count = ap length (sym (reached-zero next q));
+    list = sym (reached-zero next q);
+    arrows = fill-none (byteOf next (nodes next q)) (replicate (events * mostStates) 0);
+    taken = omega arith;
+    few = omega arith;
+  })
 
   module _ (f : Worklist) (k : ℕ) (h : WorklistInvariant next q f k) where
     module _ (b : Bool) (m : b ≡ hasPending f k) (t : b ≡ true) (y x : ℕ) (e : y ≡ getD (f .nodes) (k / events) 0) (g : x ≡ next y (k % events)) where
@@ -100,7 +107,8 @@ module _ (next : ℕ → ℕ → ℕ) (q : ℕ) (ok : Arrows next q) where
           let m₁ = grows next q ok (k + 1) (all - (k + 1)) in
           let a : nodes next q ≡ reachedBy next q k ++ m .rest = ap (reachedBy next q) (sym w) ∙ m .is in
           let b : nodes next q ≡ reachedBy next q (k + 1) ++ m₁ .rest = ap (reachedBy next q) (sym w₁) ∙ m₁ .is in
-          let c : getD (nodes next q) (k / events) 0 ≡ getD (reachedBy next q k) (k / events) 0 = ap (λ (l : List ℕ). getD l (k / events) 0) a ∙ List·getD-append (reachedBy next q k) (m .rest) 0 (k / events) (omega (arith, low, h .count)) in
+          let c : getD (nodes next q) (k / events) 0 ≡ getD (reachedBy next q k) (k / events) 0 = ap (λ (l : List ℕ). getD l (k / events) 0) a
+          ∙ List·getD-append (reachedBy next q k) (m .rest) 0 (k / events) (omega (arith, low, h .count)) in
           let v : target next (nodes next q) k ≡ x = ap (λ (z : ℕ). next z (k % events)) c ∙ sym is-target in
           number-reached (nodesOf f) x
           ∙ ap (λ (l : List ℕ). nodeState l x) then
@@ -116,7 +124,8 @@ module _ (next : ℕ → ℕ → ℕ) (q : ℕ) (ok : Arrows next q) where
             sized = record { most = omega (arith, u .at-most, few); nodes = u .nodes ∙ s .nodes; arrows = u .arrows ∙ s .arrows };
             count = sym (length-take-le (insertTarget f k x .count) (insertTarget f k x .nodes) (omega (arith, u .at-most, few, u .nodes, s .nodes))) ∙ ap length l;
             list = l;
-            arrows = step-arrows f k x ∙ fill-more (byteOf next (nodes next q)) (replicate (events * mostStates) 0) (f .arrows) k (nodeState (nodesOf f) x) (h .arrows) (omega (arith, low, few, length-replicate {A = ℕ} (events * mostStates) 0)) entry;
+            arrows = step-arrows f k x ∙ fill-more (byteOf next (nodes next q)) (replicate (events * mostStates) 0) (f .arrows) k (nodeState (nodesOf f) x)
+                (h .arrows) (omega (arith, low, few, length-replicate {A = ℕ} (events * mostStates) 0)) entry;
             taken = omega (arith, low, u .at-least);
             few = omega (arith, low, few);
           }

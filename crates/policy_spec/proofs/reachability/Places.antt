@@ -40,7 +40,8 @@ pub place-append : (ns ms : List ℕ) (x : ℕ) → indexOf ns x < length ns →
 place-append [] ms x h = absurd (omega arith)
 place-append (y ∷ ns) ms x h = go (eqb y x) h (place-append ns ms x)
   where
-    go : (b : Bool) → cond b 0 (suc (indexOf ns x)) < suc (length ns) → (indexOf ns x < length ns → indexOf (ns ++ ms) x ≡ indexOf ns x) → cond b 0 (suc (indexOf (ns ++ ms) x)) ≡ cond b 0 (suc (indexOf ns x))
+    go : (b : Bool) → cond b 0 (suc (indexOf ns x)) < suc (length ns) → (indexOf ns x < length ns → indexOf (ns ++ ms) x ≡ indexOf ns x)
+        → cond b 0 (suc (indexOf (ns ++ ms) x)) ≡ cond b 0 (suc (indexOf ns x))
     go true l f = refl
     go false l f = ap suc (f (omega arith))
 
@@ -48,7 +49,8 @@ pub place-new : (ns : List ℕ) (x : ℕ) → length ns ≤ indexOf ns x → ind
 place-new [] x h = rw (eq-eqb x x refl)
 place-new (y ∷ ns) x h = go (eqb y x) h (place-new ns x)
   where
-    go : (b : Bool) → suc (length ns) ≤ cond b 0 (suc (indexOf ns x)) → (length ns ≤ indexOf ns x → indexOf (ns ++ (x ∷ [])) x ≡ length ns) → cond b 0 (suc (indexOf (ns ++ (x ∷ [])) x)) ≡ suc (length ns)
+    go : (b : Bool) → suc (length ns) ≤ cond b 0 (suc (indexOf ns x)) → (length ns ≤ indexOf ns x → indexOf (ns ++ (x ∷ [])) x ≡ length ns)
+        → cond b 0 (suc (indexOf (ns ++ (x ∷ [])) x)) ≡ suc (length ns)
     go true l f = absurd (omega arith)
     go false l f = ap suc (f (omega arith))
 

@@ -12,7 +12,8 @@ use Rattle.types.specs.Names.{mostStates, events, noArrow}
 use Rattle.spec.specs.Policies.{arrow, allowedFrom, allowed, entryRight, rightPolicy}
 use Rattle.policy_spec.proofs.maps.Maps.{length-build, build-at}
 use Rattle.policy_spec.proofs.maps.Tables.{entries-build}
-use Rattle.policy_spec.specs.reachability.Reach.{indexOf, insert, target, reachedBy, nodes, nodeState, byteOf, statesOf, tableOf, policyFrom, nodesFit, reachAnswer, reachOf, reachTable, nodeAfter}
+use Rattle.policy_spec.specs.reachability.Reach.{indexOf, insert, target, reachedBy, nodes, nodeState, byteOf, statesOf, tableOf, policyFrom}
+use Rattle.policy_spec.specs.reachability.Reach.{nodesFit, reachAnswer, reachOf, reachTable, nodeAfter}
 use Rattle.policy_spec.specs.reachability.Claims.{Arrows, Reached, Exactly, NodesExact, Makes, TakenReaches, ReachRight, AllowedReaches}
 use Rattle.policy_spec.proofs.reachability.Places.{pigeonhole, place-at, place-of, place-append, place-new, Inserts, none, again, anew, inserts, insert-none, reached-known, More, insert-more}
 use Rattle.spec.proofs.Bools.{or-left, or-right}
@@ -115,11 +116,13 @@ module _ (next : ℕ → ℕ → ℕ) (q : ℕ) (ok : Arrows next q) where
       let e : k + suc d ≡ suc (k + d) = omega arith in
       let i = (k + d) / events in
       let r : reachedBy next q (k + d) ≡ reachedBy next q k = rests k d h in
-      let z : target next (reachedBy next q k) (k + d) ≡ 0 = ap (λ (x : ℕ). next x ((k + d) % events)) (List·getD-eq-default (reachedBy next q k) 0 {n = i} (omega arith)) ∙ ok .none ((k + d) % events) in
+      let z : target next (reachedBy next q k) (k + d) ≡ 0 = ap (λ (x : ℕ). next x ((k + d) % events))
+      (List·getD-eq-default (reachedBy next q k) 0 {n = i} (omega arith)) ∙ ok .none ((k + d) % events) in
       rw (e, r, z) (insert-none (reachedBy next q k))
 
   -- of a node with a number, so has each next one
-  pub closed : statesOf next q ≤ mostStates → (i e : ℕ) → i < statesOf next q → e < events → (next (getD (nodes next q) i 0) e ≡ 0 → ⊥) → indexOf (nodes next q) (next (getD (nodes next q) i 0) e) < statesOf next q
+  pub closed : statesOf next q ≤ mostStates → (i e : ℕ) → i < statesOf next q → e < events → (next (getD (nodes next q) i 0) e ≡ 0 → ⊥)
+      → indexOf (nodes next q) (next (getD (nodes next q) i 0) e) < statesOf next q
   closed s i e h l z = go (ltb i (length now)) refl
     where
       k : ℕ
@@ -174,11 +177,14 @@ module _ (next : ℕ → ℕ → ℕ) (q : ℕ) (ok : Arrows next q) where
             on z p (place-at (nodes next q) y p)
 
     -- what is reached from a node has a number
-    on-from : (es : List ℕ) (i : ℕ) → i < statesOf next q → (nodeAfter next (getD (nodes next q) i 0) es ≡ 0 → ⊥) → indexOf (nodes next q) (nodeAfter next (getD (nodes next q) i 0) es) < statesOf next q
+    on-from : (es : List ℕ) (i : ℕ) → i < statesOf next q → (nodeAfter next (getD (nodes next q) i 0) es ≡ 0 → ⊥)
+        → indexOf (nodes next q) (nodeAfter next (getD (nodes next q) i 0) es) < statesOf next q
     on-from [] i h z = omega (arith, place-of (nodes next q) i h)
     on-from (e ∷ es) i h z = go (next (getD (nodes next q) i 0) e) (leads i e h) (on-from es) z
       where
-        go : (y : ℕ) → Leads i e y → ((j : ℕ) → j < statesOf next q → (nodeAfter next (getD (nodes next q) j 0) es ≡ 0 → ⊥) → indexOf (nodes next q) (nodeAfter next (getD (nodes next q) j 0) es) < statesOf next q) → (nodeAfter next y es ≡ 0 → ⊥) → indexOf (nodes next q) (nodeAfter next y es) < statesOf next q
+        go : (y : ℕ) → Leads i e y → ((j : ℕ) → j < statesOf next q → (nodeAfter next (getD (nodes next q) j 0) es ≡ 0 → ⊥)
+            → indexOf (nodes next q) (nodeAfter next (getD (nodes next q) j 0) es) < statesOf next q) → (nodeAfter next y es ≡ 0 → ⊥)
+            → indexOf (nodes next q) (nodeAfter next y es) < statesOf next q
         go y (nowhere f) r w = absurd (w (ap (λ (x : ℕ). nodeAfter next x es) f ∙ after-none next (ok .none) es))
         go y (on f p g) r w = rw g at (r (indexOf (nodes next q) y) p (λ v. w (ap (λ (x : ℕ). nodeAfter next x es) (sym g) ∙ v)))
 
@@ -232,7 +238,8 @@ module _ (next : ℕ → ℕ → ℕ) (q : ℕ) where
       let n = events * i + e in
       let u : n / events ≡ i = omega arith in
       let v : n % events ≡ e = omega arith in
-      rw (lt-ltb e events k) (build-at (byteOf next (nodes next q)) (events * statesOf next q) n noArrow (omega arith) ∙ ap₂ (λ (y d : ℕ). nodeState (nodes next q) (next (getD (nodes next q) y 0) d)) u v)
+      rw (lt-ltb e events k) (build-at (byteOf next (nodes next q)) (events * statesOf next q) n noArrow (omega arith)
+      ∙ ap₂ (λ (y d : ℕ). nodeState (nodes next q) (next (getD (nodes next q) y 0) d)) u v)
 
   module _ (ok : Arrows next q) where
     -- an event above 15 leads nowhere, in the policy too
@@ -251,7 +258,9 @@ module _ (next : ℕ → ℕ → ℕ) (q : ℕ) where
           goes : ℕ → Bool
           goes a = not (eqb a noArrow) && allowedFrom (policyFrom next q) a es
 
-          go : (y : ℕ) → Leads next q ok s i e y → ((j : ℕ) → j < statesOf next q → allowedFrom (policyFrom next q) j es ≡ not (eqb (nodeAfter next (getD (nodes next q) j 0) es) 0)) → goes (nodeState (nodes next q) y) ≡ not (eqb (nodeAfter next y es) 0)
+          go : (y : ℕ) → Leads next q ok s i e y → ((j : ℕ) → j < statesOf next q
+              → allowedFrom (policyFrom next q) j es ≡ not (eqb (nodeAfter next (getD (nodes next q) j 0) es) 0))
+              → goes (nodeState (nodes next q) y) ≡ not (eqb (nodeAfter next y es) 0)
           go y (nowhere f) r = rw (f, after-none next (ok .none) es)
           go y (on f p g) r =
               let n : eqb (indexOf (nodes next q) y) noArrow ≡ false = ne-eqb (indexOf (nodes next q) y) noArrow (λ z. omega arith) in
@@ -262,7 +271,8 @@ module _ (next : ℕ → ℕ → ℕ) (q : ℕ) where
         where
           go : (y : ℕ) → Leads next q ok s (k / events) (k % events) y → entryRight (statesOf next q) (nodeState (nodes next q) y) ≡ true
           go y (nowhere f) = or-right (ltb (nodeState (nodes next q) y) (statesOf next q)) (eqb (nodeState (nodes next q) y) noArrow) (rw f)
-          go y (on f p g) = rw (ne-eqb y 0 f) (or-left (ltb (indexOf (nodes next q) y) (statesOf next q)) (eqb (indexOf (nodes next q) y) noArrow) (lt-ltb (indexOf (nodes next q) y) (statesOf next q) p))
+          go y (on f p g) = rw (ne-eqb y 0 f) (or-left (ltb (indexOf (nodes next q) y) (statesOf next q)) (eqb (indexOf (nodes next q) y) noArrow)
+              (lt-ltb (indexOf (nodes next q) y) (statesOf next q) p))
 
 length-table : (next : ℕ → ℕ → ℕ) (q : ℕ) → length (tableOf next q) ≡ events * statesOf next q
 unfolding tableOf

@@ -23,7 +23,8 @@ use Rattle.engine_spec.specs.Claims.{runOn, afterTaken, afterRun, after, HostPr
 use Rattle.samples.specs.engine.Sample.{left, runs, machineOne, engineOne, SampleHolds}
 
 premise-with : (x y : ℕ) → HostPremise layout policy code (memory x) (runs y)
-unfolding ones rightLayout rightPolicy rightLandings installAnswer inBox inTable inLandings protected installMemory landingsOf runOn afterTaken afterRun fieldsRefusal refusalAt firstRefused refusalBy eachRun
+unfolding ones rightLayout rightPolicy rightLandings installAnswer inBox inTable inLandings protected installMemory landingsOf runOn afterTaken afterRun
+    fieldsRefusal refusalAt firstRefused refusalBy eachRun
 premise-with x y =
     record {
       taken = refl;
@@ -35,7 +36,8 @@ premise-with x y =
     }
 
 nothing-used : (x y : ℕ) → after layout policy code (memory x) (runs y) .consumed ≡ []
-unfolding ones leadingZeros rightLayout rightPolicy rightLandings bitsFrom landingsOf fieldsRefusal refusalAt firstRefused instrOf routine bundlesFor plainOf installAnswer installMemory applyOf checkedEvent instrEffect instrEffectAt withState applyEffect loopFrom refusalBy runOf runOn afterTaken afterRun afterAll
+unfolding ones leadingZeros rightLayout rightPolicy rightLandings bitsFrom landingsOf fieldsRefusal refusalAt firstRefused instrOf routine bundlesFor plainOf
+    installAnswer installMemory applyOf checkedEvent instrEffect instrEffectAt withState applyEffect loopFrom refusalBy runOf runOn afterTaken afterRun afterAll
 nothing-used x y = refl
 
 paired-with : (x y : ℕ) → PairedRuns layout policy code (memory x) 32 (machineRuns x) (runs y)
@@ -49,21 +51,29 @@ paired-with x y =
     }
 
 -- the machine, given no log
-machine-waits : (x : ℕ) → Waiting layout commands (machineAfter layout policy commands (memory x) (pausedRun x ∷ []) .machine) × (machineAfter layout policy commands (memory x) (pausedRun x ∷ []) .begun ≡ 2)
-unfolding ones leadingZeros rightLayout rightPolicy rightLandings bitsFrom landingsOf instrOf routine bundlesFor wordOf shapeOf decodeBundle bundleAt isCommand commandOf fetchOf plainOf installAnswer installMemory installMachine effectOf applyOf loopFrom machineRunOf begins machineOn machineTaken machineRun afterAll
+machine-waits : (x : ℕ) → Waiting layout commands (machineAfter layout policy commands (memory x) (pausedRun x ∷ []) .machine)
+    × (machineAfter layout policy commands (memory x) (pausedRun x ∷ []) .begun ≡ 2)
+unfolding ones leadingZeros rightLayout rightPolicy rightLandings bitsFrom landingsOf instrOf routine bundlesFor wordOf shapeOf decodeBundle bundleAt isCommand
+    commandOf fetchOf plainOf installAnswer installMemory installMachine effectOf applyOf loopFrom machineRunOf begins machineOn machineTaken machineRun
+    afterAll
 machine-waits x = (record { running = refl; event = 0; third = refl }, refl)
 
 -- the machine, after SET
 machine-boundary : (x : ℕ) → let c = machineAfter layout policy commands (memory x) (machineOne x ∷ []) in AtBoundary layout (c .machine) × (c .machine .status ≡ Running) × (c .begun ≡ 1)
-unfolding ones leadingZeros rightLayout rightPolicy rightLandings bitsFrom landingsOf instrOf routine bundlesFor wordOf shapeOf decodeBundle bundleAt isCommand commandOf fetchOf plainOf installAnswer installMemory installMachine effectOf applyOf loopFrom machineRunOf begins machineOn machineTaken machineRun afterAll
+unfolding ones leadingZeros rightLayout rightPolicy rightLandings bitsFrom landingsOf instrOf routine bundlesFor wordOf shapeOf decodeBundle bundleAt isCommand
+    commandOf fetchOf plainOf installAnswer installMemory installMachine effectOf applyOf loopFrom machineRunOf begins machineOn machineTaken machineRun
+    afterAll
 machine-boundary x = (inl refl, refl, refl)
 
 -- and the engine's one run uses no reading
 unread : (x : ℕ) → (after layout policy code (memory x) (pausedRun x ∷ []) .consumed ≡ []) × (after layout policy code (memory x) (engineOne x ∷ []) .consumed ≡ [])
-unfolding ones leadingZeros rightLayout rightPolicy rightLandings bitsFrom landingsOf fieldsRefusal refusalAt firstRefused instrOf routine bundlesFor plainOf installAnswer installMemory applyOf checkedEvent instrEffect instrEffectAt withState applyEffect loopFrom refusalBy runOf runOn afterTaken afterRun afterAll
+unfolding ones leadingZeros rightLayout rightPolicy rightLandings bitsFrom landingsOf fieldsRefusal refusalAt firstRefused instrOf routine bundlesFor plainOf
+    installAnswer installMemory applyOf checkedEvent instrEffect instrEffectAt withState applyEffect loopFrom refusalBy runOf runOn afterTaken afterRun afterAll
 unread x = (refl, refl)
 
-one-each : (x : ℕ) (g h : RunInput) → MemoryPreserved layout (installMemory layout policy (memory x)) g → MemoryPreserved layout (installMemory layout policy (memory x)) h → after layout policy code (memory x) (h ∷ []) .consumed ≡ [] → PairedRuns layout policy code (memory x) 32 (g ∷ []) (h ∷ [])
+one-each : (x : ℕ) (g h : RunInput) → MemoryPreserved layout (installMemory layout policy (memory x)) g
+    → MemoryPreserved layout (installMemory layout policy (memory x)) h → after layout policy code (memory x) (h ∷ []) .consumed ≡ []
+    → PairedRuns layout policy code (memory x) 32 (g ∷ []) (h ∷ [])
 unfolding eachRun
 one-each x g h lg lh none =
     record {
@@ -74,7 +84,9 @@ one-each x g h lg lh none =
     }
 
 pub sample-holds : SampleHolds
-unfolding ones leadingZeros rightLayout rightPolicy rightLandings bitsFrom landingsOf fieldsRefusal refusalAt firstRefused instrOf routine bundlesFor plainOf installAnswer installMemory applyOf checkedEvent instrEffect instrEffectAt withState applyEffect loopFrom refusalBy runOf runOn afterTaken afterRun afterAll eachRun rewriteAnswer baseRoomAnswer
+unfolding ones leadingZeros rightLayout rightPolicy rightLandings bitsFrom landingsOf fieldsRefusal refusalAt firstRefused instrOf routine bundlesFor plainOf
+    installAnswer installMemory applyOf checkedEvent instrEffect instrEffectAt withState applyEffect loopFrom refusalBy runOf runOn afterTaken afterRun
+    afterAll eachRun rewriteAnswer baseRoomAnswer
 sample-holds =
     record {
       premise = λ x. premise-with x x;

@@ -69,7 +69,8 @@ read-clean (suc n) s = go (decodeOne s) refl (λ u. read-clean n (drop u s))
     go (RefusedWith x) eo ih = λ j h. absurd (omega arith)
 
 -- the checker refuses nothing that the rewriter writes
-nothing-checked : (lay : Layout) (ws : List ℕ) (room : ℕ) → rewriteAnswer lay ws room ≡ orElse (rewriteAnswer lay ws room) (orElse (checkAnswer lay (commandsOf lay ws)) (answer 0 (commandCount (length ws))))
+nothing-checked : (lay : Layout) (ws : List ℕ) (room : ℕ) → rewriteAnswer lay ws room
+    ≡ orElse (rewriteAnswer lay ws room) (orElse (checkAnswer lay (commandsOf lay ws)) (answer 0 (commandCount (length ws))))
 nothing-checked lay ws room =
     let W = rewriteAnswer lay ws room in
     ⊎-elim

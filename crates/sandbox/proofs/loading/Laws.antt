@@ -36,7 +36,8 @@ module _ (lay : Layout) (pol : Policy) (s out mem : List ℕ) where
     -- what a caller learns of the record, the commands and the memory
     abbrev Loaded : Installed → List ℕ → List ℕ → Type 0
     Loaded i out′ mem′ =
-        (i ≡ loadOf lay pol s (length out) mem) × ((out′ ≡ loadCommands lay pol s out mem) × ((mem′ ≡ loadMemory lay pol s (length out) mem) × (i .answer .number ≡ 0 → i .answer .place ≤ length out′)))
+        (i ≡ loadOf lay pol s (length out) mem) × ((out′ ≡ loadCommands lay pol s out mem)
+        × ((mem′ ≡ loadMemory lay pol s (length out) mem) × (i .answer .number ≡ 0 → i .answer .place ≤ length out′)))
 
     pub not-translated : (a .number ≡ 0 → ⊥) → (m : Machine) → m ≡ machineRefused → Loaded (record { machine = m; answer = a }) out mem
     unfolding loadCommands loadMemory loadMachine

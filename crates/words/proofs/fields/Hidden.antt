@@ -60,7 +60,9 @@ module _ (w : ℕ) where
   at-four : (k : ℕ) → lowest / 2 ^ k % 2 ^ 4 ≡ 1 → masked / 2 ^ k % 2 ^ 4 ≡ four (w / 2 ^ k % 2 ^ 4)
   at-four k e =
       field 4 k fours lowest
-      ∙ rw e (and-mask (fours / 2 ^ k % 2 ^ 4) 1 ∙ first (fours / 2 ^ k) ∙ corner k (w / 2 ^ k % 2 ^ 4) (sym (first (w / 2 ^ k))) (moved 1 ∙ second (w / 2 ^ k)) (moved 2 ∙ third (w / 2 ^ k)) (rw (shr-shr w 1 2) (moved 3 ∙ fourth (w / 2 ^ k))))
+      ∙ rw e (and-mask (fours / 2 ^ k % 2 ^ 4) 1 ∙ first (fours / 2 ^ k)
+      ∙ corner k (w / 2 ^ k % 2 ^ 4) (sym (first (w / 2 ^ k))) (moved 1 ∙ second (w / 2 ^ k)) (moved 2
+      ∙ third (w / 2 ^ k)) (rw (shr-shr w 1 2) (moved 3 ∙ fourth (w / 2 ^ k))))
     where
       first : (x : ℕ) → x % 2 ^ 4 % 2 ^ 1 ≡ x % 2 ^ 1
       first x = omega arith

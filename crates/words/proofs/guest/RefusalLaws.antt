@@ -54,7 +54,15 @@ module _ (w k : ℕ) (e : k ≡ kindOf w) where
     good-clean z =
         let o = good (ltb 0 (zeroOf w)) (fieldsOf w) z in
         let m = bounds (ltb 0 (zeroOf w)) (fieldsOf w) z in
-        let i : Within (guestLimits (kindOf w)) w = record { kind = omega (arith, m .kind); zero = omega (arith, ltb-false 0 (zeroOf w) (o .clean)); d = o .kept .d; a = o .kept .a; b = o .kept .b; c = o .kept .c; v = o .kept .v } in
+        let i : Within (guestLimits (kindOf w)) w = record {
+          kind = omega (arith, m .kind);
+          zero = omega (arith, ltb-false 0 (zeroOf w) (o .clean));
+          d = o .kept .d;
+          a = o .kept .a;
+          b = o .kept .b;
+          c = o .kept .c;
+          v = o .kept .v;
+        } in
         join (eqb (bitAnd w s) 0) g
         (rw (es, e) (eq-eqb _ _ (within-guest w fits (m .kind) i (m .d) (m .a) (m .b))))
         (eg ∙ join (d && a) b (join d a (is-guest _ (m .d)) (is-guest _ (m .a))) (is-guest _ (m .b)))

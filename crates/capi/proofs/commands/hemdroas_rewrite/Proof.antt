@@ -14,4 +14,5 @@ hemdroas-rewrite-spec =
     (λ c κs. search needs)
     (λ c κs. narrow _ _ (c .before .before .rewrite .ensures .0) (rewrite-bound _ _ _) (lit< tt))
     (λ c. search needs)
-    (λ c. rewritten _ _ (c .before .before .before .before .before .layout-of .ensures) _ _ _ _ _ (c .before .before .before .rewrite .ensures .0) (c .before .before .before .rewrite .ensures .1) (c .answer-of .ensures)))
+    (λ c. rewritten _ _ (c .before .before .before .before .before .layout-of .ensures) _ _ _ _ _ (c .before .before .before .rewrite .ensures .0)
+    (c .before .before .before .rewrite .ensures .1) (c .answer-of .ensures)))

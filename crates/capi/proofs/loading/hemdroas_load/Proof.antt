@@ -20,4 +20,5 @@ hemdroas-load-spec =
     (λ c. search needs)
     (λ c.
     let i = c .before .before .before .before .before .before in
-    loaded _ _ (i .before .before .before .layout-of .ensures) _ _ _ _ _ _ (c .before .record-of .ensures) (c .answer-of .ensures) _ _ _ (i .load .ensures .0) (i .load .ensures .1 .0) (i .load .ensures .1 .1 .0)))
+    loaded _ _ (i .before .before .before .layout-of .ensures) _ _ _ _ _ _ (c .before .record-of .ensures) (c .answer-of .ensures) _ _ _ (i .load .ensures .0)
+    (i .load .ensures .1 .0) (i .load .ensures .1 .1 .0)))

@@ -20,5 +20,7 @@ read-fast-rest-spec =
     let v = joined .before .before in
     let c₀ = v .before .before in
     let b = c₀ .before .before in
-    fast-word _ _ _ _ _ _ (b .before .before .pre) _ _ _ (b .byte-part .ensures .0) (c₀ .byte-part2 .ensures .0) (v .quad-part .ensures .0) (c₀ .before .if1 .left) (v .before .if2 .left) (joined .before .if3 .left) _ (joined .join .ensures) _ (c .before .is-instruction .ensures) (c .if4 .taken))
+    fast-word _ _ _ _ _ _ (b .before .before .pre) _ _ _ (b .byte-part .ensures .0) (c₀ .byte-part2 .ensures .0) (v .quad-part .ensures .0)
+    (c₀ .before .if1 .left) (v .before .if2 .left) (joined .before .if3 .left) _ (joined .join .ensures) _ (c .before .is-instruction .ensures)
+    (c .if4 .taken))
     (λ c. search needs))

@@ -13,7 +13,8 @@ use Rattle.forward.proofs.list.scan_bundles.Statement.{statement}
 use Rattle.forward.proofs.list.scan_bundles.Tie as tie
 
 abbrev Inv-loop : tie.InvT-loop
-Inv-loop l commands n h₀ h = (h ≤ length commands / bundleLength) × (forwardFrom (bundleAt l commands) 0 (length commands / bundleLength) ≡ forwardFrom (bundleAt l commands) h (length commands / bundleLength - h))
+Inv-loop l commands n h₀ h = (h ≤ length commands / bundleLength) × (forwardFrom (bundleAt l commands) 0 (length commands / bundleLength)
+    ≡ forwardFrom (bundleAt l commands) h (length commands / bundleLength - h))
 
 abbrev μ-loop : tie.MeasureT-loop
 μ-loop l commands n h₀ h = length commands / bundleLength - h

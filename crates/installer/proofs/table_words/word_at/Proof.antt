@@ -21,4 +21,6 @@ word-at-spec =
     (λ c. search needs)
     (λ c κs. search needs)
     (λ c. search needs)
-    (λ c. word-of _ _ _ _ _ _ (c .before .before .before .before .before .before .before .before .before .pre) (c .before .before .before .before .before .before .cell-of .ensures) (c .before .before .before .before .cell-of2 .ensures) (c .before .before .cell-of3 .ensures) (c .cell-of4 .ensures)))
+    (λ c. word-of _ _ _ _ _ _ (c .before .before .before .before .before .before .before .before .before .pre)
+    (c .before .before .before .before .before .before .cell-of .ensures) (c .before .before .before .before .cell-of2 .ensures)
+    (c .before .before .cell-of3 .ensures) (c .cell-of4 .ensures)))

@@ -15,6 +15,8 @@ word-right-spec =
     (λ c. states-wrong _ _ _ (c .before .states-right .ensures) (c .if1 .taken))
     (λ c. let f = fit (c .before .before .args .states) _ (c .before .states-right .ensures) (c .if1 .left) in omega (arith, f .1))
     (λ c. search needs)
-    (λ c. let f = fit (c .before .before .args .states) _ (c .before .states-right .ensures) (c .if1 .left) in record { fits = omega (arith, f .0, and-le-r (c .before .before .args .w) (fill 127 wordBytes)) })
+    (λ c. let f = fit (c .before .before .args .states) _ (c .before .states-right .ensures) (c .if1 .left) in
+    record { fits = omega (arith, f .0, and-le-r (c .before .before .args .w) (fill 127 wordBytes)) })
     (λ c. record { fits = omega (arith, and-le-r (c .before .before .args .w) (fill 127 wordBytes)) })
-    (λ c. let f = fit (c .before .before .args .states) _ (c .before .states-right .ensures) (c .if1 .left) in together (c .before .before .args .states) (f .0) (f .1) _ _ _ _ _ (omega arith) refl refl refl))
+    (λ c. let f = fit (c .before .before .args .states) _ (c .before .states-right .ensures) (c .if1 .left) in
+    together (c .before .before .args .states) (f .0) (f .1) _ _ _ _ _ (omega arith) refl refl refl))

@@ -1,5 +1,7 @@
 use borrow.Author.Needs.{needs}
-use Rattle.machine_step.proofs.effects.Laws.{word-fits, sound-plain, sound-load, sound-store, sound-jump, sound-turn, sound-look, sound-stop, sound-keep, sound-event, does-nop, does-halt, does-plain, does-load, does-store, does-jump, does-turn, does-look, does-stop, does-keep, does-event, does-stray}
+use Rattle.machine_step.proofs.effects.Laws.{word-fits, sound-plain, sound-load, sound-store, sound-jump, sound-turn, sound-look, sound-stop}
+use Rattle.machine_step.proofs.effects.Laws.{sound-keep, sound-event, does-nop, does-halt, does-plain, does-load, does-store, does-jump}
+use Rattle.machine_step.proofs.effects.Laws.{does-turn, does-look, does-stop, does-keep, does-event, does-stray}
 use Rattle.machine_step.proofs.effects.command_effect.Statement.{statement}
 use Rattle.machine_step.proofs.effects.command_effect.Tie as tie
 

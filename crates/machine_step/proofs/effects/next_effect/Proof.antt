@@ -16,5 +16,10 @@ next-effect-spec =
     (λ c. search needs)
     (λ c. search needs)
     (λ c κs. search needs)
-    (λ c. let a = c .before .before .before .before .before .before .args in let f = fetch-in (now (a .commands)) (a .base) (a .pc) _ (c .before .before .before .wrapping-sub-usize .ensures) (search needs) (search needs) (search needs) (c .before .before .if1 .taken) in c .word-effect .ensures ∙ ap (λ (x : Command). effectOf x (viewOf (now (a .regs)) (a .pc) (now (a .memory)) (a .cell) (a .table) (a .base) (a .landings) (a .free) (a .left))) (sym f))
-    (λ c. let a = c .before .before .before .before .args in rw (fetch-out (now (a .commands)) (a .base) (a .pc) _ (c .before .wrapping-sub-usize .ensures) (search needs) (search needs) (search needs) (c .if1 .left))))
+    (λ c. let a = c .before .before .before .before .before .before .args in
+    let f = fetch-in (now (a .commands)) (a .base) (a .pc) _ (c .before .before .before .wrapping-sub-usize .ensures) (search needs) (search needs)
+    (search needs) (c .before .before .if1 .taken) in c .word-effect .ensures
+    ∙ ap (λ (x : Command). effectOf x (viewOf (now (a .regs)) (a .pc) (now (a .memory)) (a .cell) (a .table) (a .base) (a .landings) (a .free) (a .left)))
+    (sym f))
+    (λ c. let a = c .before .before .before .before .args in rw (fetch-out (now (a .commands)) (a .base) (a .pc) _ (c .before .wrapping-sub-usize .ensures)
+    (search needs) (search needs) (search needs) (c .if1 .left))))

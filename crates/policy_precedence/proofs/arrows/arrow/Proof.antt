@@ -11,7 +11,8 @@ has-bit-requires c κs = search needs
 returns : tie.Need-returns
 returns c =
     let start = c .before .before .before in
-    arrow-stays (now (start .args .pairs)) (start .args .names) (start .pre .0) (start .args .s) (start .args .e) (start .pre .1) (start .pre .2) _ (c .before .has-bit .ensures) (not-true _ (c .if1 .taken))
+    arrow-stays (now (start .args .pairs)) (start .args .names) (start .pre .0) (start .args .s) (start .args .e) (start .pre .1) (start .pre .2) _
+    (c .before .has-bit .ensures) (not-true _ (c .if1 .taken))
 
 firsts-recorded-requires : tie.Need-firsts-recorded-requires
 firsts-recorded-requires c κs = search needs
@@ -26,13 +27,16 @@ returns-2 : tie.Need-returns-2
 returns-2 c =
     let isNamed = c .before .before .before in
     let start = isNamed .before .before .before in
-    arrow-goes (now (start .args .pairs)) (start .args .names) (start .pre .0) (start .args .s) (start .args .e) (start .pre .1) (start .pre .2) _ (isNamed .before .has-bit .ensures) (not-false _ (isNamed .if1 .left)) _ (c .before .before .firsts-recorded .ensures) (c .before .if2 .taken) _ (c .bit-index .ensures .0)
+    arrow-goes (now (start .args .pairs)) (start .args .names) (start .pre .0) (start .args .s) (start .args .e) (start .pre .1) (start .pre .2) _
+    (isNamed .before .has-bit .ensures) (not-false _ (isNamed .if1 .left)) _ (c .before .before .firsts-recorded .ensures) (c .before .if2 .taken) _
+    (c .bit-index .ensures .0)
 
 returns-3 : tie.Need-returns-3
 returns-3 c =
     let isNamed = c .before .before in
     let start = isNamed .before .before .before in
-    arrow-none (now (start .args .pairs)) (start .args .names) (start .pre .0) (start .args .s) (start .args .e) (start .pre .1) (start .pre .2) _ (isNamed .before .has-bit .ensures) (not-false _ (isNamed .if1 .left)) _ (c .before .firsts-recorded .ensures) (c .if2 .left)
+    arrow-none (now (start .args .pairs)) (start .args .names) (start .pre .0) (start .args .s) (start .args .e) (start .pre .1) (start .pre .2) _
+    (isNamed .before .has-bit .ensures) (not-false _ (isNamed .if1 .left)) _ (c .before .firsts-recorded .ensures) (c .if2 .left)
 
 pub arrow-spec : {M : Type 1} → statement M
 arrow-spec =

@@ -25,8 +25,12 @@ loop-again : tie.Need-loop-again Inv-loop μ-loop
 loop-again c =
     let at = c .before .before .before .before .before .before in
     let r = c .before .before .before .before in
-    let first = at .before .before .before in
-    (firsts-more (now (first .args .pairs)) (first .args .names) (first .pre) (first .args .s) (first .args .e) (at .before .loop .i) _ _ _ _ _ (at .loop-test .taken) (at .before .loop .inv .0) (r .index-of .ensures .0) (c .before .before .index-of2 .ensures .0) (c .before .bit-index .ensures .0) (c .has-bit .ensures), search needs)
+    let first = at .before .before .before in (
+      firsts-more (now (first .args .pairs)) (first .args .names) (first .pre) (first .args .s) (first .args .e) (at .before .loop .i) _ _ _ _ _
+          (at .loop-test .taken) (at .before .loop .inv .0) (r .index-of .ensures .0) (c .before .before .index-of2 .ensures .0)
+          (c .before .bit-index .ensures .0) (c .has-bit .ensures),
+      search needs,
+    )
 
 pub firsts-recorded-spec : {M : Type 1} → statement M
 firsts-recorded-spec =

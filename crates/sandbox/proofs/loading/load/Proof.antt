@@ -12,21 +12,24 @@ returns : tie.Need-returns
 returns c =
     let j = c .before .before in
     let x = j .before .before .before .before .before .before .args in
-    not-translated (x .layout) (lentPolicy (x .policy) (x .table .now) (x .landings .now)) (x .bytes .now) (x .commands .now) (x .memory .now) _ (j .translate-answer .ensures) (c .before .if1 .taken) _ (c .refused .ensures)
+    not-translated (x .layout) (lentPolicy (x .policy) (x .table .now) (x .landings .now)) (x .bytes .now) (x .commands .now) (x .memory .now) _
+    (j .translate-answer .ensures) (c .before .if1 .taken) _ (c .refused .ensures)
 
 returns-2 : tie.Need-returns-2
 returns-2 c =
     let v = c .before .before in
     let j = v .before .before .before in
     let x = j .before .before .before .before .before .before .args in
-    not-installed (x .layout) (lentPolicy (x .policy) (x .table .now) (x .landings .now)) (x .bytes .now) (x .commands .now) (x .memory .now) _ (j .translate-answer .ensures) (v .before .before .if1 .left) _ (v .install-answer .ensures) (c .before .if2 .taken) _ (c .refused2 .ensures)
+    not-installed (x .layout) (lentPolicy (x .policy) (x .table .now) (x .landings .now)) (x .bytes .now) (x .commands .now) (x .memory .now) _
+    (j .translate-answer .ensures) (v .before .before .if1 .left) _ (v .install-answer .ensures) (c .before .if2 .taken) _ (c .refused2 .ensures)
 
 write-routine-requires : tie.Need-write-routine-requires
 write-routine-requires c κs =
     let v = c .before .before in
     let j = v .before .before .before in
     let x = j .before .before .before .before .before .before .args in
-    taken (x .layout) (lentPolicy (x .policy) (x .table .now) (x .landings .now)) (x .bytes .now) (x .commands .now) (x .memory .now) _ (j .translate-answer .ensures) (v .before .before .if1 .left) _ (v .install-answer .ensures)
+    taken (x .layout) (lentPolicy (x .policy) (x .table .now) (x .landings .now)) (x .bytes .now) (x .commands .now) (x .memory .now) _
+    (j .translate-answer .ensures) (v .before .before .if1 .left) _ (v .install-answer .ensures)
 
 slice-reshare-prefix-check : tie.Need-slice-reshare-prefix-check
 slice-reshare-prefix-check c =
@@ -34,7 +37,8 @@ slice-reshare-prefix-check c =
     let v = w .before .before .before in
     let j = v .before .before .before in
     let x = j .before .before .before .before .before .before .args in
-    within (x .layout) (lentPolicy (x .policy) (x .table .now) (x .landings .now)) (x .bytes .now) (x .commands .now) (x .memory .now) _ (j .translate-answer .ensures) (v .before .before .if1 .left) _ (v .install-answer .ensures) _ (w .write-routine .ensures)
+    within (x .layout) (lentPolicy (x .policy) (x .table .now) (x .landings .now)) (x .bytes .now) (x .commands .now) (x .memory .now) _
+    (j .translate-answer .ensures) (v .before .before .if1 .left) _ (v .install-answer .ensures) _ (w .write-routine .ensures)
 
 slice-aggregate-check : tie.Need-slice-aggregate-check
 slice-aggregate-check c = sym (length-take-le _ _ (slice-reshare-prefix-check (c .before)))
@@ -46,7 +50,9 @@ returns-3 c =
     let v = w .before .before .before in
     let j = v .before .before .before in
     let x = j .before .before .before .before .before .before .args in
-    absurd (c .before .if3 .taken (passes (x .layout) (lentPolicy (x .policy) (x .table .now) (x .landings .now)) (x .bytes .now) (x .commands .now) (x .memory .now) _ (j .translate-answer .ensures) (v .before .before .if1 .left) _ (v .install-answer .ensures) _ (w .write-routine .ensures) _ (k .check .ensures)))
+    absurd (c .before .if3 .taken (passes (x .layout) (lentPolicy (x .policy) (x .table .now) (x .landings .now)) (x .bytes .now) (x .commands .now)
+    (x .memory .now) _ (j .translate-answer .ensures) (v .before .before .if1 .left) _ (v .install-answer .ensures) _ (w .write-routine .ensures) _
+    (k .check .ensures)))
 
 returns-4 : tie.Need-returns-4
 returns-4 c =
@@ -56,7 +62,9 @@ returns-4 c =
     let v = w .before .before .before in
     let j = v .before .before .before in
     let x = j .before .before .before .before .before .before .args in
-    loaded (x .layout) (lentPolicy (x .policy) (x .table .now) (x .landings .now)) (x .bytes .now) (x .commands .now) (x .memory .now) _ (j .translate-answer .ensures) (v .before .before .if1 .left) _ (v .install-answer .ensures) _ (w .write-routine .ensures) (w .before .before .if2 .left) _ (i .install .ensures .0) _ (i .install .ensures .1)
+    loaded (x .layout) (lentPolicy (x .policy) (x .table .now) (x .landings .now)) (x .bytes .now) (x .commands .now) (x .memory .now) _
+    (j .translate-answer .ensures) (v .before .before .if1 .left) _ (v .install-answer .ensures) _ (w .write-routine .ensures)
+    (w .before .before .if2 .left) _ (i .install .ensures .0) _ (i .install .ensures .1)
 
 pub load-spec : {M : Type 1} → statement M
 load-spec =
