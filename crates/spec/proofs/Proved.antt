@@ -1,13 +1,13 @@
 -- Every claim of this crate is proved.
 use Rattle.spec.specs.Proved.{Proved}
-use Rattle.spec.proofs.Landings.{landings}
+use Rattle.spec.proofs.Landings.{landing-bits}
 use Rattle.spec.proofs.Masks.{masks, sizes}
 use Rattle.spec.proofs.Signs.{signs}
 use Rattle.spec.proofs.RoundTrip.{words-round-trip, bytes-round-trip}
 use Rattle.spec.proofs.Conditions.{installs}
 use Rattle.spec.proofs.Passing.{rewrite-leaves, rewritten-passes, passed-rewrites, passed-decodes}
 use Rattle.spec.proofs.Shapes.{shapes, checks}
-use Rattle.spec.proofs.Endings.{endings}
+use Rattle.spec.proofs.Endings.{ending-status}
 use Rattle.spec.proofs.Ordered.{machine-order, over-stays, ends-only-when}
 use Rattle.spec.proofs.Isolation.{guest-rule, recorded, isolation, no-wrap}
 use Rattle.spec.proofs.Ceilings.{ceilings}
@@ -19,7 +19,7 @@ pub proved : Proved
 proved =
     record {
       masks = masks;
-      landings = landings;
+      landingBits = landing-bits;
       installs = installs;
       sizes = sizes;
       signs = signs;
@@ -31,7 +31,7 @@ proved =
       shapes = shapes;
       checks = checks;
       passedDecodes = passed-decodes;
-      endings = endings;
+      endingStatus = ending-status;
       machineOrder = machine-order;
       overStays = over-stays;
       endsOnlyWhen = ends-only-when;

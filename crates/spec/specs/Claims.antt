@@ -29,8 +29,8 @@ abbrev pub Masks : Type 0
 Masks = (lay : Layout) → rightLayout lay ≡ true → MaskLaws lay
 
 -- 'instruction 32k + j in bit j of cell Q + k': exactly those bits of the 32 cells are set
-abbrev pub Landings : Type 0
-Landings = (ls : List ℕ) (k j : ℕ) → k < landingCells → j < cellBits → bitAt (getD (landingsOf ls) k 0) j ≡ listed ls (cellBits * k + j)
+abbrev pub LandingBits : Type 0
+LandingBits = (ls : List ℕ) (k j : ℕ) → k < landingCells → j < cellBits → bitAt (getD (landingsOf ls) k 0) j ≡ listed ls (cellBits * k + j)
 
 -- 'Installing writes the start state to M and the table to its cells', the landings' bits to theirs, 'nothing else'
 pub record InstallLaws (lay : Layout) (pol : Policy) (mem : List ℕ) : Type 0 where
@@ -170,8 +170,8 @@ pub record EndingLaws (lay : Layout) (m : Machine) (mem log : List ℕ) (r : Run
   pub refuses : fits lay mem ≡ false → r ≡ runResultOf (outcomeOf m Refused 0 0 0) mem log
   pub status : fits lay mem ≡ true → r .outcome .machine .status ≡ statusAfter (r .outcome .answer .ending)
 
-abbrev pub Endings : Type 0
-Endings =
+abbrev pub EndingStatus : Type 0
+EndingStatus =
     (lay : Layout) (ws : List ℕ) (m : Machine) (mem : List ℕ) (budget : ℕ) (reads log : List ℕ) →
     EndingLaws lay m mem log (runOf lay ws m mem budget reads log)
 
@@ -206,7 +206,7 @@ abbrev pub AtBoundary : Layout → Machine → Type 0
 AtBoundary lay m = (positionOf lay (m .pc) ≡ 0) ⊎ (m .status ≡ Running → ⊥)
 
 -- 'on ending, r0 to' r14 (since request 6), 'sandbox, state cell, records and readings used'; and on the instruction to come, in whose bundle pc is at position p.
--- The ending is the record's status: by Endings a run answers 20, 21 or 26 exactly where it has ended, stopped or strayed
+-- The ending is the record's status: by EndingStatus a run answers 20, 21 or 26 exactly where it has ended, stopped or strayed
 pub record SimulatesAt (lay : Layout) (p : ℕ) (g : Guest) (c : Session) : Type 0 where
   pub ending : c .machine .status ≡ g .status
   pub regs : take guestRegisters (c .machine .regs) ≡ g .regs

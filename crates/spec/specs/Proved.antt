@@ -1,10 +1,10 @@
 -- Every claim of this crate, a field each: its one term is `proved`, in proofs/Proved.antt.
 use Rattle.spec.specs.Endings.{MachineOrder, OverStays, EndsOnlyWhen}
-use Rattle.spec.specs.Claims.{Masks, Landings, Installs, Sizes, Signs, WordsRoundTrip, BytesRoundTrip, RewriteLeaves, RewrittenPasses, PassedRewrites, Shapes, Checks, PassedDecodes, Endings, RunsCompose, PrefixClosed, GuestRule, EveryMoment, Resumes, Progress, Recorded, Ceilings, Isolation, NoWrap, StateCell, PausedWaits, PauseRule}
+use Rattle.spec.specs.Claims.{Masks, LandingBits, Installs, Sizes, Signs, WordsRoundTrip, BytesRoundTrip, RewriteLeaves, RewrittenPasses, PassedRewrites, Shapes, Checks, PassedDecodes, EndingStatus, RunsCompose, PrefixClosed, GuestRule, EveryMoment, Resumes, Progress, Recorded, Ceilings, Isolation, NoWrap, StateCell, PausedWaits, PauseRule}
 
 pub record Proved : Type 0 where
   pub masks : Masks
-  pub landings : Landings
+  pub landingBits : LandingBits
   pub installs : Installs
   pub sizes : Sizes
   pub signs : Signs
@@ -16,7 +16,7 @@ pub record Proved : Type 0 where
   pub shapes : Shapes
   pub checks : Checks
   pub passedDecodes : PassedDecodes
-  pub endings : Endings
+  pub endingStatus : EndingStatus
   pub machineOrder : MachineOrder
   pub overStays : OverStays
   pub endsOnlyWhen : EndsOnlyWhen
