@@ -1,5 +1,5 @@
 /*
- * What the benchmarks of the machine and of the engine share: the drum, words,
+ * Shared by the benchmarks of the machine and of the engine: the drum, words,
  * the clock and medians.
  */
 #ifndef BENCH_H
@@ -35,7 +35,7 @@ static double median(double *x, int n) {
     return x[n / 2];
 }
 
-/* The calls of a round of slices. */
+/* Short calls in a round. */
 enum { SLICES = 2000 };
 
 #endif

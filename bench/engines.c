@@ -1,8 +1,8 @@
 /*
- * ns an instruction of the proved engine, of engine.c, and of the proved machine
- * on the same routine, one beside the other in one run, medians of interleaved
- * rounds. Every round also compares what they leave. Then ns a call of slices
- * of one instruction, at two lengths of the routine.
+ * Times the proved engine beside engine.c and the proved machine on the same
+ * routine: ns an instruction, medians of interleaved rounds. Each round also
+ * compares what they leave. Then it times calls of one instruction, for a short
+ * and a long routine.
  */
 #include "bench.h"
 
@@ -29,13 +29,13 @@ static void same(const char *name, size_t cells) {
     }
 }
 
-/* All cells 0, but every instruction is a landing: in state 0 every event leads to state 0. */
+/* Clears the memory and marks every instruction as a landing. A table of zeros allows every event in state 0. */
 static void fresh(int i) {
     memset(memory[i], 0, sizeof memory[i]);
     memset(memory[i] + Q, 255, 32 * sizeof memory[i][0]);
 }
 
-/* The machine on the same routine, ns an instruction of the engine's; r0 on, sandbox and log must come out the same. */
+/* Times the machine on the same routine: ns for each of the engine's instructions. Registers, memory and log must be the engine's. */
 static double machine(const char *name, size_t cells, size_t count) {
     struct hemdroas_machine end = {.pc = B};
     struct hemdroas_run_answer ran;
@@ -72,7 +72,7 @@ static void measure(const char *name, int turn, size_t cells, size_t count, int 
            name, answer[0].instructions, answer[0].ending, proved, median(times[1], rounds), median(ratios, rounds), turn * proved, turn * by_machine);
 }
 
-/* r1 counts from 0 to 100,000 by r2 = 1; the turn starts at instruction 3 and ends with the jump at `last`; HALT follows. */
+/* A loop: r1 counts from 0 to 100,000 by r2 = 1. A turn starts at instruction 3 and ends with the jump at `last`. HALT follows. */
 static void counted(int last) {
     memset(code, 0, sizeof code);
     length = last + 1;
@@ -81,7 +81,7 @@ static void counted(int last) {
     code[last] = word(10, 0, 1, 3, 2, 3);
 }
 
-/* Calls of one instruction each, of a routine of n words that adds and jumps back: judged at each call, and as they are reached. */
+/* Times calls of one instruction each, in a routine of n words that adds and jumps back. */
 static double slice(Run *run, uint64_t n, int rounds) {
     static uint64_t adds[HEMDROAS_MOST_WORDS];
     for (uint64_t i = 0; i < n; i++) adds[i] = i + 1 < n ? word(3, 1, 1, 2, 0, 0) : word(10, 0, 0, 0, 0, 0);

@@ -1,7 +1,7 @@
 /*
  * How the cost of each call grows: ns for each instruction, step or state at
- * four sizes, the least of some rounds. A cost that grows with its size alone
- * shows the same figure in each column.
+ * four sizes, the least of some rounds. A linear cost shows about the same
+ * figure in each column.
  */
 #include "hemdroas.h"
 #include <stdio.h>
@@ -68,7 +68,7 @@ int main(void) {
     static const size_t ROUTINES[SIZES] = {127, 255, 511, 1023}, STATES[SIZES] = {2, 4, 8, 16};
     static const uint32_t BUDGETS[SIZES] = {1000, 10000, 100000, 1000000};
     double t[6][SIZES];
-    /* adds, and a jump back to the first: budget ends a run */
+    /* adds, and a jump back to the first: the budget ends a run */
     for (int i = 0; i < SIZES; i++) {
         size = ROUTINES[i];
         for (size_t j = 0; j < size; j++) words[j] = j + 1 < size ? 3 | 1 << 8 | 1 << 12 | 2 << 16 : 10;

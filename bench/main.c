@@ -1,6 +1,6 @@
 /*
- * ns a step of the proved machine and of machine.c, one beside the other in one
- * run, medians of interleaved rounds. Every round also compares what they leave.
+ * Times the proved machine beside machine.c: ns a step, medians of interleaved
+ * rounds. Each round also compares what the two leave.
  */
 #include "bench.h"
 
@@ -11,7 +11,7 @@ enum { KINDS = 2 };
 static Run *const RUNS[KINDS] = {hemdroas_run, run_c};
 
 enum { BUNDLES = 16, TURNS = 100000 };
-/* where a turn's bundles start: 1 in a list that no checker passes, whose first bundle has the SETs; 4 in one that passes */
+/* The bundle where a turn starts. 1: the list does not pass, since its first bundle has all SETs. 4: the list passes. */
 static int first = 1;
 enum { HIDDEN = 15 };
 
@@ -29,7 +29,7 @@ static void same(const char *name, size_t cells) {
     }
 }
 
-/* All cells 0, but every instruction is a landing: in state 0 every event leads to state 0. */
+/* Clears the memory and marks every instruction as a landing. A table of zeros allows every event in state 0. */
 static void fresh(int i) {
     memset(memory[i], 0, sizeof memory[i]);
     memset(memory[i] + Q, 255, 32 * sizeof memory[i][0]);
@@ -52,7 +52,7 @@ static void measure(const char *name, size_t cells, size_t count, int rounds) {
            median(times[0], rounds), median(times[1], rounds), median(ratios, rounds));
 }
 
-/* Runs of four commands each, from where the last one came: ns a call. */
+/* Times runs of four commands, each from where the last one stopped: ns a call. */
 static void slices(int rounds) {
     for (int q = 0; q < rounds; q++) {
         for (int i = 0; i < KINDS; i++) {
@@ -69,10 +69,10 @@ static void slices(int rounds) {
     printf("slices   budget 4 | ns a call: proved %.1f, C %.1f | ratio %.2f\n", median(times[0], rounds), median(times[1], rounds), median(ratios, rounds));
 }
 
-/* the SET at i: in the first bundle, or a bundle of its own */
+/* Places SET number i: in the first bundle, or in a bundle of its own. */
 static void set(int i, int d, uint32_t v) { code[first == 1 ? i : 4 * i] = word(2, d, 0, 0, 0, v); }
 
-/* r1 counts from 0 to TURNS by r2 = 1; the jump back is the bundle `last` of a turn, HALT follows, and fills a list that passes. */
+/* A loop: r1 counts from 0 to TURNS by r2 = 1. Bundle `last` of a turn jumps back. HALT follows, and fills a list that passes. */
 static void counted(int last) {
     memset(code, 0, sizeof code);
     if (first > 1)
@@ -103,7 +103,7 @@ static void gox(int g) {
     code[4 * g + 2] = word(10, HIDDEN, HIDDEN, 0, 0, B), code[4 * g + 3] = word(15, HIDDEN, 1, 3, 2, 0);
 }
 
-/* One run of the proved machine, ns a turn by the clock that Lua reads: bench/turn.lua asks for it between its own. */
+/* Times one run of the proved machine by the clock that Lua reads: ns a turn. bench/turn.lua calls it between its own rounds. */
 static void turn(void) {
     fresh(0);
     clock_t t = clock();
@@ -118,7 +118,7 @@ int main(int argc, char **argv) {
 
     for (first = 1; first <= 4; first += 3) {
         int at = 4 * (first - 1);
-        /* a store, a load and two adds in each turn, and the jump: 17 steps */
+        /* a store, a load, two adds and the jump in each turn: 17 steps */
         counted(5);
         mask(1), code[at + 6] = word(13, 0, HIDDEN, 1, 0, 0);
         mask(2), code[at + 10] = word(12, 4, HIDDEN, 0, 0, 0);
@@ -137,7 +137,7 @@ int main(int argc, char **argv) {
         event(1, 1), event(2, 9);
         measure("events", LOG, READINGS, rounds);
 
-        /* each turn goes back by a GOX to a landing: r6 has a bit above it, too */
+        /* each turn goes back by a GOX to a landing; r6 also has a bit that its mask drops */
         counted(2);
         if (first == 1) code[3] = word(2, 6, 0, 0, 0, 1 + BUNDLES);
         else code[12] = word(2, 6, 0, 0, 0, first + BUNDLES);

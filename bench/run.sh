@@ -1,20 +1,21 @@
 #!/usr/bin/env bash
-# ns a step of the proved machine beside the same rules in C, and ns an instruction of the proved engine beside the same
-# engine in C and the machine; ns a call of slices of both. Then the machine's turn beside the same in Lua 5.4, in LuaJIT
-# without its compiler and in wasm-interp, where they are installed; the stack that each call takes, and how its cost
-# grows: bench/run.sh [ROUNDS]. It fails where they differ. With BUILT=1 the library is taken as it stands.
+# The benchmarks: bench/run.sh [ROUNDS]. With BUILT=1 the library is taken as it stands.
+#
+# It times the proved machine and engine beside the same rules in C, and the machine beside Lua 5.4, LuaJIT without its
+# compiler and wasm-interp, where they are installed. Then it measures the stack of each call and how its cost grows.
+# It fails if the proved side and the C side differ, or if a call takes more stack than it may.
 set -euo pipefail
 cd "$(dirname "$0")/.."
 [ -n "${BUILT:-}" ] || rt staticlib capi > /dev/null
 made=target/bench
 mkdir -p $made
-# At fixed addresses: at random ones the C peers' jumps are at times predicted badly, four times slower and more.
+# Fixed addresses (no PIE): at random ones the C peers' jumps are at times predicted badly, four times slower and more.
 for peer in machine engine; do gcc -O2 -fno-pie -Wall -Wextra -c bench/$peer.c -o $made/$peer.o; done
 gcc -O2 -no-pie -Wall -Wextra -Iinclude bench/main.c $made/machine.o target/staticlib/libcapi.a -o $made/bench
 gcc -O2 -no-pie -Wall -Wextra -Iinclude bench/engines.c $made/engine.o target/staticlib/libcapi.a -o $made/engines
 for m in stack growth; do gcc -O2 -Wall -Wextra -Wl,-z,now -Iinclude bench/$m.c target/staticlib/libcapi.a -o $made/$m; done
 
-# the least ns of some rounds of a command
+# The least ns that a command takes in nine rounds.
 least() {
     local i t best=
     for ((i = 0; i < 9; i++)); do
@@ -25,7 +26,7 @@ least() {
     done
     echo "$best"
 }
-# the turns in wasm-interp, less its start
+# ns a turn in wasm-interp, without its start.
 turns_in_wasm() {
     local module=$made/turn.wasm turns=100000 started
     wat2wasm bench/turn.wat -o $module

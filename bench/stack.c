@@ -1,9 +1,8 @@
 /*
- * The stack that each call takes, at its greatest on the inputs below: the
- * stack under the caller is painted, and what is no longer painted after the
- * call is counted. Inputs are the largest there are, right and refused. It fails
- * if a call takes more than it may. It runs on a PC and on a Cortex-M4
- * (tools/run-everywhere).
+ * Measures the stack of each call. It paints the stack below the caller, calls,
+ * and counts the bytes that are no longer painted. Inputs are the largest there
+ * are, right and refused. It fails if a call takes more than it may. It runs on
+ * a PC and, by tools/run-everywhere, on a Cortex-M4.
  */
 #include "hemdroas.h"
 #include <stdio.h>
@@ -101,7 +100,7 @@ static void fill_words(const uint64_t *turn, uint32_t n)
     for (uint32_t i = 0; i < WORDS; i++) words[i] = turn[i % n];
 }
 
-/* Puts the words on the drum; an empty engine. */
+/* Loads the words and clears the engine. */
 static void bring(void)
 {
     call_write(), byte_count = answer.place;
@@ -109,7 +108,7 @@ static void bring(void)
     memset(&engine, 0, sizeof engine);
 }
 
-/* Right in all: an order, a reading and an add in turn, 16 states, every instruction a landing. */
+/* Inputs that every call takes: orders, readings and adds in turn, 16 states, every instruction a landing. */
 static void right(void)
 {
     const struct hemdroas_layout drum = {CELLS, CELLS / 2, CELLS - 1, 0, 16, STATES, 0, 512, HEMDROAS_NO_CEILINGS};
@@ -125,7 +124,7 @@ static void right(void)
     fill_words(turn, 3);
     bring();
 }
-/* Loads, stores, shifts and jumps without end. */
+/* Loads, stores, shifts and adds in a loop without end. */
 static void endless(void)
 {
     const uint64_t turn[] = {KIND(LOAD), KIND(STORE), KIND(SAR), KIND(ADD)};
@@ -134,7 +133,7 @@ static void endless(void)
     words[WORDS - 1] = KIND(GOX);
     bring();
 }
-/* The same, of commands that do not pass the check: a jump past a bundle's first command. */
+/* The same loop in a list that does not pass: its last bundle has a second command that is no NOP. */
 static void unchecked(void)
 {
     endless();
@@ -166,7 +165,7 @@ static void wrong_landings(void) { right(), landings[LANDINGS - 1] = LANDINGS; }
 static void wrong_pair(void) { right(), pairs[7] = EVENTS; }
 static void no_arrows(void) { right(), memset(arrows, 0xFF, sizeof arrows), arrows[0] = 0; }
 static void wrong_side(void) { right(), table[EVENTS * policy.states - 1] = STATES; }
-/* Event e leads every state to its double, or that and one: more sets and pairs than there may be states. */
+/* A drawing and two policies that reach more sets and pairs than there may be states. */
 static void many_states(void)
 {
     right();
@@ -180,7 +179,7 @@ static void many_states(void)
 
 /* ---- what is measured */
 
-/* A call, where its number stands, what it is given and what it must answer. */
+/* A call, where it writes its number, what prepares its input and which number it must give. */
 struct row {
     const char *name;
     void (*call)(void);
@@ -264,7 +263,7 @@ static const struct row rows[] = {
 };
 enum { ROWS = sizeof rows / sizeof rows[0] };
 
-/* Paints what lies below this frame, calls, and looks how far down the paint is gone. */
+/* Paints what lies below this frame, calls, and finds the lowest byte that lost its paint. */
 static __attribute__((noinline)) long stack_of(void (*call)(void))
 {
     volatile unsigned char *top, *p;
@@ -283,7 +282,7 @@ static int is_refusal(const struct row *row)
 
 static int is_run(const struct row *row) { return row->call == call_run || row->call == call_preview; }
 
-/* The most bytes over the rows of one call, of those taken and of those refused; below 0 if an answer is not the one expected. */
+/* The most bytes over one call's rows, those taken or those refused; below 0 if an answer is not the expected one. */
 static long measure(const struct row *first, int refused)
 {
     long most = 0;

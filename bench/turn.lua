@@ -1,12 +1,12 @@
--- The turn of the benchmark's first routine in Lua: a store, a load and two adds, a hundred thousand times; ns a turn, 21 rounds. With the
--- benchmark's program as its argument each round also asks that for a turn of the proved machine, since the processor's speed moves.
--- Lua 5.4 has operators for AND and OR. LuaJIT has functions, and its numbers wrap to 32 signed bits there.
+-- Times the turn of the benchmark's first routine in Lua: a store, a load and two adds, 100,000 times; ns a turn, the median of 21 rounds.
+-- Given the benchmark's program, each round also times the proved machine, since the processor's speed moves.
+-- Lua 5.4 has operators for AND and OR. LuaJIT has functions, whose numbers wrap to 32 signed bits.
 local ROUNDS, TURNS = 21, 100000
 local memory, program = {}, arg[1]
--- From 0 on, so that they stand in the table's array and not in its hash part.
+-- Filled from 0 on, so that Lua keeps them in the table's array part, not in its hash part.
 for i = 0, 511 do memory[i] = 0 end
 
--- All that the turn reads is local.
+-- The turn reads only locals.
 local WITH_OPERATORS = [[
     local cells, turns = ...
     local r1, r2, r3, r4, r5 = 0, 1, turns, 0, 0

@@ -1,4 +1,5 @@
-;; The turn of the benchmark's first routine in WebAssembly: a store, a load and two adds, 100,000 times. The start alone is the same without --run-all-exports.
+;; The turn of the benchmark's first routine in WebAssembly: a store, a load and two adds, 100,000 times.
+;; Without --run-all-exports wasm-interp only loads it, which gives the time of the start alone.
 (module
   (memory 1)
   (func (export "turns") (call $turns (i32.const 100000)))
