@@ -24,20 +24,24 @@ layoutFrom xs =
     layoutOf (getD xs 0 0) (getD xs 1 0) (getD xs 2 0) (getD xs 3 0) (getD xs 4 0) (getD xs 5 0) (getD xs 6 0) (getD xs 7 0)
     (numbersFrom orders 8 xs)
 
--- there are five statuses
-abbrev pub statuses : ℕ
-statuses = 5
-
--- 0 running, 1 ended, 2 stopped, 3 faulted, 4 strayed; any other number counts as faulted
-abbrev pub statusFrom : ℕ → Status
-statusFrom x = first ((eqb x 0, Running) ∷ (eqb x 1, Ended) ∷ (eqb x 2, Stopped) ∷ (eqb x 4, Strayed) ∷ []) Faulted
-
+-- a status as a number
 abbrev pub statusNumber : Status → ℕ
 statusNumber Running = 0
 statusNumber Ended = 1
 statusNumber Stopped = 2
 statusNumber Faulted = 3
 statusNumber Strayed = 4
+
+-- how many there are
+abbrev pub statuses : ℕ
+statuses = statusNumber Strayed + 1
+
+-- the status of a number; one that is no status counts as faulted
+abbrev pub statusFrom : ℕ → Status
+statusFrom x =
+    first
+    ((eqb x (statusNumber Running), Running) ∷ (eqb x (statusNumber Ended), Ended) ∷ (eqb x (statusNumber Stopped), Stopped)
+    ∷ (eqb x (statusNumber Strayed), Strayed) ∷ []) Faulted
 
 -- a record, a machine's or an engine's: its registers, and behind them two numbers, pc or index and status
 abbrev pub trailer : ℕ
