@@ -1,6 +1,7 @@
 // Tells whether a word is a command, and which.
 use crate::fields::field;
 use crate::fields::fields;
+use crate::reserved;
 use types::Command;
 ghost use mathlib.Core.Path.{_≡_};
 ghost use Prim.Native.Nat.{_<_};
@@ -9,32 +10,32 @@ ghost use Rattle.spec.specs.Words.{kindOf};
 ghost use Rattle.spec.specs.Commands.{limitsOf, isCommand, commandOf};
 ghost use Rattle.words.specs.fields.Strays.{strayOf};
 
-// The bits that no word of a kind has: those of the fields that it lacks, and those above the bounds of c and v.
+// The reserved bits of a kind: those of the fields that it lacks, and those above the bounds of c and v.
 fn stray(k: u64) -> u64
     requires { ⌜ k < commandKinds ⌝ }
     ensures { λ r. ⌜ r ≡ strayOf (limitsOf k) ⌝ }
 {
     match k {
-        Command::NOP => 0xFFFF_FFFF_FFFF_FF00,
-        Command::HALT => 0xFFFF_FFFF_FFFF_FF00,
-        Command::SET => 0x0000_0000_FFFF_F000,
-        Command::MOVE => 0xFFFF_FFFF_FFFF_0000,
-        Command::ADD => 0xFFFF_FFFF_FFF0_0000,
-        Command::SUB => 0xFFFF_FFFF_FFF0_0000,
-        Command::AND => 0xFFFF_FFFF_FFF0_0000,
-        Command::OR => 0xFFFF_FFFF_FFF0_0000,
-        Command::SAR => 0xFFFF_FFE0_FFFF_0000,
-        Command::ANDI => 0x0000_0000_FFFF_0000,
-        Command::ORI => 0x0000_0000_FFFF_0000,
-        Command::SHL => 0xFFFF_FFE0_FFFF_0000,
-        Command::LOAD => 0xFFFF_FFFF_FFFF_0000,
-        Command::STORE => 0xFFFF_FFFF_FFF0_0F00,
-        Command::GOIF => 0x0000_0000_FFC0_0F00,
-        Command::GOXR => 0xFFFF_FFFF_FFC0_0000,
-        Command::LOOK => 0xFFFF_FFF0_FFFF_F000,
-        Command::STOPIF => 0xFFFF_FFFF_FFFF_F000,
-        Command::KEEP => 0xFFFF_FFFF_FFFF_F000,
-        Command::EVENT => 0xFFFF_FFF0_FFFF_FF00,
+        Command::NOP => reserved::WITH_NOTHING,
+        Command::HALT => reserved::WITH_NOTHING,
+        Command::SET => reserved::WITH_D_V,
+        Command::MOVE => reserved::WITH_D_A,
+        Command::ADD => reserved::WITH_D_A_B,
+        Command::SUB => reserved::WITH_D_A_B,
+        Command::AND => reserved::WITH_D_A_B,
+        Command::OR => reserved::WITH_D_A_B,
+        Command::SAR => reserved::WITH_D_A_SHIFT,
+        Command::ANDI => reserved::WITH_D_A_V,
+        Command::ORI => reserved::WITH_D_A_V,
+        Command::SHL => reserved::WITH_D_A_SHIFT,
+        Command::LOAD => reserved::WITH_D_A,
+        Command::STORE => reserved::WITH_A_B,
+        Command::GOIF => reserved::WITH_A_B_C_V,
+        Command::GOXR => reserved::WITH_D_A_B_C,
+        Command::LOOK => reserved::WITH_D_EVENT,
+        Command::STOPIF => reserved::WITH_D,
+        Command::KEEP => reserved::WITH_D,
+        Command::EVENT => reserved::WITH_EVENT,
         _ => 0,
     }
 }

@@ -4,6 +4,7 @@ use crate::fields::fields;
 use crate::fields::only_guest_registers;
 use crate::refusals::TOP_KIND;
 use crate::refusals::fields_refusal;
+use crate::reserved;
 use types::Instr;
 use types::Refusal;
 ghost use mathlib.Core.Path.{_≡_};
@@ -19,19 +20,19 @@ fn stray_bits(k: u64) -> u64
     ensures { λ r. ⌜ r ≡ strayOf (guestLimits k) ⌝ }
 {
     match k {
-        Instr::KIND_HALT => 0xFFFF_FFFF_FFFF_FF00,
-        Instr::KIND_SET => 0x0000_0000_FFFF_F000,
-        Instr::KIND_MOVE => 0xFFFF_FFFF_FFFF_0000,
-        Instr::KIND_ADD => 0xFFFF_FFFF_FFF0_0000,
-        Instr::KIND_SUB => 0xFFFF_FFFF_FFF0_0000,
-        Instr::KIND_AND => 0xFFFF_FFFF_FFF0_0000,
-        Instr::KIND_OR => 0xFFFF_FFFF_FFF0_0000,
-        Instr::KIND_SAR => 0xFFFF_FFE0_FFFF_0000,
-        Instr::KIND_LOAD => 0xFFFF_FFFF_FFFF_0000,
-        Instr::KIND_STORE => 0xFFFF_FFFF_FFF0_0F00,
-        Instr::KIND_GOIF => 0x0000_0000_FFC0_0F00,
-        Instr::KIND_GOX => 0xFFFF_FFFF_FFC0_0000,
-        Instr::KIND_EVENT => 0xFFFF_FFF0_FFFF_FF00,
+        Instr::KIND_HALT => reserved::WITH_NOTHING,
+        Instr::KIND_SET => reserved::WITH_D_V,
+        Instr::KIND_MOVE => reserved::WITH_D_A,
+        Instr::KIND_ADD => reserved::WITH_D_A_B,
+        Instr::KIND_SUB => reserved::WITH_D_A_B,
+        Instr::KIND_AND => reserved::WITH_D_A_B,
+        Instr::KIND_OR => reserved::WITH_D_A_B,
+        Instr::KIND_SAR => reserved::WITH_D_A_SHIFT,
+        Instr::KIND_LOAD => reserved::WITH_D_A,
+        Instr::KIND_STORE => reserved::WITH_A_B,
+        Instr::KIND_GOIF => reserved::WITH_A_B_C_V,
+        Instr::KIND_GOX => reserved::WITH_D_A_B_C,
+        Instr::KIND_EVENT => reserved::WITH_EVENT,
         _ => 0,
     }
 }

@@ -4,6 +4,7 @@ pub mod command;
 pub mod fields;
 pub mod guest;
 pub mod refusals;
+pub mod reserved;
 pub mod routine;
 
 pub use crate::fields::field;

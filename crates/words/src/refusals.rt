@@ -20,7 +20,7 @@ pub const TOP_CONDITION: u64 = 3;
 // The greatest shift, event and 32-bit number.
 pub const TOP_SHIFT: u64 = 31;
 
-const TOP_EVENT: u64 = PolicyNumbers::EVENTS as u64 - 1;
+pub const TOP_EVENT: u64 = PolicyNumbers::EVENTS as u64 - 1;
 
 pub const TOP_WORD: u64 = 0xFFFF_FFFF;
 
