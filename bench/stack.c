@@ -10,13 +10,13 @@
 
 #if defined(__x86_64__)
 #define STACK_POINTER "mov %%rsp, %0"
-enum { MOST = 1100, MOST_LONG_RUN = 1250 }; /* bytes; a long run checks its list once */
+enum { MOST = 1100 }; /* bytes */
 #elif defined(__arm__) || defined(__aarch64__)
 #define STACK_POINTER "mov %0, sp"
-enum { MOST = 1200, MOST_LONG_RUN = 1400 };
+enum { MOST = 1200 };
 #elif defined(__riscv)
 #define STACK_POINTER "mv %0, sp"
-enum { MOST = 1200, MOST_LONG_RUN = 1400 };
+enum { MOST = 1200 };
 #else
 #error "say how this machine gives its stack pointer"
 #endif
@@ -280,8 +280,6 @@ static int is_refusal(const struct row *row)
     return row->call != call_word_right && row->expected != HEMDROAS_TAKEN && row->expected < HEMDROAS_ENDING_ENDED;
 }
 
-static int is_run(const struct row *row) { return row->call == call_run || row->call == call_preview; }
-
 /* The most bytes over one call's rows, those taken or those refused; below 0 if an answer is not the expected one. */
 static long measure(const struct row *first, int refused)
 {
@@ -304,8 +302,8 @@ int main(void)
         if (row > rows && row[-1].call == row->call) continue;
         long taken = measure(row, 0), refused = measure(row, 1);
         printf("hemdroas_%-15s %8ld %8ld\n", row->name, taken, refused);
-        failed |= taken < 0 || taken > (is_run(row) ? MOST_LONG_RUN : MOST) || refused > MOST;
+        failed |= taken < 0 || taken > MOST || refused > MOST;
     }
-    if (failed) printf("a call answered otherwise, or takes more than %d bytes, a run %d\n", MOST, MOST_LONG_RUN);
+    if (failed) printf("a call answered otherwise, or takes more than %d bytes\n", MOST);
     return failed;
 }

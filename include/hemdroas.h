@@ -15,9 +15,9 @@
  * aligned to 8 bytes, of uint32_t to 4, of uint16_t to 2. What a call writes
  * must not overlap anything else that it is lent; two inputs may be the same.
  *
- * Memory. No call allocates or keeps a pointer. A call takes at most 1.4 KB of
- * stack on x86-64 and Cortex-M4. docs/MACHINES.md has the other machines on
- * which it was measured.
+ * Memory. No call allocates or keeps a pointer. A call takes at most 1.1 KB of
+ * stack on x86-64 and 1.2 KB on Cortex-M4. docs/MACHINES.md has the other
+ * machines on which it was measured.
  *
  * Threads. The library has no global state. Calls on different buffers may run
  * at the same time. Two calls may share a buffer if neither writes it.

@@ -1,16 +1,23 @@
 // `hemdroas_run` and `hemdroas_preview`: a run, and a run on a copy.
+use buffers::stores::store_cells;
 use capi_values::answers::RUN_ANSWER;
 use capi_values::answers::run_answer_of;
 use capi_values::layouts::LAYOUT;
 use capi_values::layouts::layout_of;
 use capi_values::machines::RECORD;
 use capi_values::machines::machine_of;
-use capi_values::machines::record_after;
+use capi_values::machines::store_machine;
+use types::Ending;
 use types::Layout;
 use types::Machine;
 use types::Outcome;
+use types::RunAnswer;
+use words::memory::fits;
 ghost use mathlib.Core.Path.{_≡_};
-ghost use Rattle.spec.specs.Machines.{MatchesResult, runOf};
+ghost use mathlib.Core.Bool.{_&&_, cond};
+ghost use lib.Dec.{eqb};
+ghost use lib.ListN.{length};
+ghost use Rattle.spec.specs.Machines.{fits, MatchesResult, runOf};
 ghost use Rattle.capi_spec.specs.Hosts.{hostResult, runFor, hostPreviewed, previewFor};
 
 // A run of a record made of a host's numbers: it stands in a local, which is lent.
@@ -51,11 +58,22 @@ pub extern "C" fn hemdroas_run(
         (now (log .entry)) ⌝ }
 {
     let lay = layout_of(layout);
-    let given = *machine;
-    let m = machine_of(given);
+    let m = machine_of(machine);
     let out = lend(lay, commands, m, memory, budget, readings, log);
-    *machine = record_after(out.machine, given);
     *answer = run_answer_of(out.answer);
+    store_machine(machine, out.machine);
+}
+
+// Copies a memory that fits into a work of as many cells, and says whether it did; else it leaves the work as it was.
+fn copy_memory(layout: Layout, memory: &[u32], work: &mut [u32]) -> bool
+    ensures copied { λ r. ⌜ r ≡ (fits layout (now (memory .entry)) && eqb (length (now (work .entry))) (layout .size)) ⌝ }
+    ensures work { λ r. ⌜ now (work .exit) ≡ cond r (now (memory .entry)) (now (work .entry)) ⌝ }
+{
+    let fitting = fits(layout, memory.len()) & (work.len() == layout.size as usize);
+    if fitting {
+        store_cells(work, 0, memory);
+    }
+    fitting
 }
 
 // Previews a run: the answer, the log, in `after` the record and in `work` the memory that `hemdroas_run` would leave.
@@ -76,10 +94,15 @@ pub extern "C" fn hemdroas_preview(
         (now (memory .exit)) ≡ previewFor (now (layout .entry)) (now (commands .entry)) (now (machine .entry)) (now (memory .entry))
         (now (work .entry)) budget (now (readings .entry)) (now (log .entry)) ⌝ }
 {
-    let lay = layout_of(layout);
-    let given = *machine;
-    let m = machine_of(given);
-    let out = machine_preview::preview(lay, commands, m, memory, work, budget, readings, log);
-    *after = record_after(out.machine, given);
-    *answer = run_answer_of(out.answer);
+    store_cells(after, 0, machine);
+    if copy_memory(layout_of(layout), memory, work) {
+        hemdroas_run(layout, commands, after, work, budget, readings, log, answer);
+        return;
+    }
+    *answer = run_answer_of(RunAnswer {
+        ending: Ending::Refused,
+        steps: 0,
+        pairs: 0,
+        used: 0,
+    });
 }

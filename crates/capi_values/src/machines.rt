@@ -11,26 +11,27 @@ ghost use Rattle.capi_spec.specs.Numbers.{numbersAfter, machineFrom, machineTo}
 pub const RECORD: usize = Machine::REGISTERS + TRAILER;
 
 // A record's machine.
-pub fn machine_of(xs: [u32; RECORD]) -> Machine
-    ensures { λ r. ⌜ r ≡ machineFrom xs ⌝ }
+pub fn machine_of(xs: &[u32; RECORD]) -> Machine
+    ensures { λ r. ⌜ r ≡ machineFrom (now (xs .entry)) ⌝ }
 {
     let mut regs = [0u32; Machine::REGISTERS];
-    let status = read_record(&xs, &mut regs);
+    let status = read_record(xs, &mut regs);
     Machine::from_parts(regs, xs[Machine::REGISTERS], status)
 }
 
-// The record after a run that left this machine.
-pub fn record_after(m: Machine, mut xs: [u32; RECORD]) -> [u32; RECORD]
-    ensures { λ r. ⌜ r ≡ numbersAfter registers xs (machineTo m) ⌝ }
+// Stores in its record the machine that a run left.
+pub fn store_machine(xs: &mut [u32; RECORD], m: Machine)
+    ensures { λ _. ⌜ now (xs .exit) ≡ numbersAfter registers (now (xs .entry)) (machineTo m) ⌝ }
 {
     let status = m.status;
-    store_record(&mut xs, &m.regs, m.pc, status);
-    xs
+    store_record(xs, &m.regs, m.pc, status);
 }
 
 // A machine's record, stored over zeros: their status is one, running.
 pub fn record_of(m: Machine) -> [u32; RECORD]
     ensures { λ r. ⌜ r ≡ machineTo m ⌝ }
 {
-    record_after(m, [0u32; RECORD])
+    let mut xs = [0u32; RECORD];
+    store_machine(&mut xs, m);
+    xs
 }
