@@ -1,6 +1,7 @@
-// Looks at the form of a page in the browser: contrast of every text, texts that are cut or lie over each other, text that is
-// too small, sideways scrolling. It is run in the page, so it stands alone.
-export function lookAtForm() {
+// Looks at the form of a page in the browser: contrast of every text and field, texts that are cut or lie over each other, text that is
+// too small, sideways scrolling. It is run in the page, so it stands alone. `width` is the window's: a phone's browser makes
+// innerWidth larger where something does not fit.
+export function lookAtForm(width) {
   const LEAST_CONTRAST = 4.5; // WCAG AA
   const SMALLEST = 10.5;
   const rgb = (colour) => colour.match(/[\d.]+/g).map(Number);
@@ -41,13 +42,19 @@ export function lookAtForm() {
     const said = e.textContent.slice(0, 30);
     if (ratio < LEAST_CONTRAST) found.low.add(`${said} ${ratio.toFixed(2)}`);
     if (parseFloat(style.fontSize) < SMALLEST && !e.closest("[aria-hidden]")) found.small.add(`${said} ${style.fontSize}`);
-    const edge = drawing ? drawing.getBoundingClientRect() : { left: -1, right: innerWidth };
+    const edge = drawing ? drawing.getBoundingClientRect() : { left: -1, right: width };
     const isOut = box.right > edge.right + 1 || box.left < edge.left - 1;
     if (isOut && drawing?.id !== "map" && !e.closest(".scroll, #listing-box")) found.cut.add(said);
   };
   const walk = document.createTreeWalker(document.body, NodeFilter.SHOW_TEXT);
   while (walk.nextNode()) lookAtText(walk.currentNode);
 
+  for (const field of document.querySelectorAll("select, input:not([type=range], [type=checkbox], [type=radio])")) {
+    const under = behind(field);
+    const isSample = field.placeholder && !field.value;
+    const ratio = contrast(over(parsed(getComputedStyle(field, isSample ? "::placeholder" : null).color), under), under);
+    if (ratio < LEAST_CONTRAST) found.low.add(`field ${field.id} ${ratio.toFixed(2)}`);
+  }
   for (const box of document.querySelectorAll("#listing-box, .scroll, #drawing")) {
     if (box.scrollWidth > box.clientWidth + 1) found.cut.add(`sideways: ${box.id || box.className}`);
   }
@@ -56,6 +63,6 @@ export function lookAtForm() {
     const meet = (a, b) => a.left < b.right - 2 && b.left < a.right - 2 && a.top < b.bottom - 4 && b.top < a.bottom - 4;
     all.forEach(([p, a], i) => all.slice(i + 1).forEach(([q, b]) => meet(a, b) && found.cut.add(`over each other: ${p} / ${q}`)));
   }
-  const isWide = document.documentElement.scrollWidth > innerWidth;
+  const isWide = document.documentElement.scrollWidth > width;
   return { low: [...found.low], cut: [...found.cut], small: [...found.small], isWide, hasTexts: texts > 100 };
 }

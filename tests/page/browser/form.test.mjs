@@ -1,4 +1,4 @@
-// The page's form, at five widths, light and dark, in four situations; names of all controls for a screen reader; a policy of 16
+// The page's form, at five widths, light and dark, in five situations; names of all controls for a screen reader; a policy of 16
 // states; and a run of 10,000 commands that does not freeze the page.
 import assert from "node:assert/strict";
 import { after, before, test } from "node:test";
@@ -23,6 +23,8 @@ const SITUATIONS = {
   "at the end": "document.getElementById('do-end').click()",
   "by command": "document.getElementById('do-reset').click(); document.getElementById('by-command').click(); document.getElementById('do-step').click()",
   "in hexadecimal, arrows as text": "document.querySelector('input[value=hexadecimal]').click(); document.querySelector('details').open = true",
+  "at a silent probe, with a bad field": `const set = (id, value) => { const field = document.getElementById(id); field.value = value; field.dispatchEvent(new Event("change")); };
+    set("readings", ""); await new Promise((done) => setTimeout(done, 200)); set("budget", "hot"); document.getElementById("do-end").click()`,
 };
 
 let browser;
@@ -36,9 +38,9 @@ for (const example of EXAMPLES) {
       for (const size of SIZES) {
         const page = await browser.page(file, { ...size, isDark });
         for (const [situation, code] of Object.entries(SITUATIONS)) {
-          await page.run(`${code}; null`);
+          await page.run(`(async () => { ${code} })()`);
           await page.settle();
-          assert.deepEqual(await see(page, lookAtForm), GOOD, `${size.width} ${situation}`);
+          assert.deepEqual(await see(page, lookAtForm, page.size.width), GOOD, `${size.width} ${situation}`);
         }
         await page.close();
       }
@@ -87,7 +89,7 @@ test("a policy of 16 states is drawn legibly, at a phone's width too", async () 
     await page.settle();
     assert.equal(await page.run("document.querySelectorAll('#automaton .state').length"), 16);
     assert.equal(await page.run("document.querySelectorAll('#automaton .state.now').length"), 1);
-    assert.deepEqual(await see(page, lookAtForm), GOOD, String(size.width));
+    assert.deepEqual(await see(page, lookAtForm, page.size.width), GOOD, String(size.width));
     await page.close();
   }
 });
@@ -122,7 +124,7 @@ test("16 states with long names: each name fits its box and differs from the oth
       return { said: name.textContent, fits: name.getBBox().width <= box.getBBox().width - 8 }; })`);
     assert.deepEqual(boxes.filter(({ fits }) => !fits), []);
     assert.equal(new Set(boxes.map(({ said }) => said)).size, 16);
-    assert.deepEqual(await see(page, lookAtForm), GOOD);
+    assert.deepEqual(await see(page, lookAtForm, page.size.width), GOOD);
     await page.close();
   }
 });

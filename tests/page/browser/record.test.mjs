@@ -39,7 +39,7 @@ test("a long record: a line without marks but the fresh one, ceilings on top, no
     assert.ok((await page.run("document.querySelectorAll('#pairs tr').length")) > 1000);
     assert.ok((await page.run("document.querySelectorAll('#plot g .mark').length")) <= 1);
     assert.equal(await page.run("(() => { const all = [...document.querySelectorAll('#plot .line, #plot .ceiling-text')]; return all.at(-1).matches('.ceiling-text'); })()"), true);
-    assert.deepEqual(await see(page, lookAtForm), GOOD_FORM, String(size.width));
+    assert.deepEqual(await see(page, lookAtForm, page.size.width), GOOD_FORM, String(size.width));
     await page.close();
   }
 });
@@ -54,7 +54,7 @@ test("a ceiling far above the orders is drawn at the top edge, with its number",
   const page = await atEnd("low", "SET r0, 20\nEVENT gas\nEVENT gas\n");
   assert.ok((await texts(page)).includes("ceiling 100: gas"));
   assert.equal(await page.run("document.querySelectorAll('#plot > svg .ceiling').length"), 1);
-  assert.deepEqual(await see(page, lookAtForm), GOOD_FORM);
+  assert.deepEqual(await see(page, lookAtForm, page.size.width), GOOD_FORM);
   await page.close();
 });
 
