@@ -16,12 +16,13 @@ import { buildRecord, updateRecord } from "./panels/record.mjs";
 import { buildRegisters, updateRegisters } from "./panels/registers.mjs";
 import { buildRoutine, updateRoutine } from "./panels/routine.mjs";
 import { buildSetup, updateSetup } from "./panels/setup.mjs";
+import { buildStaying } from "./panels/staying.mjs";
 import { buildUnmasked, chooseAddress, runUnmasked } from "./panels/unmasked.mjs";
 
 const COMMAND_PACE = 140; // milliseconds a command, when it runs by itself
 const INSTRUCTION_PACE = 320;
 
-const BUILDS = [buildControls, buildRoutine, buildRegisters, buildMemory, buildPolicy, buildRecord, buildPreview, buildUnmasked, buildSetup];
+const BUILDS = [buildControls, buildRoutine, buildRegisters, buildMemory, buildPolicy, buildRecord, buildPreview, buildUnmasked, buildSetup, buildStaying];
 const UPDATES = [updateNow, updateControls, updateRoutine, updateRegisters, updateMemory, updatePolicy, updateRecord, updatePreview, updateChecks, updateSetup];
 
 class App {

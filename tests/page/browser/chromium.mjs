@@ -10,6 +10,7 @@ const [TO_BROWSER, FROM_BROWSER] = [3, 4]; // the pipe's two files
 const READY_MS = 20000;
 const POLL_MS = 50;
 const SHOT_QUALITY = 75;
+const SHIFT = 8;
 const KEY_CODES = { ArrowRight: 39, ArrowLeft: 37, Home: 36, End: 35, " ": 32, Tab: 9, Enter: 13, e: 69 };
 
 export const pause = (ms) => new Promise((done) => setTimeout(done, ms));
@@ -81,10 +82,14 @@ class Page {
     return this.run("new Promise((done) => requestAnimationFrame(() => requestAnimationFrame(done)))");
   }
 
-  async key(key, text = key.length === 1 ? key : undefined) {
-    const event = { key, code: key, windowsVirtualKeyCode: KEY_CODES[key] };
+  async key(key, text = key.length === 1 ? key : undefined, modifiers = 0) {
+    const event = { key, code: key, windowsVirtualKeyCode: KEY_CODES[key], modifiers };
     await this.call("Input.dispatchKeyEvent", { type: text ? "keyDown" : "rawKeyDown", text, ...event });
     await this.call("Input.dispatchKeyEvent", { type: "keyUp", ...event });
+  }
+
+  shiftTab() {
+    return this.key("Tab", undefined, SHIFT);
   }
 
   /** A click with the mouse on the middle of an element. */

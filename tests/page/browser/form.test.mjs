@@ -78,6 +78,32 @@ test("all controls are reached by Tab, and show that they have the focus", async
   await page.close();
 });
 
+/** Whether what has the focus is covered by something else; its name. It is run in the page, so it stands alone. */
+function coveredFocus() {
+  const focus = document.activeElement;
+  const shown = focus.matches("[type=checkbox], [type=radio]") ? focus.closest("label") : focus;
+  const { left, top, width, height } = shown.getBoundingClientRect();
+  const isSeen = (x, y) => shown.contains(document.elementFromPoint(left + width * x, top + height * y));
+  const isBox = shown.matches("body, [tabindex]"); // a box that scrolls may be larger than the window
+  return isBox || isSeen(0.5, 0.25) || isSeen(0.5, 0.75) ? null : focus.id || focus.getAttribute("aria-label") || focus.textContent;
+}
+
+test("what has the focus is not covered by what stays in the window, forwards and back", async () => {
+  for (const size of [SIZES[1], { width: 390, height: 640, isPhone: true }, { width: 844, height: 390, isPhone: true }]) {
+    const page = await browser.page(makePage(ROAST), size);
+    const count = await page.run("document.querySelectorAll('a, button, input, select, summary, [tabindex]').length");
+    const covered = new Set();
+    for (let i = 0; i < 2 * count; i++) {
+      await (i < count ? page.key("Tab") : page.shiftTab());
+      await page.settle();
+      covered.add(await see(page, coveredFocus));
+    }
+    covered.delete(null);
+    assert.deepEqual([...covered], [], `${size.width} ${size.height}`);
+    await page.close();
+  }
+});
+
 test("a policy of 16 states is drawn legibly, at a phone's width too", async () => {
   const all = Array.from({ length: 16 }, (_, s) => `state stage-${s}\n  gas -> stage-${(s + 1) % 16}\n  air -> stage-${(s * 5) % 16}\n  door -> stage-0\n  others -> stage-${s}\n`);
   const policy = write("stages.policy", `${all.join("")}start stage-0\n`);
