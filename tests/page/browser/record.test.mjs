@@ -44,6 +44,19 @@ test("a long record: a line without marks but the fresh one, ceilings on top, no
   }
 });
 
+test("the head of the table stays while its rows scroll; the heads of other tables cover nothing", async () => {
+  for (const size of [DESKTOP, PHONE]) {
+    const page = await atEnd("many", MANY, { more: ["--budget", "1000", "--log", "4096"], readings: Array(100).fill(1500), size });
+    const seen = await page.run(`(() => { const box = document.querySelector("#panel-record .scroll"); box.scrollIntoView({ block: "center" });
+      const head = box.querySelector("th").getBoundingClientRect(); const { top } = box.getBoundingClientRect();
+      return { isScrolled: box.scrollTop > 200, isThere: Math.abs(head.top - top) <= 1 }; })()`);
+    assert.deepEqual(seen, { isScrolled: true, isThere: true }, String(size.width));
+    const staying = "[...document.querySelectorAll('th')].filter((head) => getComputedStyle(head).position === 'sticky' && !head.closest('.scroll')).length";
+    assert.equal(await page.run(staying), 0);
+    await page.close();
+  }
+});
+
 test("a short record has a mark for each pair", async () => {
   const page = await atEnd("few", "SET r0, 60\nEVENT gas\nEVENT bean\nEVENT gas\n", { readings: [55] });
   assert.equal(await page.run("document.querySelectorAll('#plot g .mark').length"), 3);
