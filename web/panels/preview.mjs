@@ -5,7 +5,7 @@ import { eventName, scaleOf } from "../model/names.mjs";
 import { Preview } from "../model/preview.mjs";
 import { MOST_READINGS } from "../model/trace.mjs";
 import { byId, complain, h } from "./dom.mjs";
-import { kindClass } from "./marks.mjs";
+import { kindClass, swatch } from "./marks.mjs";
 
 const MOST_PAIRS = 40;
 const MOST_CELLS = 12;
@@ -29,9 +29,11 @@ function sandboxText(cells, show) {
 
 function foreseen({ page, session, format }, ahead) {
   const show = FORMATS[format];
-  const item = ({ event, value }) =>
-    h("li", {}, h("span", { class: kindClass(session.facts, event) }, eventName(page, event)), h("b", {}, valueText(value, scaleOf(page, event), format)));
+  const name = (event) => h("span", { class: kindClass(session.facts, event) }, swatch(session.facts, event), eventName(page, event));
+  const item = ({ event, value }) => h("li", {}, name(event), h("b", {}, valueText(value, scaleOf(page, event), format)));
   const { pairs } = ahead;
+  const { budget, log } = session.given;
+  const own = `Looked at as a run of its own, with a budget of ${plural(budget, "command")} and an empty log of ${plural(log, "cell")}.`;
   const ended = [h("b", {}, answerText(ahead.ending)), ` after ${plural(ahead.steps, "command")}, with ${plural(ahead.readings, "reading")} used.`];
   const untouched = ahead.isUntouched ? "✓ Memory and registers are as they were." : "✕ Something was touched!";
   return [
@@ -39,6 +41,7 @@ function foreseen({ page, session, format }, ahead) {
     h("ol", { class: "foreseen" }, pairs.slice(0, MOST_PAIRS).map(item)),
     pairs.length > MOST_PAIRS ? h("p", { class: "hint" }, `and ${pairs.length - MOST_PAIRS} more.`) : "",
     h("p", {}, "It would come out as ", ended),
+    h("p", { class: "hint" }, own),
     h("p", { class: "hint" }, sandboxText(ahead.cells, show)),
     h("p", { class: ahead.isUntouched ? "ok" : "wrong" }, untouched),
   ];
