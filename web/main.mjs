@@ -114,15 +114,14 @@ class App {
     if (then === "step") this.session.step();
     if (then === "end") this.session.go(this.session.last);
     this.show();
-    if (wasAsked) byId("next-reading")?.focus();
+    if (wasAsked) (byId("pause").querySelector(":scope:not([hidden]) :is(input, button)") ?? byId("do-step")).focus();
     runUnmasked(this);
   }
 
   async write(cell, value) {
     this.session.write(cell, value);
     await this.give({});
-    const { twins, moved } = this.session.now;
-    const outcome = twins || moved ? "a difference" : "no difference";
+    const outcome = this.session.failures.length ? "a difference" : "no difference";
     this.written = { cell, value };
     byId("said").textContent = `Cell ${cell} is now ${value}. The run was done again from here: ${outcome}.`;
   }

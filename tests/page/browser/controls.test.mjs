@@ -138,6 +138,41 @@ test("a full log is emptied, and a spent budget raised", async () => {
   assert.match(await said("#pause .sum"), /^ended \(20\)/);
 });
 
+test("what is done at a pause by key keeps the focus on the page", async () => {
+  const focus = () => page.run("document.activeElement.id");
+  const press = async () => {
+    await page.run("document.activeElement.blur()");
+    await page.key("End");
+    await page.run("document.querySelector('#pause button').focus()");
+    await page.key("Enter", "\r");
+    await isIdle();
+    await page.settle();
+    return focus();
+  };
+  await page.type("#log", "4");
+  await isIdle();
+  assert.equal(await press(), "do-step");
+  await page.type("#log", "64");
+  await page.type("#budget", "50");
+  await isIdle();
+  assert.equal(await press(), "do-step");
+  await page.type("#readings", "1500");
+  await isIdle();
+  await page.run("document.activeElement.blur()");
+  await page.key("End");
+  await page.type("#next-reading", "1960");
+  await isIdle();
+  await page.settle();
+  assert.equal(await focus(), "do-step");
+});
+
+test("a link leads past the routine's lines", async () => {
+  await page.run("document.querySelector('#panel-routine .skip').focus()");
+  await page.key("Enter", "\r");
+  await page.key("Tab");
+  assert.equal(await page.run("document.activeElement.closest('section').id"), "panel-registers");
+});
+
 test("bad input gets a sentence at its field", async () => {
   for (const [field, bad, sentence] of [
     ["readings", "warm", /“warm” is no number/],
@@ -184,6 +219,9 @@ test("a look ahead says what would be ordered, and touches nothing", async () =>
   assert.match(await said("#foreseen"), /probe silent \(24\)/);
   assert.match(await said("#foreseen"), /The sandbox would then hold 256: 0 → 1500, 257: 0 → 1960\./);
   assert.match(await said("#foreseen"), /✓ Memory and registers are as they were\./);
+  assert.match(await said("#foreseen"), /as a run of its own, with a budget of 1000 commands and an empty log of 64 cells\./);
+  const shapes = await page.run("[...document.querySelectorAll('ol.foreseen li .mark')].map((mark) => mark.getAttribute('d'))");
+  assert.deepEqual(shapes.map((shape) => shapes.indexOf(shape)), [0, 1, 2, 2, 0], "each event has its mark");
   assert.equal(await at(), 0);
 });
 

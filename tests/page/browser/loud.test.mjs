@@ -42,6 +42,15 @@ for (const [what, call, code, sentence] of [
   });
 }
 
+test("a cell is written, and what the run sees of it later is told at once", async () => {
+  const late = `if (numbers[args[${MACHINE_RECORD}] / 4 + 16] > 4150) numbers[args[${MACHINE_RECORD}] / 4 + 9] = numbers[args[${MEMORY}] / 4 + 8];`;
+  const page = await browser.page(spoiltPage("late", "hemdroas_run", late), DESKTOP);
+  await page.type("#free-8", "77");
+  await page.until("document.getElementById('said').textContent !== ''");
+  assert.equal(await see(page, text, "#said"), "Cell 8 is now 77. The run was done again from here: a difference.");
+  await page.close();
+});
+
 test("a damaged library is told of", async () => {
   const file = makePage({ ...ROAST, name: "damaged" });
   const spoil = (_, head, packed) => `${head}${packed.slice(0, 400)}AAAA${packed.slice(404)}`;
