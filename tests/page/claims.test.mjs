@@ -11,7 +11,7 @@ import { Preview } from "../../web/model/preview.mjs";
 import { Session } from "../../web/model/session.mjs";
 import { jumpReason, tellInstruction } from "../../web/model/story.mjs";
 import { Trace, lendBench } from "../../web/model/trace.mjs";
-import { AS_WRITTEN, deedsOf, differences, maskedInstructions, withoutMask } from "../../web/model/unmasked.mjs";
+import { AS_WRITTEN, deedsOf, differences, forbiddenTargets, maskedInstructions, withoutMask } from "../../web/model/unmasked.mjs";
 import { CURIOUS, EXAMPLES, PROFILES, ROAST, write } from "./command.mjs";
 import { library, open, pageOf, spoiltLibrary } from "./lesson.mjs";
 
@@ -133,10 +133,53 @@ for (const [what, [routine, instruction, deeds]] of Object.entries(STRAYS)) {
   });
 }
 
+/** Of a routine on a drum: the GOX without its mask, by an aim that `aimAt` gives. */
+async function unmaskJump(routine, instruction, { drum = ROAST.files[2], aimAt = () => AS_WRITTEN } = {}) {
+  const any = write("any.policy", "state any\n  others -> any\nstart any\n");
+  const example = { name: "jump", files: [write("jump.routine", routine), "--drum", drum, "--policy", any] };
+  const { facts } = await open(pageOf(example));
+  return unmask(example, instruction, aimAt(forbiddenTargets(facts)));
+}
+
+const ALL_LANDINGS = "U 1024\nSL 256\nSH 511\nM 0\nP 512\nB 4096\nQ 32\nlandings all\nevent 0 gas\n";
+const JUMP = "SET r5, next\nGOX r5, always\nEVENT gas\nlanding next:\nHALT\n";
+
+test("without the mask of a GOX the checker refuses its bundle, and the jump aims where the routine has no command", async () => {
+  const { bare, found, deeds, trace } = await unmask(CURIOUS, 10, AS_WRITTEN);
+  assert.deepEqual([bare.answer.number, bare.answer.place], [11, 10]);
+  assert.deepEqual(deeds, ["aimed at address 52, where it has no command: no landing (26)", "ended otherwise than with the mask"]);
+  assert.deepEqual([found.masked.index, found.masked.isRunning], [13, true]);
+  assert.equal(trace.ending, ENDING.NO_LANDING);
+  const { deeds: stopped, found: both } = await unmask(CURIOUS, 19, AS_WRITTEN);
+  assert.deepEqual(stopped, ["aimed at address 16000, where it has no command: no landing (26)"]);
+  assert.equal(both.masked.isRunning, false);
+});
+
+test("a GOX without its mask can be aimed behind a check, or behind the last command", async () => {
+  const drum = write("all.drum", ALL_LANDINGS);
+  const event = await unmaskJump(JUMP, 1, { drum, aimAt: (targets) => targets.event });
+  assert.deepEqual(event.deeds, ["aimed into the middle of a bundle, at address 4106: no landing (26)", "ended otherwise than with the mask"]);
+  const behind = await unmaskJump(JUMP, 1, { drum, aimAt: (targets) => targets.behind });
+  assert.deepEqual(behind.deeds, ["aimed at address 4128, where it has no command: fault (22)", "ended otherwise than with the mask"]);
+  assert.deepEqual([event.trace.ending, behind.trace.ending], [ENDING.NO_LANDING, ENDING.FAULT]);
+});
+
+test("a GOX without its mask that does nothing wrong: it leads to an instruction, it is not made, it is not reached", async () => {
+  const there = await unmaskJump("SET r5, 1026\nGOX r5, always\nlanding\nHALT\n", 1);
+  assert.deepEqual([there.deeds, there.found.isMade], [[], true]);
+  const never = await unmaskJump("SET r5, 1\nGOX r5, r5, r0, equal\nHALT\n", 1);
+  assert.deepEqual([never.deeds, never.found.isReached, never.found.isMade], [[], true, false]);
+  const away = await unmaskJump("HALT\nGOX r5, always\n", 1);
+  assert.deepEqual([away.deeds, away.found.isReached], [[], false]);
+});
+
 test("every mask of every example is refused when it is taken out", async () => {
   for (const example of EXAMPLES) {
     const session = await open(pageOf(example));
-    for (const instruction of maskedInstructions(session.facts)) {
+    const isMasked = (text) => /^(LOAD|STORE|GOX)\b/.test(text);
+    const wanted = session.page.texts.flatMap((text, i) => (isMasked(text) ? [i] : []));
+    assert.deepEqual(maskedInstructions(session.facts), wanted);
+    for (const instruction of wanted) {
       const { answer } = withoutMask(session.lib, session.facts, instruction, AS_WRITTEN);
       assert.deepEqual([answer.number, answer.place], [11, instruction]);
     }

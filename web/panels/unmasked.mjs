@@ -1,52 +1,78 @@
 // 'Without the mask': one mask taken out of the list. What the checker says of it, and, run all the same, in this page only,
-// where the two memories come to differ.
+// what it does from which the mask would keep it: where the two memories come to differ, or where a jump aims.
 import { answerText } from "../library/header.mjs";
 import { FORMATS, plural } from "../model/numbers.mjs";
-import { cellName, commandLine, instructionText, lineOf } from "../model/names.mjs";
+import { cellName, commandLine, instructionText, lineOf, placeText } from "../model/names.mjs";
 import { inSlices } from "../model/slices.mjs";
 import { lendBench, Trace } from "../model/trace.mjs";
-import { AS_WRITTEN, deedsOf, differences, maskedInstructions, withoutMask } from "../model/unmasked.mjs";
+import { AS_WRITTEN, deedsOf, differences, forbiddenTargets, isJumpMask, maskedInstructions, withoutMask } from "../model/unmasked.mjs";
 import { byId, h } from "./dom.mjs";
 
 const MOST_ROWS = 8;
 const WRITTEN = "written";
 
-function addressChoices({ page, session: { facts } }) {
+/** The chosen instruction, and whether it is a jump. */
+function chosen({ session }) {
+  const instruction = Number(byId("mask-of").value);
+  return { instruction, isJump: isJumpMask(session.word(instruction)) };
+}
+
+function cellChoices({ page, session: { facts } }) {
   const named = page.free.map(({ cell, name }) => [cell, `${name} (cell ${cell})`]);
-  const cells = named.length || !facts.freeCells.length ? named : [[facts.freeCells[0], `free cell ${facts.freeCells[0]}`]];
-  return [[WRITTEN, "as the routine has it"], ...cells];
+  return named.length || !facts.freeCells.length ? named : [[facts.freeCells[0], `free cell ${facts.freeCells[0]}`]];
+}
+
+function targetChoices({ session: { facts } }) {
+  const { event, behind } = forbiddenTargets(facts);
+  const ofEvent = event === null ? [] : [[event, `an EVENT, behind its look at the policy (${event})`]];
+  return [...ofEvent, [behind, `behind the last command (${behind})`]];
+}
+
+const option = ([value, text]) => h("option", { value }, text);
+
+/** The addresses to choose from: cells for a LOAD or STORE, places in the code for a GOX. The one that was chosen stays, if it can. */
+function offerAddresses(app) {
+  const field = byId("mask-address");
+  const { value } = field;
+  const choices = chosen(app).isJump ? targetChoices(app) : cellChoices(app);
+  field.replaceChildren(...[[WRITTEN, "as the routine has it"], ...choices].map(option));
+  if ([...field.options].some((one) => one.value === value)) field.value = value;
 }
 
 export function buildUnmasked(app) {
   const { page, session } = app;
   const masked = maskedInstructions(session.facts);
   if (!masked.length) {
-    byId("unmasked-form").replaceChildren(h("p", { class: "hint" }, "This routine has no LOAD and no STORE, so it has no mask of a memory address to take out."));
+    byId("unmasked-form").replaceChildren(h("p", { class: "hint" }, "This routine has no LOAD, no STORE and no GOX, so it has no mask to take out."));
     return;
   }
   app.bareBench = lendBench(session.lib, session.facts);
-  const option = (value, text) => h("option", { value }, text);
-  const line = (i) => option(i, `line ${lineOf(page, i)}: ${instructionText(page, i)}`);
-  byId("mask-of").append(...masked.map(line));
-  byId("mask-address").append(...addressChoices(app).map(([value, text]) => option(value, text)));
-  const again = () => runUnmasked(app);
-  byId("mask-of").addEventListener("change", again);
-  byId("mask-address").addEventListener("change", again);
+  byId("mask-of").append(...masked.map((i) => option([i, `line ${lineOf(page, i)}: ${instructionText(page, i)}`])));
+  offerAddresses(app);
+  byId("mask-of").addEventListener("change", () => {
+    offerAddresses(app);
+    runUnmasked(app);
+  });
+  byId("mask-address").addEventListener("change", () => runUnmasked(app));
 }
 
 /** If the run never names an address outside the sandbox there, the routine is made to aim at a free cell. */
-export function chooseAddress({ session }) {
-  const choice = byId("mask-address");
-  if (!choice?.options.length) return;
+export function chooseAddress(app) {
+  const { session } = app;
+  if (!byId("mask-of")?.options.length) return;
   const { low, high } = session.facts.shape;
   const isOutside = (instruction) => {
     const { a } = session.word(instruction);
     const times = session.trace.frames.filter((frame) => frame.isFirst && frame.index === instruction);
     return times.some((frame) => frame.machine[a] < low || frame.machine[a] > high);
   };
-  const outside = maskedInstructions(session.facts).find(isOutside);
-  if (outside !== undefined) byId("mask-of").value = outside;
-  else if (choice.options.length > 1) choice.selectedIndex = 1;
+  const accesses = maskedInstructions(session.facts).filter((i) => !isJumpMask(session.word(i)));
+  if (!accesses.length) return;
+  const outside = accesses.find(isOutside);
+  byId("mask-of").value = outside ?? accesses[0];
+  offerAddresses(app);
+  const address = byId("mask-address");
+  if (outside === undefined && address.options.length > 1) address.selectedIndex = 1;
 }
 
 function bundleTable({ page, session: { facts } }, bare) {
@@ -60,11 +86,11 @@ function bundleTable({ page, session: { facts } }, bare) {
   return h("table", {}, h("thead", {}, h("tr", {}, head)), h("tbody", {}, Array.from({ length: facts.bundle }, row)));
 }
 
-function checkerText({ page }, { answer }) {
-  const why = "A LOAD or STORE must have both commands of the mask before it, and this one has not.";
+function checkerText(app, { answer }) {
+  const what = chosen(app).isJump ? "A GOX must have the shift and both commands of the mask" : "A LOAD or STORE must have both commands of the mask";
   const { number, place } = answer;
   if (number === 0) return h("p", { class: "wrong" }, "✕ The checker passed it. This should never happen.");
-  return h("p", {}, h("b", { class: "wrong" }, `The checker refuses it as ${answerText(number)}`), ` at bundle ${place}, line ${lineOf(page, place)}. ${why}`);
+  return h("p", {}, h("b", { class: "wrong" }, `The checker refuses it as ${answerText(number)}`), ` at bundle ${place}, line ${lineOf(app.page, place)}. ${what} before it, and this one has not.`);
 }
 
 /** A table of a name and two values a row; nothing if there are no rows. */
@@ -86,9 +112,10 @@ function differenceTables({ page, format }, { moved, apart }) {
   ];
 }
 
-/** Nothing was done that the mask would have kept it from: the reason is one of two. */
-function nothingDone(found, came) {
-  const why = found.isReached ? "Each time the address lay in the sandbox." : "The line was not reached.";
+/** Nothing was done that the mask would have kept it from, and why. */
+function nothingDone({ isReached, isMade }, isJump, came) {
+  const lay = isJump ? "Each time it led to the first command of an instruction." : "Each time the address lay in the sandbox.";
+  const why = !isReached ? "The line was not reached." : isMade ? lay : "The condition never held, so the jump was not made.";
   return [h("p", { class: "verdict ok" }, "No difference"), h("p", {}, `${why} Choose another address above. ${came}`)];
 }
 
@@ -98,11 +125,18 @@ function endText(app, trace) {
   return bare === masked ? `It came out as ${answerText(trace.ending)}.` : `It came out as ${bare}; with the mask, as ${masked}.`;
 }
 
+/** What the mask makes of it. */
+function maskedText({ page }, { masked }, isJump) {
+  if (!isJump) return "With the mask it does not.";
+  return masked.isRunning ? `With the mask it goes on at ${placeText(page, masked.index)}.` : "With the mask it is stopped there too.";
+}
+
 function outcome(app, trace) {
+  const { isJump } = chosen(app);
   const found = differences(trace, app.session.trace);
   const deeds = deedsOf(found);
   const came = endText(app, trace);
-  if (!deeds.length) return nothingDone(found, came);
+  if (!deeds.length) return nothingDone(found, isJump, came);
   const verdicts = deeds.map((deed) => h("p", { class: "verdict broken" }, `✕ The routine ${deed}`));
   if (found.first === null) return [...verdicts, h("p", {}, came)];
   const line = lineOf(app.page, trace.frames[found.first - 1].index);
@@ -110,7 +144,7 @@ function outcome(app, trace) {
   const atEnd = differenceTables(app, found.atEnd);
   return [
     ...verdicts,
-    h("p", {}, `First after ${plural(found.first, "command")}, in line ${line}${where}. With the mask it does not.`),
+    h("p", {}, `First after ${plural(found.first, "command")}, in line ${line}${where}. ${maskedText(app, found, isJump)}`),
     ...differenceTables(app, found.then),
     h("p", {}, atEnd.length ? `${came} At its end:` : came),
     ...atEnd,
@@ -119,12 +153,11 @@ function outcome(app, trace) {
 
 /** Runs the list without the mask on both memories, in slices, and shows what came of it. */
 export async function runUnmasked(app) {
-  const choice = byId("mask-of");
-  if (!choice?.options.length) return;
+  if (!byId("mask-of")?.options.length) return;
   const { session } = app;
   const turn = (app.bareTurn = (app.bareTurn ?? 0) + 1);
   const address = byId("mask-address").value;
-  const bare = withoutMask(session.lib, session.facts, Number(choice.value), address === WRITTEN ? AS_WRITTEN : Number(address));
+  const bare = withoutMask(session.lib, session.facts, chosen(app).instruction, address === WRITTEN ? AS_WRITTEN : Number(address));
   const trace = new Trace(session.lib, bare, { ...session.given }, app.bareBench, { withEngine: false });
   const isLatest = () => turn === app.bareTurn;
   if (!(await inSlices(trace.run(), isLatest))) return;

@@ -261,9 +261,35 @@ test("without the mask: a routine that writes the policy's state cell is told of
   assert.match(shown, /It came out as ended \(20\) with 1 pair; with the mask, as no arrow \(21\) with 0 pairs\./);
 });
 
-test("without the mask: a routine with jumps alone has no mask of a memory address", async () => {
-  await openRoutine("jumps", "SET r5, next\nGOX r5, always\nlanding next:\nHALT\n");
-  assert.match(await said("#unmasked-form"), /no LOAD and no STORE, so it has no mask of a memory address/);
+const choose = (id, value) => page.run(`(() => { const s = document.getElementById("${id}"); s.value = ${JSON.stringify(value)}; s.dispatchEvent(new Event("change")); })()`);
+
+test("without the mask of a GOX: the jump aims outside the routine's commands, or behind a check", async () => {
+  await openRoutine("jumps", "SET r5, next\nGOX r5, always\nEVENT gas\nlanding next:\nHALT\n");
+  const shown = await said("#unmasked");
+  assert.match(shown, /4101ANDI r15, r15, 4127NOP4102ORI r15, r15, 4096NOP4103GOXR r15, r0, r0, alwaysthe same/);
+  assert.match(shown, /The checker refuses it as bad bundle \(11\) at bundle 1, line 2\. A GOX must have the shift and both commands of the mask/);
+  assert.match(shown, /✕ The routine aimed at address 12, where it has no command: no landing \(26\)/);
+  assert.match(shown, /in line 2, at address 12\. With the mask it goes on at line 5\./);
+  const targets = await page.run("[...document.getElementById('mask-address').options].map((one) => one.textContent)");
+  assert.deepEqual(targets, ["as the routine has it", "an EVENT, behind its look at the policy (4106)", "behind the last command (4128)"]);
+  await choose("mask-address", "4106");
+  await page.until("document.getElementById('unmasked').textContent.includes('the middle of a bundle')");
+});
+
+test("without the mask: what can be chosen follows the instruction, and what was chosen stays where it can", async () => {
+  await page.close();
+  page = await browser.page(makePage(CURIOUS), DESKTOP);
+  await choose("mask-address", "8");
+  await choose("mask-of", "4");
+  assert.equal(await page.run("document.getElementById('mask-address').value"), "8");
+  await choose("mask-of", "10");
+  assert.equal(await page.run("document.getElementById('mask-address').value"), "written");
+  await page.until("document.getElementById('unmasked').textContent.includes('aimed at address 52, where it has no command')");
+});
+
+test("without the mask: a routine without LOAD, STORE and GOX has none", async () => {
+  await openRoutine("plain", "SET r5, 1\nHALT\n");
+  assert.match(await said("#unmasked-form"), /no LOAD, no STORE and no GOX, so it has no mask to take out/);
 });
 
 test("sample: the stopped event is shown as such", async () => {
