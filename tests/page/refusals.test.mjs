@@ -13,7 +13,19 @@ const [ROUTINE, , DRUM, , POLICY] = ROAST.files;
 const drumWith = (line, other) => write("bad.drum", readFileSync(DRUM, "utf8").replace(line, other));
 const bytes = (...list) => write("bad.bytes", Buffer.from(list));
 
-/** What is wrong, with the files that are not the roast's. */
+const policy = (...lines) => write("bad.policy", `${lines.join("\n")}\n`);
+const LAST = 5;
+
+/** A drawing in which whether an event so many steps ago was 'air' makes a set of its own: 32 sets. */
+const MANY_SETS = [
+  "drawing",
+  "state q0\n  gas -> q0\n  air -> q0 q1",
+  ...Array.from({ length: LAST - 1 }, (_, i) => `state q${i + 1}\n  gas -> q${i + 2}\n  air -> q${i + 2}`),
+  `state q${LAST}`,
+  "start q0",
+];
+
+/** What is wrong, with the files that are not the roast's. Bad bundle (11) and bad count (12) are no list's that was rewritten. */
 const BAD = {
   "a word that is no instruction": { routine: () => write("bad.routine", "SAT r1, 2\nSET r99, 3\n") },
   "short weight (1)": { routine: () => bytes(1, 0) },
@@ -27,6 +39,9 @@ const BAD = {
   "bad policy (10)": { drum: () => drumWith("B 4096", "B 4096\nS 2") },
   "bad base (13)": { drum: () => drumWith("B 4096", "B 4100") },
   "bad landing list (14)": { drum: () => drumWith("landings routine", "landings 3 2") },
+  "too many states (15)": { policy: () => policy(...MANY_SETS) },
+  "bad drawing (16)": { policy: () => policy("drawing", ...Array.from({ length: 17 }, (_, s) => `state s${s}`), "start s0") },
+  "bad pair (17)": { policy: () => policy("gas before air", "air before door", "door before charge", "charge before cool") },
   "a policy without its start": { policy: () => write("bad.policy", "state one\n  gas -> two\n") },
   "a named cell that is not the drum's own": { drum: () => drumWith("cell 8 600", "cell 300 600") },
   "a named cell that stands twice": { drum: () => drumWith("cell 9 1", "cell 8 1") },
@@ -71,6 +86,23 @@ for (const [number, spoil] of Object.entries(HANDED)) {
     assert.throws(() => new Session(lib, page), (error) => error.message.includes(`refused as ${answerText(number)}`));
   });
 }
+
+test("a page that stands there stays when a new one is refused", () => {
+  const out = write("standing.html", "as it was");
+  const files = [bytes(1, 0), ...ROAST.files.slice(1)];
+  assert.equal(hemdroas("page", ...files, "-o", out).status, 1);
+  assert.equal(readFileSync(out, "utf8"), "as it was");
+});
+
+test("files that cannot be read are told of in the words of hemdroas check", () => {
+  for (const files of [["none.routine", ...ROAST.files.slice(1)], [ROUTINE, "--drum", "none.drum", "--policy", POLICY], [ROUTINE, "--drum", DRUM, "--policy", "none.policy"]]) {
+    const out = join(folder, "refused.html");
+    const [checked, paged] = [hemdroas("check", ...files), hemdroas("page", ...files, "-o", out)];
+    assert.notEqual(paged.status, 0);
+    assert.deepEqual([paged.status, paged.said], [checked.status, checked.said]);
+    assert.ok(!existsSync(out));
+  }
+});
 
 test("a list that is no bundles is refused as bad count (12)", async () => {
   const lib = await library();

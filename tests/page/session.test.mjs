@@ -1,8 +1,10 @@
 // The session against the command: the examples step by step, forwards and back, and every ending.
 import assert from "node:assert/strict";
 import { test } from "node:test";
-import { ENDING } from "../../web/library/header.mjs";
-import { CURIOUS, EXAMPLES, ROAST, SAMPLE, objects, readingsOption } from "./command.mjs";
+import { ENDING, answerText } from "../../web/library/header.mjs";
+import { Trace, lendBench } from "../../web/model/trace.mjs";
+import { AS_WRITTEN, withoutMask } from "../../web/model/unmasked.mjs";
+import { CURIOUS, EXAMPLES, ROAST, SAMPLE, objects, readingsOption, write } from "./command.mjs";
 import { commandObject, open, pageOf, stepObject } from "./lesson.mjs";
 
 const BUDGET = 1000;
@@ -27,13 +29,14 @@ for (const example of EXAMPLES) {
       assert.deepEqual(stepObject(session), want);
       assert.deepEqual(session.failures, []);
     }
-    for (const then of seen.reverse()) {
+    for (let at = wanted.length - 1; at >= 0; at--) {
       session.back();
-      assert.deepEqual(session.now.machine, then.machine);
-      assert.deepEqual(session.now.memory, then.memory);
-      assert.ok(session.now.isExact);
+      assert.equal(session.at, at);
+      if (at > 0) assert.deepEqual(stepObject(session), wanted[at - 1]);
+      assert.deepEqual(session.now.machine, seen[at].machine);
+      assert.deepEqual(session.now.memory, seen[at].memory);
+      assert.deepEqual(session.failures, []);
     }
-    assert.equal(session.at, 0);
   });
 
   test(`${example.name}: other readings, logs and budgets as hemdroas run has them`, async () => {
@@ -72,15 +75,38 @@ for (const example of EXAMPLES) {
   });
 }
 
-test("every ending that a checked routine can have is among the examples' runs", async () => {
-  const [roast, sample, curious] = [ROAST, SAMPLE, CURIOUS].map((example) => pageOf(example));
-  const ending = async (page, given) => (await open(page, given)).trace.ending;
-  assert.equal(await ending(roast), ENDING.ENDED);
-  assert.equal(await ending(sample), ENDING.NO_ARROW);
-  assert.equal(await ending(curious), ENDING.NO_LANDING);
-  assert.equal(await ending(roast, { readings: [] }), ENDING.PROBE_SILENT);
-  assert.equal(await ending(roast, { log: 2 }), ENDING.LOG_FULL);
-  assert.equal(await ending(roast, { budget: 10 }), ENDING.SPENT);
+/** Each ending that a checked routine can have: an example, and what its run is given. A fault (22) it cannot have. */
+const ENDINGS = {
+  ENDED: [ROAST, {}],
+  NO_ARROW: [SAMPLE, {}],
+  LOG_FULL: [ROAST, { log: 2 }],
+  PROBE_SILENT: [ROAST, { readings: [] }],
+  SPENT: [ROAST, { budget: 10 }],
+  NO_LANDING: [CURIOUS, {}],
+};
+
+for (const [name, [example, given]] of Object.entries(ENDINGS)) {
+  test(`${answerText(ENDING[name])} is the command's ending and the page's, and engine and machine agree there`, async () => {
+    const { readings, log, budget } = { readings: example.readings, log: LOG, budget: BUDGET, ...given };
+    const session = await open(pageOf(example), given);
+    session.go(session.last);
+    assert.equal(session.trace.ending, ENDING[name]);
+    assert.equal(ran(example, readings, log, budget).at(-1).ending, ENDING[name]);
+    assert.deepEqual(session.failures, []);
+    assert.equal(session.frame.isRunning, ["LOG_FULL", "PROBE_SILENT", "SPENT"].includes(name));
+  });
+}
+
+test("fault (22): only a list that the checker refuses has it", async () => {
+  assert.deepEqual(Object.keys(ENDING).filter((name) => !ENDINGS[name]), ["FAULT"]);
+  const files = [write("away.routine", "SET r1, 5000\nSTORE r1, r1\n"), ...ROAST.files.slice(1)];
+  const session = await open(pageOf({ name: "away", files }));
+  assert.equal(session.trace.ending, ENDING.ENDED);
+  const bare = withoutMask(session.lib, session.facts, 1, AS_WRITTEN);
+  assert.equal(answerText(bare.answer.number), "bad bundle (11)");
+  const trace = new Trace(session.lib, bare, session.given, lendBench(session.lib, session.facts), { withEngine: false });
+  for (const _ of trace.run()) continue;
+  assert.equal(trace.ending, ENDING.FAULT);
 });
 
 test("a full log that is emptied, and further readings, lead to the same record", async () => {

@@ -125,10 +125,11 @@ function endText(app, trace) {
   return bare === masked ? `It came out as ${answerText(trace.ending)}.` : `It came out as ${bare}; with the mask, as ${masked}.`;
 }
 
-/** What the mask makes of it. */
-function maskedText({ page }, { masked }, isJump) {
+/** What the mask makes of it; and of a jump, that it was stopped before the memories could differ. */
+function maskedText({ page }, { masked, isSeen, isMoved }, isJump) {
   if (!isJump) return "With the mask it does not.";
-  return masked.isRunning ? `With the mask it goes on at ${placeText(page, masked.index)}.` : "With the mask it is stopped there too.";
+  const alike = isSeen || isMoved ? "" : " Here it was stopped at once, so the two memories do not differ.";
+  return (masked.isRunning ? `With the mask it goes on at ${placeText(page, masked.index)}.` : "With the mask it is stopped too.") + alike;
 }
 
 function outcome(app, trace) {

@@ -3,6 +3,7 @@ import { spawn, spawnSync } from "node:child_process";
 import { mkdtempSync, rmSync } from "node:fs";
 import { tmpdir } from "node:os";
 import { join } from "node:path";
+import { pathToFileURL } from "node:url";
 
 const NAMES = ["chromium", "chromium-browser", "google-chrome"];
 const FLAGS = ["--headless", "--no-sandbox", "--disable-gpu", "--hide-scrollbars", "--no-first-run", "--remote-debugging-pipe"];
@@ -126,6 +127,7 @@ export async function openBrowser(name) {
   const profile = mkdtempSync(join(tmpdir(), "test-page-"));
   const child = spawn(name, [...FLAGS, `--user-data-dir=${profile}`], { stdio: ["ignore", "ignore", "ignore", "pipe", "pipe"] });
   const pipe = new Pipe(child);
+  const own = new Set(); // the addresses of all pages
   const page = async (file, size) => {
     const { targetId } = await pipe.call("Target.createTarget", { url: "about:blank" });
     const { sessionId } = await pipe.call("Target.attachToTarget", { targetId, flatten: true });
@@ -134,7 +136,9 @@ export async function openBrowser(name) {
     await opened.resize();
     const scheme = { name: "prefers-color-scheme", value: size.isDark ? "dark" : "light" };
     await opened.call("Emulation.setEmulatedMedia", { features: [scheme] });
-    await opened.call("Page.navigate", { url: `file://${file}` });
+    const { href: url } = pathToFileURL(file);
+    own.add(url);
+    await opened.call("Page.navigate", { url });
     await opened.until("document.body?.classList.contains('ready') || !(document.getElementById('loud')?.hidden ?? true)");
     return opened;
   };
@@ -144,16 +148,16 @@ export async function openBrowser(name) {
     await ended;
     rmSync(profile, { recursive: true, force: true });
   };
-  return { page, close, complaints: () => complaints(pipe.heard) };
+  return { page, close, complaints: () => complaints(pipe.heard, own) };
 }
 
-/** Errors in the console, and requests to anything but the page's own file and what is in it. */
-function complaints(heard) {
+/** Errors in the console, and requests to anything but the pages' own files: other files beside them, too. */
+function complaints(heard, own) {
   const isError = ({ method, params }) =>
     method === "Runtime.exceptionThrown" ||
     (method === "Log.entryAdded" && params.entry.level === "error") ||
     (method === "Runtime.consoleAPICalled" && params.type === "error");
-  const isRequest = ({ method, params }) => method === "Network.requestWillBeSent" && !/^(file|data|blob):/.test(params.request.url);
+  const isRequest = ({ method, params }) => method === "Network.requestWillBeSent" && !own.has(params.request.url);
   const said = ({ params }) => params.request?.url ?? params.entry?.text ?? params.exceptionDetails?.exception?.description ?? "an error";
   return heard.filter((message) => isError(message) || isRequest(message)).map(said);
 }

@@ -269,7 +269,7 @@ test("without the mask of a GOX: the jump aims outside the routine's commands, o
   assert.match(shown, /4101ANDI r15, r15, 4127NOP4102ORI r15, r15, 4096NOP4103GOXR r15, r0, r0, alwaysthe same/);
   assert.match(shown, /The checker refuses it as bad bundle \(11\) at bundle 1, line 2\. A GOX must have the shift and both commands of the mask/);
   assert.match(shown, /✕ The routine aimed at address 12, where it has no command: no landing \(26\)/);
-  assert.match(shown, /in line 2, at address 12\. With the mask it goes on at line 5\./);
+  assert.match(shown, /in line 2, at address 12\. With the mask it goes on at line 5\. Here it was stopped at once, so the two memories do not differ\./);
   const targets = await page.run("[...document.getElementById('mask-address').options].map((one) => one.textContent)");
   assert.deepEqual(targets, ["as the routine has it", "an EVENT, behind its look at the policy (4106)", "behind the last command (4128)"]);
   await choose("mask-address", "4106");

@@ -51,6 +51,15 @@ test("a cell is written, and what the run sees of it later is told at once", asy
   await page.close();
 });
 
+test("a request to a file beside the page would be noticed", async () => {
+  const file = makePage({ ...ROAST, name: "asking" });
+  const asking = readFileSync(file, "utf8").replace(/<meta http-equiv="Content-Security-Policy"[^>]*>/, '<link rel="stylesheet" href="beside.css">');
+  writeFileSync(file, asking);
+  const page = await browser.page(file, DESKTOP);
+  assert.ok(browser.complaints().some((said) => said.endsWith("/beside.css")), `${browser.complaints()}`);
+  await page.close();
+});
+
 test("a damaged library is told of", async () => {
   const file = makePage({ ...ROAST, name: "damaged" });
   const spoil = (_, head, packed) => `${head}${packed.slice(0, 400)}AAAA${packed.slice(404)}`;

@@ -26,18 +26,19 @@ function changesOf(steps) {
 }
 
 for (const example of EXAMPLES) {
-  test(`${example.name}: a whole roast by the right arrow, as hemdroas step has it`, async () => {
+  test(`${example.name}: a whole roast by clicks and keys, forwards and back, as hemdroas step has it`, async () => {
     const page = await browser.page(makePage(example), DESKTOP);
     const steps = objects("step", ...example.files, ...readingsOption(example, example.readings), "--all").filter(({ type }) => type === "step");
     const seen = [];
+    const move = (i, key, button) => (i % 2 ? page.key(key) : page.click(button));
     for (let i = 0; i < steps.length; i++) {
-      await page.key("ArrowRight");
+      await move(i, "ArrowRight", "#do-step");
       seen.push(await see(page, lastStep));
     }
     assert.deepEqual(seen, changesOf(steps).map((step) => ({ ...step, line: step.line ?? 0 })));
     assert.ok(await page.run("document.getElementById('do-step').getAttribute('aria-disabled') === 'true'"));
     for (let i = steps.length - 2; i >= 0; i--) {
-      await page.key("ArrowLeft");
+      await move(i, "ArrowLeft", "#do-back");
       assert.deepEqual(await see(page, lastStep), seen[i]);
     }
     await page.close();
