@@ -4,7 +4,7 @@ import assert from "node:assert/strict";
 import { test } from "node:test";
 import { Library } from "../../web/library/binding.mjs";
 import { ENDING, answerText } from "../../web/library/header.mjs";
-import { readNumber, readNumbers, valueText } from "../../web/model/numbers.mjs";
+import { numbersText, readNumber, readNumbers, valueText } from "../../web/model/numbers.mjs";
 import { agreement } from "../../web/model/compare.mjs";
 import { clippedMiddle, policyModel } from "../../web/model/policy.mjs";
 import { Preview } from "../../web/model/preview.mjs";
@@ -12,7 +12,7 @@ import { Session } from "../../web/model/session.mjs";
 import { jumpReason, tellInstruction } from "../../web/model/story.mjs";
 import { Trace, lendBench } from "../../web/model/trace.mjs";
 import { AS_WRITTEN, deedsOf, differences, forbiddenTargets, maskedInstructions, withoutMask } from "../../web/model/unmasked.mjs";
-import { CURIOUS, EXAMPLES, PROFILES, ROAST, write } from "./command.mjs";
+import { CURIOUS, EXAMPLES, PROFILES, ROAST, hemdroas, objects, write } from "./command.mjs";
 import { library, open, pageOf, spoiltLibrary } from "./lesson.mjs";
 
 const PURGE = 8;
@@ -266,16 +266,42 @@ test("a scaled reading is a person's number in the page, and the drum's in the l
   const page = pageOf(PROFILES);
   assert.deepEqual(page.readings, PROFILES.readings);
   const session = await open(page);
-  assert.equal(session.readingScale, 10);
+  const tenths = session.typed.scalesFrom();
+  assert.equal(tenths(), 10);
   session.nextEvent();
   session.nextEvent();
   assert.match(tellInstruction(session, "unsigned"), /The probe answers 190\.0: r0 becomes 1900, and the record has bean 190\.0\./);
-  assert.deepEqual(readNumbers("196.5, -0.5, 0x10", 10), { values: [1965, 4294967291, 16] });
-  assert.match(readNumbers("196.55", 10).problem, /too many decimals/);
-  assert.deepEqual(readNumbers("214748364.7", 10), { values: [2147483647] });
-  assert.match(readNumbers("214748364.8", 10).problem, /up to 214748364\.7/);
+  assert.deepEqual(readNumbers("196.5, -0.5, 0x10", tenths), { values: [1965, 4294967291, 16] });
+  assert.match(readNumbers("196.55", tenths).problem, /too many decimals/);
+  assert.deepEqual(readNumbers("214748364.7", tenths), { values: [2147483647] });
+  assert.match(readNumbers("214748364.8", tenths).problem, /up to 214748364\.7/);
   assert.equal(valueText(1965, 10), "196.5");
   assert.equal(valueText(1965, 10, "hexadecimal"), "0x7AD");
+});
+
+const MIXED_DRUM = "U 1024\nSL 256\nSH 511\nM 0\nP 512\nB 4096\nQ 32\nlandings routine\nevent 0 gas\nevent 8 bean\nevent 9 exhaust\nscale bean 10\n";
+
+/** A routine that reads two probes of different scales, which of them by what it read. */
+const MIXED = {
+  name: "mixed",
+  files: [
+    write("mixed.routine", "SET r1, 1900\nagain: EVENT bean\nEVENT gas\nGOIF r0, r1, below, again\nEVENT exhaust\nGOIF always, again\n"),
+    "--drum", write("mixed.drum", MIXED_DRUM), "--policy", write("any.policy", "state any\n  others -> any\nstart any\n"),
+  ],
+  readings: [150.5, 196.5, 300, 200.1, 7],
+};
+
+test("probes of several scales: each reading has that of the event which takes it, as hemdroas run has it", async () => {
+  const shown = objects("run", ...MIXED.files, "--readings", MIXED.readings.join()).filter(({ type }) => type === "pair").map(({ value }) => value);
+  const page = pageOf(MIXED);
+  const session = await open(page);
+  assert.deepEqual(session.trace.events.map(({ value }) => value), shown);
+  assert.equal(numbersText(page.readings, session.typed.scalesFrom()), "150.5, 196.5, 300, 200.1, 7");
+  assert.deepEqual(readNumbers("150.5, 196.5, 300, 200.1, 7", session.typed.scalesFrom()).values, page.readings);
+  session.nextEvent();
+  session.nextEvent();
+  assert.deepEqual(readNumbers("190, 300.0", session.typed.scalesFrom(session.now)).problem, "Write a whole number: 300.0 has decimals.");
+  assert.match(hemdroas("page", ...MIXED.files, "--readings", "196.5,300.5", "-o", "-").said, /--readings: a reading of exhaust: '300\.5' is no whole number/);
 });
 
 test("the policy's ceiling counts where it is the lower one", async () => {

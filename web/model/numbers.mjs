@@ -29,13 +29,22 @@ function readWord(word, scale) {
   return { value: number >>> 0 };
 }
 
-/** Numbers with commas or spaces between them: { values }, or { problem }, a sentence for the field. */
-export function readNumbers(text, scale = 1) {
-  const words = text.replaceAll(MINUS, "-").split(/[\s,;]+/).filter(Boolean);
-  const read = words.map((word) => readWord(word, scale));
-  const problem = read.find((one) => one.problem)?.problem;
-  return problem ? { problem } : { values: read.map((one) => one.value) };
+/**
+ * Numbers with commas or spaces between them: { values }, or { problem }, a sentence for the field. `scaleAfter` gives the scale of
+ * the next one, told the one before.
+ */
+export function readNumbers(text, scaleAfter = () => 1) {
+  const values = [];
+  for (const word of text.replaceAll(MINUS, "-").split(/[\s,;]+/).filter(Boolean)) {
+    const { value, problem } = readWord(word, scaleAfter(values.at(-1)));
+    if (problem) return { problem };
+    values.push(value);
+  }
+  return { values };
 }
+
+/** A list of numbers as a person writes it. */
+export const numbersText = (values, scaleAfter) => values.map((value, i) => valueText(value, scaleAfter(values[i - 1]))).join(", ");
 
 /** A value as a person reads it: with scale 10, 1965 is 196.5. Hexadecimal numbers are not scaled. */
 export function valueText(value, scale, format = "unsigned") {

@@ -1,13 +1,12 @@
 // A session: what the viewer has given, the trace of it, and where he stands. Nothing here knows of the page's elements.
 import { ENDING, offsetOf } from "../library/header.mjs";
-import { commandName, countOf, isAccess, isJump, kindName, wordAt } from "../library/words.mjs";
+import { commandName, isAccess, isJump, kindName, wordAt } from "../library/words.mjs";
 import { askFacts, conditionHolds } from "./facts.mjs";
 import { allOk } from "./compare.mjs";
-import { scaleOf } from "./names.mjs";
+import { Readings } from "./readings.mjs";
 import { inSlices } from "./slices.mjs";
 import { lendBench, Trace } from "./trace.mjs";
 
-export const MOST_BUDGET = 10000;
 const PC = offsetOf("machine", "pc");
 const HIDDEN = PC - 1; // the last register
 
@@ -17,6 +16,7 @@ export class Session {
     this.page = page;
     this.facts = askFacts(lib, page);
     this.benches = [lendBench(lib, this.facts), lendBench(lib, this.facts)];
+    this.typed = new Readings(lib, this.facts, page);
     this.byCommand = false;
     this.breakpoints = new Set();
     this.given = { readings: page.readings, budget: page.budget, log: page.log, emptied: 0, writes: [], free: page.free };
@@ -142,14 +142,6 @@ export class Session {
   get event() {
     const from = this.before ? this.before.k : this.command;
     return this.trace.events.find(({ at }) => at > from && at <= this.command) ?? null;
-  }
-
-  /** The scale of a list of readings: that of the probes that the routine reads, if they have the same; else 1. */
-  get readingScale() {
-    const words = Array.from({ length: countOf(this.facts.words) }, (_, i) => this.word(i));
-    const read = words.filter((word) => kindName(word) === "EVENT" && this.facts.isReading[word.v]);
-    const scales = new Set(read.map((word) => scaleOf(this.page, word.v)));
-    return scales.size === 1 ? [...scales][0] : 1;
   }
 
   word(instruction) {

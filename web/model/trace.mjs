@@ -6,6 +6,7 @@ import { agreement, allOk, instructionOf, movedCells, same, twinRows } from "./c
 const PC = offsetOf("machine", "pc");
 const STATUS_AT = offsetOf("machine", "status");
 const PAIR = 2; // cells of the log
+export const MOST_BUDGET = 10000;
 export const MOST_LOG = 4096;
 export const MOST_READINGS = 4096;
 

@@ -2,9 +2,8 @@
 import { ENDING, answerText } from "../library/header.mjs";
 import { plural, readNumbers, valueText } from "../model/numbers.mjs";
 import { commandLine, eventName, instructionText, lineOf } from "../model/names.mjs";
-import { MOST_BUDGET } from "../model/session.mjs";
 import { tellCommand, tellInstruction } from "../model/story.mjs";
-import { MOST_READINGS } from "../model/trace.mjs";
+import { MOST_BUDGET, MOST_READINGS } from "../model/trace.mjs";
 import { byId, complain, h } from "./dom.mjs";
 
 const PAIR = 2; // cells of the log
@@ -32,14 +31,13 @@ const said = (strong, rest) => h("p", {}, h("b", {}, `${strong} `), rest);
 const mainButton = (text, act) => h("button", { type: "button", class: "main", onclick: act }, text);
 
 function askReading(app, event) {
-  const { scales, events } = app.page;
-  const scale = scales[events.indexOf(event)] ?? app.session.readingScale;
-  const sample = valueText(SAMPLE_READING, scale);
+  const { session } = app;
+  const sample = valueText(SAMPLE_READING, session.typed.scalesFrom(session.now)());
   const field = h("input", { id: "next-reading", name: "reading", inputmode: "decimal", autocomplete: "off", placeholder: sample });
   const give = (then) => (pressed) => {
     pressed.preventDefault();
-    const { values, problem } = readNumbers(field.value, scale);
-    const { readings } = app.session.given;
+    const { values, problem } = readNumbers(field.value, session.typed.scalesFrom(session.now));
+    const { readings } = session.given;
     const isTooMany = !problem && readings.length + values.length > MOST_READINGS;
     const tooMany = isTooMany ? `This page takes ${MOST_READINGS} readings at most.` : null;
     const none = !problem && !values.length ? `Write the probe’s next reading, such as ${sample}.` : null;

@@ -1,6 +1,6 @@
 // 'If the next readings were ..': what would be ordered from here, and nothing is touched.
 import { answerText } from "../library/header.mjs";
-import { FORMATS, plural, readNumbers, valueText } from "../model/numbers.mjs";
+import { FORMATS, numbersText, plural, readNumbers, valueText } from "../model/numbers.mjs";
 import { eventName, scaleOf } from "../model/names.mjs";
 import { Preview } from "../model/preview.mjs";
 import { MOST_READINGS } from "../model/trace.mjs";
@@ -16,7 +16,7 @@ export function buildPreview(app) {
   const { readings } = app.page;
   app.preview = new Preview(app.session.lib, app.session.facts);
   const first = readings.length ? readings.map((reading) => reading + WARMER) : [FIRST_READING];
-  byId("if").value = first.map((reading) => valueText(reading, app.session.readingScale)).join(", ");
+  byId("if").value = numbersText(first, app.session.typed.scalesFrom());
   byId("if").addEventListener("input", () => updatePreview(app));
 }
 
@@ -49,7 +49,7 @@ function foreseen({ page, session, format }, ahead) {
 
 export function updatePreview(app) {
   const field = byId("if");
-  const { values, problem } = readNumbers(field.value, app.session.readingScale);
+  const { values, problem } = readNumbers(field.value, app.session.typed.scalesFrom(app.session.now));
   const tooMany = values?.length > MOST_READINGS ? `Write ${MOST_READINGS} readings at most.` : null;
   complain(field, problem ?? tooMany);
   if (problem ?? tooMany) byId("foreseen").replaceChildren();

@@ -1,11 +1,10 @@
 // What the run is given: readings, budget, log; and the colours.
-import { readNumber, readNumbers, valueText } from "../model/numbers.mjs";
-import { MOST_BUDGET } from "../model/session.mjs";
-import { MOST_LOG, MOST_READINGS } from "../model/trace.mjs";
+import { numbersText, readNumber, readNumbers } from "../model/numbers.mjs";
+import { MOST_BUDGET, MOST_LOG, MOST_READINGS } from "../model/trace.mjs";
 import { byId, complain, ifUsable, setUsable } from "./dom.mjs";
 
-function readReadings(text, { readingScale }) {
-  const { values, problem } = readNumbers(text, readingScale);
+function readReadings(text, { typed }) {
+  const { values, problem } = readNumbers(text, typed.scalesFrom());
   const isTooMany = values?.length > MOST_READINGS;
   return { value: values, problem: isTooMany ? `Write ${MOST_READINGS} readings at most.` : problem };
 }
@@ -29,9 +28,8 @@ export function buildSetup(app) {
 }
 
 /** The fields as the run is given them, but for one in which the viewer writes or which is not right. */
-export function updateSetup({ session: { given, readingScale } }) {
-  const readings = given.readings.map((reading) => valueText(reading, readingScale)).join(", ");
-  const texts = { readings, budget: given.budget, log: given.log };
+export function updateSetup({ session: { given, typed } }) {
+  const texts = { readings: numbersText(given.readings, typed.scalesFrom()), budget: given.budget, log: given.log };
   for (const [id, text] of Object.entries(texts)) {
     const field = byId(id);
     if (field !== document.activeElement && field.getAttribute("aria-invalid") !== "true") field.value = text;

@@ -101,6 +101,26 @@ test("a silent probe asks for a reading, and goes on with it", async () => {
   assert.match(await said("#pause .sum"), /^ended \(20\): 106 commands/);
 });
 
+test("probes of several scales: readings are shown and typed in the unit of the probe that takes them", async () => {
+  const drum = write("mixed.drum", "U 1024\nSL 256\nSH 511\nM 0\nP 512\nB 4096\nQ 32\nlandings routine\nevent 8 bean\nevent 9 exhaust\nscale bean 10\n");
+  const policy = write("any.policy", "state any\n  others -> any\nstart any\n");
+  const values = () => page.run("[...document.querySelectorAll('#pairs td.num')].map((value) => value.textContent)");
+  await openRoutine("mixed", "again: EVENT bean\nEVENT exhaust\nGOIF always, again\n", { files: ["--drum", drum, "--policy", policy], readings: [196.5, 300] });
+  assert.equal(await page.run("document.getElementById('readings').value"), "196.5, 300");
+  await page.key("End");
+  assert.equal(await page.run("document.getElementById('next-reading').placeholder"), "196.0");
+  await page.type("#next-reading", "200.1 310");
+  await isIdle();
+  await page.run("document.activeElement.blur()");
+  await page.key("End");
+  assert.deepEqual(await values(), ["196.5", "300", "200.1", "310"]);
+  await page.type("#readings", "150.5 250");
+  await isIdle();
+  await page.run("document.activeElement.blur()");
+  await page.key("End");
+  assert.deepEqual(await values(), ["150.5", "250"]);
+});
+
 test("readings are typed one after another, and the field keeps the focus", async () => {
   await page.type("#readings", "");
   await isIdle();
@@ -247,9 +267,9 @@ test("curious: an address outside the sandbox is drawn, and without its mask the
 });
 
 /** Opens the page of a routine on the roast's drum and policy, or others. */
-async function openRoutine(name, routine, { more = [], files = ROAST.files.slice(1), size = DESKTOP } = {}) {
+async function openRoutine(name, routine, { more = [], files = ROAST.files.slice(1), size = DESKTOP, readings = [] } = {}) {
   await page.close();
-  page = await browser.page(makePage({ name, files: [write(`${name}.routine`, routine), ...files] }, more), size);
+  page = await browser.page(makePage({ name, files: [write(`${name}.routine`, routine), ...files], readings }, more), size);
 }
 
 test("without the mask: a routine that writes the policy's state cell is told of, and so is its other end", async () => {

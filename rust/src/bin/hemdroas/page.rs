@@ -4,8 +4,10 @@ use super::args::Args;
 use super::files;
 use super::json::{list, object, Json};
 use super::load::{Loaded, Setup};
+use super::preview::look_ahead;
 use super::problem::{Done, Problem, Status};
-use super::running::{readings, USUAL_BUDGET, USUAL_LOG};
+use super::running::{all_used, readings, USUAL_BUDGET, USUAL_LOG};
+use super::stretch::Supply;
 use super::what::event_of;
 use hemdroas::names::{EVENTS, ORDERS};
 use hemdroas::text::{assemble, scaled};
@@ -83,33 +85,39 @@ fn policy_json(loaded: &Loaded) -> Json {
     ])
 }
 
-/// The scale of a list of readings: that of the probes that the routine reads,
-/// if they have the same; else the numbers are taken as they are.
+/// The scale of readings that no event takes: the largest of the probes that
+/// the routine reads.
 fn reading_scale(loaded: &Loaded) -> u32 {
     let words = loaded.routine().words.iter();
     let read = words
         .filter_map(|&word| event_of(word))
         .filter(|&event| event >= ORDERS);
-    let mut scales: Vec<u32> = read.map(|event| loaded.scale(event)).collect();
-    scales.dedup();
-    match scales[..] {
-        [scale] => scale,
-        _ => 1,
-    }
+    read.map(|event| loaded.scale(event)).max().unwrap_or(1)
 }
 
-/// The readings that the arguments list.
+/// The readings that the arguments list, each scaled for the event that takes
+/// it in the longest run of a page.
 fn listed_readings(args: &Args, loaded: &Loaded) -> Result<Vec<u32>, Problem> {
-    let scale = reading_scale(loaded);
-    let words = readings(args);
-    let numbers: Result<Vec<u32>, String> = words.iter().map(|word| scaled(word, scale)).collect();
-    match numbers {
-        Ok(numbers) if numbers.len() <= MOST_READINGS => Ok(numbers),
-        Ok(_) => Err(Problem::Usage(format!(
-            "--readings: a page takes {MOST_READINGS} at most"
-        ))),
-        Err(said) => Err(Problem::Usage(format!("--readings: {said}"))),
+    let mut supply = Supply {
+        steps: MOST_BUDGET,
+        log: u32::MAX,
+        readings: readings(args),
+        unused: None,
+    };
+    if supply.readings.len() > MOST_READINGS {
+        let said = format!("--readings: a page takes {MOST_READINGS} at most");
+        return Err(Problem::Usage(said));
     }
+    let done = look_ahead(loaded, &mut loaded.first.clone(), &mut supply)?;
+    all_used(&mut supply)?;
+    let taken = done.pairs.iter().filter(|pair| pair.event >= ORDERS);
+    let mut numbers: Vec<u32> = taken.map(|pair| pair.value).collect();
+    let scale = reading_scale(loaded);
+    for word in &supply.readings {
+        let said = |said| Problem::Usage(format!("--readings: {said}"));
+        numbers.push(scaled(word, scale).map_err(said)?);
+    }
+    Ok(numbers)
 }
 
 /// What the page is handed in.
