@@ -92,8 +92,6 @@ type Labels<'a> = HashMap<&'a str, u32>;
 struct Meanings<'a> {
     names: &'a Names,
     labels: Labels<'a>,
-    /// Whether labels may stand in lines that could not be read.
-    is_torn: bool,
 }
 
 fn register(said: Said) -> Result<u32, Fault> {
@@ -141,7 +139,7 @@ fn is_register(word: &str) -> bool {
 
 impl Meanings<'_> {
     /// An instruction's number: a number, a label, or for EVENT an event's name.
-    fn value(&self, kind: &Kind, said: Said) -> Result<(u32, Shown), Fault> {
+    fn value(&self, kind: &Kind, said: Said, faults: &mut Faults) -> Result<(u32, Shown), Fault> {
         let word = said.text;
         if !is_name(word) {
             let shown = match (word.starts_with('-'), word.starts_with("0x")) {
@@ -149,21 +147,28 @@ impl Meanings<'_> {
                 (_, true) => Shown::Hex,
                 _ => Shown::Plain,
             };
-            return Ok((said.check(number(word))?, shown));
+            return match number(word) {
+                Ok(value) => Ok((value, shown)),
+                Err(_) if faults.is_given(word) => Ok((0, Shown::Plain)),
+                Err(message) => Err(said.fault(message)),
+            };
         }
         if let (true, Ok(event)) = (kind.name == EVENT, self.names.event(word)) {
             return Ok((event, Shown::Plain));
         }
         match self.labels.get(word) {
             Some(&instruction) => Ok((instruction, Shown::Label(word.to_string()))),
-            None if self.is_torn && !is_register(word) => Ok((0, Shown::Plain)),
-            None => Err(said.fault(self.unknown(kind, word))),
+            None if faults.is_lost(word) && !is_register(word) => Ok((0, Shown::Plain)),
+            None => Err(said.fault(self.unknown(kind, word, faults))),
         }
     }
 
     /// What is said of a name that means nothing here.
-    fn unknown(&self, kind: &Kind, word: &str) -> String {
-        let near = hint(word, self.labels.keys().copied());
+    fn unknown(&self, kind: &Kind, word: &str, faults: &mut Faults) -> String {
+        let near = match is_register(word) || kind.name == EVENT {
+            true => String::new(),
+            false => faults.hint(word, self.labels.keys().copied()),
+        };
         match kind.name {
             EVENT => match self.names.event(word) {
                 Err(message) => message,
@@ -195,7 +200,7 @@ impl Meanings<'_> {
             let found = match field {
                 Field::D | Field::A | Field::B => register(said),
                 Field::C => condition(said, is_short),
-                Field::V => self.value(kind, said).map(|(value, how)| {
+                Field::V => self.value(kind, said, faults).map(|(value, how)| {
                     shown = how;
                     value
                 }),
@@ -239,7 +244,8 @@ impl Meanings<'_> {
 
 /// What is said of a line that begins with no instruction.
 fn no_instruction(word: &str, is_alone: bool) -> String {
-    let near = hint(word, KINDS.iter().map(|kind| kind.name));
+    let known = KINDS.iter().map(|kind| kind.name);
+    let near = hint(word, known.chain([LANDING]));
     let near = match near.is_empty() {
         false => near,
         true if word.starts_with([';', '/', '\'']) => "; a comment begins with #".to_string(),
@@ -296,7 +302,7 @@ struct Statements<'a> {
 impl<'a> Statements<'a> {
     /// Takes a label.
     fn label(&mut self, label: Said<'a>, names: &Names) -> Result<(), Fault> {
-        let instruction = self.statements.len() as u32;
+        let instruction = self.next();
         if is_name(label.text) && names.event(label.text).is_ok() {
             return Err(label.fault(format!(
                 "{} is the name of an event: choose another label",
@@ -313,21 +319,40 @@ impl<'a> Statements<'a> {
         Ok(())
     }
 
-    /// Takes a line.
+    /// The instruction that the next statement will be.
+    fn next(&self) -> u32 {
+        self.statements.len() as u32
+    }
+
+    /// Takes a line: marks and labels in any order, and then a statement.
     fn line(&mut self, mut said: Said<'a>, names: &Names, faults: &mut Faults) {
-        let words = said.words();
         let is_mark = |word: &Said| word.text.eq_ignore_ascii_case(LANDING);
-        if words.first().is_some_and(is_mark) {
-            self.landings.insert(self.statements.len() as u32);
-            let behind = said.split_once(char::is_whitespace);
-            said = match behind {
-                Some((_, rest)) => rest,
-                None => return,
-            };
+        loop {
+            let words = said.words();
+            if words.first().is_some_and(is_mark) {
+                self.landings.insert(self.next());
+                let behind = said.split_once(char::is_whitespace);
+                said = match behind {
+                    Some((_, rest)) => rest,
+                    None => return,
+                };
+            } else if let Some((label, rest)) = said.split_once(|c| c == ':') {
+                if faults.keep(self.label(label, names)).is_none() {
+                    faults.lose(label.text);
+                }
+                said = rest;
+            } else {
+                break;
+            }
         }
-        while let Some((label, rest)) = said.split_once(|c| c == ':') {
-            faults.keep(self.label(label, names));
-            said = rest;
+        if let [word] = said.words()[..] {
+            // It may be a label without its colon.
+            if KINDS
+                .iter()
+                .all(|kind| !kind.name.eq_ignore_ascii_case(word.text))
+            {
+                faults.lose(word.text);
+            }
         }
         if !said.text.is_empty() {
             self.statements.push(said);
@@ -336,11 +361,15 @@ impl<'a> Statements<'a> {
 }
 
 /// What the library refuses of the lines that were read, beside lines that were
-/// not. Their places among the words are not the text's, so jumps are not judged.
-fn other_doubts(routine: &Routine) -> impl Iterator<Item = Fault> {
-    let is_lasting = |doubt: &Fault| matches!(doubt.refusal, Some((Refusal::OffRange, _)));
-    let lasting = routine.doubts().into_iter().filter(is_lasting);
-    lasting.map(|doubt| Fault {
+/// not. Where lines are lost, the routine's end is not known, so jumps are not
+/// judged.
+fn other_doubts(routine: &Routine, is_torn: bool) -> impl Iterator<Item = Fault> {
+    let is_sure = move |doubt: &Fault| match doubt.refusal {
+        Some((Refusal::BadLanding, _)) => !is_torn,
+        _ => true,
+    };
+    let sure = routine.doubts().into_iter().filter(is_sure);
+    sure.map(|doubt| Fault {
         refusal: None,
         ..doubt
     })
@@ -352,18 +381,10 @@ pub fn assemble(text: &[u8], names: &Names) -> Parsed<Routine> {
     let mut faults = Faults::default();
     let mut said = Statements::default();
     for line in lines(text, &mut faults) {
-        if faults.is_full() {
-            break;
-        }
         said.line(line, names, &mut faults);
     }
     let labels = said.known;
-    let is_torn = faults.is_torn;
-    let meanings = Meanings {
-        names,
-        labels,
-        is_torn,
-    };
+    let meanings = Meanings { names, labels };
     let listed = said.labels.into_iter();
     let mut routine = Routine {
         labels: listed.map(|(name, at)| (name.to_string(), at)).collect(),
@@ -371,17 +392,25 @@ pub fn assemble(text: &[u8], names: &Names) -> Parsed<Routine> {
         ..Routine::default()
     };
     for statement in said.statements {
-        if faults.is_full() {
-            break;
-        }
         let found = meanings.instruction(statement, &mut faults);
-        if let Some((word, source)) = faults.keep(found) {
-            routine.words.push(word);
-            routine.sources.push(source);
-        }
+        // What cannot be read still is an instruction, so that the others keep their places.
+        let (word, source) = faults.keep(found).unwrap_or_else(|| unread(statement));
+        routine.words.push(word);
+        routine.sources.push(source);
     }
     if !faults.is_empty() {
-        other_doubts(&routine).for_each(|doubt| faults.add(doubt));
+        let is_torn = faults.is_torn;
+        other_doubts(&routine, is_torn).for_each(|doubt| faults.add(doubt));
     }
     faults.or(Some(routine))
+}
+
+/// A HALT for a statement that cannot be read.
+fn unread(said: Said) -> (u64, Source) {
+    let source = Source {
+        place: said.place(),
+        operands: Vec::new(),
+        shown: Shown::Plain,
+    };
+    (word(Fields::default()), source)
 }

@@ -1,17 +1,18 @@
 //! Drum files: a layout, its landings, ceilings and scales, and names of events
 //! and of the drum's own cells.
 
-use super::said::{lines, quoted, Fault, Faults, Parsed, Place, Said};
+use super::said::{lines, nearest, quoted, Fault, Faults, Parsed, Place, Said};
 use super::{number, Names};
 use crate::names::{EVENTS, MOST_BUNDLES, ORDERS, UNLIMITED};
 use crate::{Ceilings, Layout};
 use std::collections::BTreeSet;
+use std::ops::RangeInclusive;
 
 /// Where a GOX may go on.
 #[derive(Clone, Debug, PartialEq, Eq)]
 pub enum Landings {
-    /// The landings that the file lists, in its order, each with its place.
-    Listed(Vec<(u32, Place)>),
+    /// The ranges of landings that the file lists, in its order, each with its place.
+    Listed(Vec<(RangeInclusive<u32>, Place)>),
     /// The landings that the routine's text marks.
     Routine,
 }
@@ -20,7 +21,11 @@ impl Landings {
     /// The landings for a routine that marks these itself.
     pub fn of(&self, marked: &[u32]) -> Vec<u32> {
         match self {
-            Landings::Listed(listed) => listed.iter().map(|&(landing, _)| landing).collect(),
+            Landings::Listed(listed) => {
+                let all = listed.iter().flat_map(|(range, _)| range.clone());
+                // As many numbers cannot rise: the library need not see more to refuse them.
+                all.take(2 * MOST_BUNDLES).collect()
+            }
             Landings::Routine => marked.to_vec(),
         }
     }
@@ -48,6 +53,10 @@ pub const LETTERS: [&str; 8] = ["U", "SL", "SH", "M", "P", "S", "B", "Q"];
 
 /// The words that begin a drum's other lines.
 const KEYWORDS: [&str; 5] = ["event", "landings", "ceiling", "scale", "cell"];
+
+/// A drum's lines.
+const LINES: &str = "U 1024 (or SL SH M P S B Q), landings 0 3 8-15, ceiling EVENT 100, \
+                     scale EVENT 10, event 0 NAME, cell 8 600 NAME";
 
 /// The place of S among the letters. It may be left out.
 const STATES: usize = 5;
@@ -91,20 +100,20 @@ impl Drum {
 }
 
 /// Landings as a drum's file lists them: numbers, and ranges such as 3-7.
-fn landings_of(word: &str) -> Result<Vec<u32>, String> {
+fn landings_of(word: &str) -> Result<Option<RangeInclusive<u32>>, String> {
     let top = MOST_BUNDLES as u32 - 1;
     match word.split_once('-') {
-        _ if word == "all" => Ok((0..=top).collect()),
-        _ if word == "none" => Ok(Vec::new()),
+        _ if word == "all" => Ok(Some(0..=top)),
+        _ if word == "none" => Ok(None),
         Some((low, high)) if !low.is_empty() => {
             let (low, high) = (number(low)?, number(high)?);
             match low <= high && high <= top {
-                true => Ok((low..=high).collect()),
+                true => Ok(Some(low..=high)),
                 false => Err(format!("{} is no range up to {top}", quoted(word))),
             }
         }
         _ => match number(word) {
-            Ok(landing) => Ok(vec![landing]),
+            Ok(landing) => Ok(Some(landing..=landing)),
             Err(_) => Err(format!(
                 "{} is no landing: they are numbers, ranges such as 3-7, all, none or routine",
                 quoted(word)
@@ -155,9 +164,17 @@ pub(super) fn wanted(word: &str) -> Option<&'static str> {
 pub(super) fn set_ceiling(
     ceilings: &mut Ceilings,
     names: &Names,
-    event: Said,
-    most: Said,
+    (event, most): (Said, Said),
+    faults: &mut Faults,
 ) -> Result<(), Fault> {
+    let value = match number(most.text) {
+        Ok(_) if most.text.starts_with('-') => {
+            let message = format!("{} is negative, and a ceiling is not", quoted(most.text));
+            Err(message)
+        }
+        value => value,
+    };
+    let value = faults.keep(most.check(value));
     let order = event.event(names.known_event(event.text))?;
     match ceilings.get_mut(order as usize) {
         Some(ceiling) if *ceiling != u32::MAX => Err(event.fault(format!(
@@ -165,12 +182,7 @@ pub(super) fn set_ceiling(
             quoted(event.text)
         ))),
         Some(ceiling) => {
-            let value = most.check(number(most.text))?;
-            if most.text.starts_with('-') {
-                let message = format!("{} is negative, and a ceiling is not", quoted(most.text));
-                return Err(most.fault(message));
-            }
-            *ceiling = value;
+            *ceiling = value.unwrap_or(u32::MAX);
             Ok(())
         }
         None => Err(event.fault(format!(
@@ -181,25 +193,45 @@ pub(super) fn set_ceiling(
     }
 }
 
+/// The word that begins a line, or the one that was meant.
+pub(super) fn meant(words: &[Said], known: &[&'static str]) -> Option<&'static str> {
+    let first = words[0].text;
+    let same = known.iter().find(|&&known| known == first).copied();
+    same.or_else(|| nearest(first, known.iter().copied()))
+}
+
+/// What is said of a line that begins with no known word. All lines of a file are
+/// listed once.
+pub(super) fn no_line(word: &str, meant: Option<&str>, file: &str, all: &mut &str) -> String {
+    let begin = format!("{} begins no line of a {file}", quoted(word));
+    match meant {
+        Some(meant) => format!("{begin}; did you mean '{meant}'?"),
+        None if all.is_empty() => begin,
+        None => format!("{begin}: they are {}", std::mem::take(all)),
+    }
+}
+
 /// The names that the `event` lines of a file add to those that are given.
-pub(super) fn event_names(said: &[Vec<Said>], given: &Names, faults: &mut Faults) -> Names {
+pub(super) fn event_names(
+    said: &[Vec<Said>],
+    known: &[&'static str],
+    given: &Names,
+    faults: &mut Faults,
+) -> Names {
     let mut names = given.clone();
-    for words in said {
-        if faults.is_full() {
-            break;
-        }
-        if let [keyword, event, name] = words[..] {
-            if keyword.text == "event" {
-                let added = names.add(event.text, name.text);
-                let at = if number(event.text).is_ok_and(|event| event < EVENTS) {
-                    name
-                } else {
-                    event
-                };
-                faults.keep(at.check(added));
+    let is_event = |words: &&Vec<Said>| meant(words, known) == Some("event");
+    for words in said.iter().filter(is_event) {
+        let added = match words[..] {
+            [keyword, event, name] if keyword.text == "event" => {
+                let is_event = number(event.text).is_ok_and(|event| event < EVENTS);
+                let at = if is_event { name } else { event };
+                faults.keep(at.check(names.add(event.text, name.text)))
             }
-        } else if words[0].text == "event" {
-            faults.has_odd_names = true;
+            // What is wrong with it is said where the lines are read.
+            _ => None,
+        };
+        if added.is_none() {
+            words[1..].iter().for_each(|word| faults.lose(word.text));
         }
     }
     names
@@ -215,18 +247,28 @@ struct Reader {
     cells: Vec<NamedCell>,
     /// The addresses of these cells.
     addresses: BTreeSet<u32>,
+    /// Whether a number of the layout could not be read.
+    is_unread: bool,
+    /// The lines that there are, until they are listed.
+    lines: &'static str,
 }
 
 impl Reader {
     /// Takes a line.
-    fn line(&mut self, words: &[Said]) -> Result<(), Fault> {
+    fn line(&mut self, words: &[Said], faults: &mut Faults) -> Result<(), Fault> {
         let texts: Vec<&str> = words.iter().map(|word| word.text).collect();
         match texts[..] {
             ["event", _, _] => Ok(()),
-            ["landings", _, ..] => self.landings(words),
-            ["ceiling", _, _] => set_ceiling(&mut self.ceilings, &self.names, words[1], words[2]),
-            ["scale", _, _] => self.scale(words[1], words[2]),
-            ["cell", _, _, _, ..] => self.cell(words[1], words[2], &texts[3..].join(" ")),
+            ["landings", _, ..] => self.landings(words, faults),
+            ["ceiling", _, _] => {
+                let said = (words[1], words[2]);
+                set_ceiling(&mut self.ceilings, &self.names, said, faults)
+            }
+            ["scale", _, _] => self.scale(words[1], words[2], faults),
+            ["cell", _, _, _, ..] => {
+                let said = (words[1], words[2]);
+                self.cell(said, &texts[3..].join(" "), faults)
+            }
             [letter, _] if LETTERS.contains(&letter) => self.number(words[0], words[1]),
             _ => self.odd_line(words),
         }
@@ -235,39 +277,39 @@ impl Reader {
     /// What is wrong with a line that has no line's words.
     fn odd_line(&mut self, words: &[Said]) -> Result<(), Fault> {
         let first = words[0];
-        let letter = LETTERS.iter().position(|&known| known == first.text);
-        if let Some(letter) = letter {
-            // It is not missing, too.
+        let meant = meant(words, &LETTERS).or_else(|| meant(words, &KEYWORDS));
+        // What is meant is not missing, too.
+        if let Some(letter) = LETTERS.iter().position(|&known| Some(known) == meant) {
             self.numbers[letter].get_or_insert((0, first.place()));
-            return Err(first.fault(format!("{} wants one number", first.text)));
+            self.is_unread = true;
         }
-        if first.text == "landings" {
+        if meant == Some("landings") {
             self.landings.get_or_insert(Landings::Listed(Vec::new()));
         }
-        let wants = wanted(first.text).filter(|_| KEYWORDS.contains(&first.text));
-        match wants {
-            Some(wants) => Err(first.fault(wants)),
-            None => Err(first.fault(format!(
-                "{} begins no line of a drum: they are U 1024 (or SL SH M P S B Q), landings 0 3 8-15, \
-                 ceiling EVENT 100, scale EVENT 10, event 0 NAME, cell 8 600 NAME",
-                quoted(words[0].text)
-            ))),
+        if LETTERS.contains(&first.text) {
+            return Err(first.fault(format!("{} wants one number", first.text)));
         }
+        let wants = wanted(first.text).filter(|_| KEYWORDS.contains(&first.text));
+        Err(first.fault(match wants {
+            Some(wants) => wants.to_string(),
+            None => no_line(first.text, meant, "drum", &mut self.lines),
+        }))
     }
 
     fn number(&mut self, letter: Said, value: Said) -> Result<(), Fault> {
         let place = LETTERS.iter().position(|&known| known == letter.text);
         let slot = &mut self.numbers[place.unwrap_or(0)];
         if slot.is_some() {
+            self.is_unread = true;
             return Err(letter.fault(format!("{} stands twice", letter.text)));
         }
-        *slot = Some((0, value.place()));
-        let number = value.check(number(value.text))?;
-        *slot = Some((number, value.place()));
-        Ok(())
+        let number = number(value.text);
+        self.is_unread |= number.is_err();
+        *slot = Some((*number.as_ref().unwrap_or(&0), value.place()));
+        value.check(number).map(|_| ())
     }
 
-    fn landings(&mut self, words: &[Said]) -> Result<(), Fault> {
+    fn landings(&mut self, words: &[Said], faults: &mut Faults) -> Result<(), Fault> {
         let is_routine = words[1].text == "routine";
         let alone = "'landings routine' stands alone, without other landings";
         match &mut self.landings {
@@ -279,46 +321,49 @@ impl Reader {
         }
         if let Some(Landings::Listed(listed)) = &mut self.landings {
             for word in &words[1..] {
-                let more = word.check(landings_of(word.text))?;
-                listed.extend(more.into_iter().map(|landing| (landing, word.place())));
-                // As many numbers cannot rise: no need to keep more for the library to refuse.
-                listed.truncate(2 * MOST_BUNDLES);
+                let more = faults.keep(word.check(landings_of(word.text)));
+                listed.extend(more.flatten().map(|range| (range, word.place())));
             }
         }
         Ok(())
     }
 
-    fn cell(&mut self, address: Said, value: Said, name: &str) -> Result<(), Fault> {
+    fn cell(
+        &mut self,
+        (address, value): (Said, Said),
+        name: &str,
+        faults: &mut Faults,
+    ) -> Result<(), Fault> {
+        let value = faults.keep(value.check(number(value.text)));
         let cell = address.check(number(address.text))?;
-        let value = value.check(number(value.text))?;
         if !self.addresses.insert(cell) {
             return Err(address.fault(format!("cell {cell} stands twice")));
         }
         self.cells.push(NamedCell {
             cell,
             place: address.place(),
-            value,
+            value: value.unwrap_or(0),
             name: name.to_string(),
         });
         Ok(())
     }
 
-    fn scale(&mut self, event: Said, scale: Said) -> Result<(), Fault> {
-        let number = event.event(self.names.known_event(event.text))? as usize;
+    fn scale(&mut self, event: Said, scale: Said, faults: &mut Faults) -> Result<(), Fault> {
         let known = KNOWN_SCALES
             .iter()
             .find(|known| known.to_string() == scale.text);
-        let Some(&known) = known else {
-            return Err(scale.fault("a scale is 1, 10, 100 or 1000"));
-        };
+        if known.is_none() {
+            faults.add(scale.fault("a scale is 1, 10, 100 or 1000"));
+        }
+        let number = event.event(self.names.known_event(event.text))? as usize;
         if self.scales[number] != 0 {
             return Err(event.fault(format!("the scale of {} stands twice", quoted(event.text))));
         }
-        self.scales[number] = known;
+        self.scales[number] = *known.unwrap_or(&1);
         Ok(())
     }
 
-    /// The drum, if nothing is missing.
+    /// The drum, if no part of its layout is missing.
     fn drum(self, faults: &mut Faults) -> Option<Drum> {
         let whole = |message: String| Fault::new(Place::default(), message);
         let missing = LETTERS.iter().zip(&self.numbers);
@@ -333,6 +378,9 @@ impl Reader {
         if self.landings.is_none() {
             let message = "landings are missing: all, none, routine or a list";
             faults.miss(whole(message.to_string()));
+        }
+        if self.is_unread || !missing.is_empty() {
+            return None;
         }
         let given = |place: usize| self.numbers[place].map_or(1, |(number, _)| number);
         let layout = Layout {
@@ -362,9 +410,17 @@ impl Reader {
 
 /// The drum of a drum file's text.
 pub fn drum(text: &[u8]) -> Parsed<Drum> {
+    match drum_in_part(text) {
+        (Some(drum), faults) if faults.is_empty() => Ok(drum),
+        (_, faults) => Err(faults),
+    }
+}
+
+/// What is wrong with a drum file's text, and the drum if no part of its layout is.
+pub fn drum_in_part(text: &[u8]) -> (Option<Drum>, Vec<Fault>) {
     let mut faults = Faults::default();
     let said: Vec<Vec<Said>> = lines(text, &mut faults).iter().map(Said::words).collect();
-    let names = event_names(&said, &Names::default(), &mut faults);
+    let names = event_names(&said, &KEYWORDS, &Names::default(), &mut faults);
     let mut reader = Reader {
         numbers: [None; LETTERS.len()],
         landings: None,
@@ -373,13 +429,13 @@ pub fn drum(text: &[u8]) -> Parsed<Drum> {
         names,
         cells: Vec::new(),
         addresses: BTreeSet::new(),
+        is_unread: false,
+        lines: LINES,
     };
     for words in &said {
-        if faults.is_full() {
-            break;
-        }
-        faults.keep(reader.line(words));
+        let taken = reader.line(words, &mut faults);
+        faults.keep(taken);
     }
     let drum = reader.drum(&mut faults);
-    faults.or(drum)
+    (drum, faults.sorted())
 }

@@ -1,12 +1,26 @@
 //! Policy files: states and their arrows, a drawing with several arrows, or
 //! pairs of events.
 
-use super::drum::{event_names, set_ceiling, wanted};
+use super::drum::{event_names, meant, no_line, set_ceiling, wanted};
 use super::said::{lines, quoted, Fault, Faults, Parsed, Place, Said};
 use super::states::States;
 use super::Names;
-use crate::names::{EVENTS, NO_ARROW, ORDERS, UNLIMITED};
+use crate::names::{EVENTS, MOST_STATES, NO_ARROW, ORDERS, UNLIMITED};
 use crate::{Ceilings, Policy};
+
+/// The words that begin a policy's lines, but for arrows and pairs.
+const KEYWORDS: [&str; 6] = [
+    "state",
+    "start",
+    "event",
+    "ceiling",
+    "drawing",
+    "everything",
+];
+
+/// A policy's lines.
+const LINES: &str = "state NAME, EVENT -> STATE, start STATE, drawing, EVENT before EVENT, \
+                     everything, ceiling EVENT 100, event 0 NAME";
 
 /// A policy with the names of its states.
 #[derive(Clone, Debug, PartialEq, Eq)]
@@ -81,16 +95,19 @@ struct Reader<'a> {
     /// The events of the pairs, two and two, where the file has pairs.
     events: Option<Vec<u8>>,
     pairs: Vec<Place>,
+    /// The lines that there are, until they are listed.
+    lines: &'static str,
 }
 
 impl<'a> Reader<'a> {
     /// Takes a line.
-    fn line(&mut self, words: &[Said<'a>]) -> Result<(), Fault> {
+    fn line(&mut self, words: &[Said<'a>], faults: &mut Faults) -> Result<(), Fault> {
         let texts: Vec<&str> = words.iter().map(|word| word.text).collect();
         match texts[..] {
             ["event", _, _] => Ok(()),
             ["ceiling", _, _] => {
-                set_ceiling(&mut self.ceilings, &self.names, words[1], words[2])
+                let said = (words[1], words[2]);
+                set_ceiling(&mut self.ceilings, &self.names, said, faults)
             }
             ["drawing"] => {
                 self.states.is_drawing = true;
@@ -100,7 +117,7 @@ impl<'a> Reader<'a> {
                 self.events.get_or_insert_with(Vec::new);
                 Ok(())
             }
-            [_, "before", _] => self.pair(words[0], words[2]),
+            [_, "before", _] => self.pair(words[0], words[2], faults),
             ["state", _] => self.states.state(words[1]),
             ["start", _, ..] => self.states.start(words),
             [_, "->", _, ..] => self.states.arrow(words),
@@ -110,32 +127,72 @@ impl<'a> Reader<'a> {
                 "{} is one word too many: a line has one pair",
                 quoted(words[3].text)
             ))),
-            ["event" | "ceiling" | "state" | "start" | "drawing" | "everything", ..] => {
-                Err(words[0].fault(wanted(texts[0]).unwrap_or_default()))
+            [first, ..] if KEYWORDS.contains(&first) => {
+                Err(words[0].fault(wanted(first).unwrap_or_default()))
             }
-            _ => Err(words[0].fault(format!(
-                "{} begins no line of a policy: they are state NAME, EVENT -> STATE, start STATE, drawing, \
-                 EVENT before EVENT, everything, ceiling EVENT 100, event 0 NAME",
-                quoted(words[0].text)
-            ))),
+            _ => Err(words[0].fault(self.odd_line(words))),
         }
     }
 
-    fn pair(&mut self, first: Said, second: Said) -> Result<(), Fault> {
-        let mut pair = Vec::new();
-        for said in [first, second] {
+    /// What is said of a line that has no line's words.
+    fn odd_line(&mut self, words: &[Said]) -> String {
+        let first = words[0].text;
+        let is_event = first == "others" || self.names.event(first).is_ok();
+        if words.iter().any(|word| word.text.contains("->")) {
+            return "blanks stand around ->, as in 'gas -> shut'".to_string();
+        }
+        if is_event {
+            return format!(
+                "-> or before is missing behind {}, as in 'gas -> shut' or 'gas before door'",
+                quoted(first)
+            );
+        }
+        no_line(first, meant(words, &KEYWORDS), "policy", &mut self.lines)
+    }
+
+    /// Keeps what a wrong line was to name.
+    fn lose(&mut self, words: &[Said], faults: &mut Faults) {
+        if meant(words, &KEYWORDS) == Some("state") {
+            self.states.stray();
+            words[1..].iter().for_each(|word| faults.lose(word.text));
+        }
+    }
+
+    fn pair(&mut self, first: Said, second: Said, faults: &mut Faults) -> Result<(), Fault> {
+        let event = |said: Said| {
             let event = said.event(self.names.event(said.text))?;
             // One above 15 is the library's to refuse.
             let short = u8::try_from(event).map_err(|_| format!("{event} is no event"));
-            pair.push(said.check(short)?);
+            said.check(short)
+        };
+        let pair = [first, second].map(|said| faults.keep(event(said)));
+        let events = self.events.get_or_insert_with(Vec::new);
+        if let [Some(one), Some(other)] = pair {
+            events.extend([one, other]);
+            let (from, to) = (first.place(), second.place());
+            self.pairs.push(Place {
+                length: to.column + to.length - from.column,
+                ..from
+            });
         }
-        self.events.get_or_insert_with(Vec::new).extend(pair);
-        let (from, to) = (first.place(), second.place());
-        self.pairs.push(Place {
-            length: to.column + to.length - from.column,
-            ..from
-        });
         Ok(())
+    }
+
+    /// Adds what the library would refuse, beside lines that are wrong.
+    fn doubt(&self, faults: &mut Faults) {
+        let events = self.events.iter().flatten().map(|&event| u32::from(event));
+        let places = self.pairs.iter().flat_map(|&place| [place, place]);
+        for (event, place) in events.zip(places).filter(|&(event, _)| event >= EVENTS) {
+            let message = format!("{event} is no event: they are 0 to {}", EVENTS - 1);
+            faults.add(Fault::new(place, message));
+        }
+        let states = self.states.places();
+        if let Some(&place) = states.get(MOST_STATES as usize) {
+            let count = states.len();
+            let message =
+                format!("the file has {count} states, and at most {MOST_STATES} are taken");
+            faults.add(Fault::new(place, message));
+        }
     }
 
     /// The form that the lines have.
@@ -164,19 +221,23 @@ pub fn policy(text: &[u8], given: &Names) -> Parsed<PolicyFile> {
     let mut faults = Faults::default();
     let said: Vec<Vec<Said>> = lines(text, &mut faults).iter().map(Said::words).collect();
     let mut reader = Reader {
-        names: event_names(&said, given, &mut faults),
+        names: event_names(&said, &KEYWORDS, given, &mut faults),
         ceilings: UNLIMITED,
         states: States::default(),
         events: None,
         pairs: Vec::new(),
+        lines: LINES,
     };
     for words in &said {
-        if faults.is_full() {
-            break;
+        let taken = reader.line(words, &mut faults);
+        if faults.keep(taken).is_none() {
+            reader.lose(words, &mut faults);
         }
-        faults.keep(reader.line(words));
     }
     let form = reader.form(&mut faults);
+    if !faults.is_empty() {
+        reader.doubt(&mut faults);
+    }
     faults.or(form.map(|form| PolicyFile {
         form,
         ceilings: reader.ceilings,

@@ -1,6 +1,8 @@
 //! Texts by lines and words, each with its place, and what is wrong with them.
 
+use super::number;
 use crate::Refusal;
+use std::collections::HashSet;
 
 /// The most characters of a line, in bytes.
 pub const LONGEST_LINE: usize = 1000;
@@ -8,11 +10,11 @@ pub const LONGEST_LINE: usize = 1000;
 /// The most characters of a name, in bytes.
 const LONGEST_NAME: usize = 60;
 
-/// The most faults of a text that are kept: behind them it is not read on.
-pub const MOST_FAULTS: usize = 1000;
-
 /// The most known words that a hint is sought among.
 const MOST_HINTED: usize = 1000;
+
+/// The most hints that are sought for one text, since each looks at all known words.
+const MOST_HINTS: usize = 100;
 
 /// The most characters of a word that a message quotes.
 const LONGEST_QUOTE: usize = 40;
@@ -39,8 +41,8 @@ pub struct Fault {
     /// The refusal that the library gives for it, and the instruction, if it
     /// is one of those.
     pub refusal: Option<(Refusal, u32)>,
-    /// Whether it is an event's name that is not known.
-    pub is_unknown_event: bool,
+    /// The name that is not known, if that is what is wrong.
+    pub unknown: Option<String>,
 }
 
 impl Fault {
@@ -50,7 +52,7 @@ impl Fault {
             place,
             message: message.into(),
             refusal: None,
-            is_unknown_event: false,
+            unknown: None,
         }
     }
 }
@@ -64,23 +66,43 @@ pub(super) struct Faults {
     found: Vec<Fault>,
     /// Whether a line could not be read: what seems to be missing may stand there.
     pub is_torn: bool,
-    /// Whether a line that names an event is wrong: its name is not known then.
-    pub has_odd_names: bool,
+    /// Names that a wrong line was to give.
+    lost: HashSet<String>,
+    /// How many hints were sought.
+    hints: usize,
 }
 
 impl Faults {
-    /// Adds a fault, unless there are as many as are kept, or it follows from
-    /// another.
+    /// Adds a fault, unless it follows from another.
     pub fn add(&mut self, fault: Fault) {
-        let follows = fault.is_unknown_event && (self.is_torn || self.has_odd_names);
-        if !self.is_full() && !follows {
+        let follows = |name: &String| self.is_lost(name);
+        if !fault.unknown.as_ref().is_some_and(follows) {
             self.found.push(fault);
         }
     }
 
-    /// Whether there are as many faults as are kept.
-    pub fn is_full(&self) -> bool {
-        self.found.len() >= MOST_FAULTS
+    /// Keeps a name that a wrong line was to give: nobody is told that it is not known.
+    pub fn lose(&mut self, name: &str) {
+        self.lost.insert(name.to_string());
+    }
+
+    /// Whether a wrong line was to give a name.
+    pub fn is_given(&self, name: &str) -> bool {
+        self.lost.contains(name)
+    }
+
+    /// The same, or a line that could not be read may be that line.
+    pub fn is_lost(&self, name: &str) -> bool {
+        self.is_torn || self.is_given(name)
+    }
+
+    /// A hint at the known word that somebody may have meant, for the first of a text.
+    pub fn hint<'a>(&mut self, word: &str, known: impl Iterator<Item = &'a str>) -> String {
+        self.hints += 1;
+        match self.hints <= MOST_HINTS {
+            true => hint(word, known),
+            false => String::new(),
+        }
     }
 
     /// Adds that something is missing, unless a line that could not be read may
@@ -101,16 +123,19 @@ impl Faults {
         self.found.is_empty()
     }
 
+    /// The faults by their places.
+    pub fn sorted(mut self) -> Vec<Fault> {
+        // What is wrong with the whole text comes last.
+        self.found
+            .sort_by_key(|fault| (fault.place.line == 0, fault.place));
+        self.found
+    }
+
     /// What was read, if nothing is wrong; else the faults by their places.
-    pub fn or<T>(mut self, value: Option<T>) -> Parsed<T> {
+    pub fn or<T>(self, value: Option<T>) -> Parsed<T> {
         match value {
             Some(value) if self.is_empty() => Ok(value),
-            _ => {
-                // What is wrong with the whole text comes last.
-                self.found
-                    .sort_by_key(|fault| (fault.place.line == 0, fault.place));
-                Err(self.found)
-            }
+            _ => Err(self.sorted()),
         }
     }
 }
@@ -146,7 +171,7 @@ impl<'a> Said<'a> {
     /// The event that these words name, as it was found.
     pub fn event(&self, found: Result<u32, String>) -> Result<u32, Fault> {
         found.map_err(|message| Fault {
-            is_unknown_event: is_name(self.text),
+            unknown: number(self.text).is_err().then(|| self.text.to_string()),
             ..self.fault(message)
         })
     }
@@ -236,20 +261,31 @@ fn plain(line: usize, bytes: &[u8]) -> Result<&str, (usize, String)> {
     }
 }
 
+/// Whether a character takes no room, so that nobody sees it.
+pub fn is_unseen(c: char) -> bool {
+    matches!(c, '\u{ad}' | '\u{200b}'..='\u{200f}' | '\u{202a}'..='\u{202e}')
+        || matches!(c, '\u{2060}'..='\u{206f}' | '\u{feff}')
+}
+
 /// What a line says before its comment.
 fn statement(line: usize, bytes: &[u8]) -> Result<Said<'_>, Fault> {
-    let text = plain(line, bytes).map_err(|(column, message)| {
+    let fault = |(column, message): (usize, String)| {
         let length = 1;
-        Fault::new(
-            Place {
-                line,
-                column,
-                length,
-            },
-            message,
-        )
-    })?;
+        let place = Place {
+            line,
+            column,
+            length,
+        };
+        Fault::new(place, message)
+    };
+    let text = plain(line, bytes).map_err(fault)?;
     let text = text.split('#').next().unwrap_or("");
+    let unseen = text.chars().zip(1..).find(|&(c, _)| is_unseen(c));
+    if let Some((found, column)) = unseen {
+        let code = u32::from(found);
+        let message = format!("a character that nobody sees, U+{code:04X}: delete it");
+        return Err(fault((column, message)));
+    }
     let column = 1;
     Ok(Said { text, line, column }.trim())
 }
@@ -258,9 +294,6 @@ fn statement(line: usize, bytes: &[u8]) -> Result<Said<'_>, Fault> {
 pub(super) fn lines<'a>(text: &'a [u8], faults: &mut Faults) -> Vec<Said<'a>> {
     let mut said = Vec::new();
     for (index, bytes) in text.split(|&byte| byte == b'\n').enumerate() {
-        if faults.is_full() {
-            break;
-        }
         said.extend(faults.keep(statement(index + 1, bytes)));
     }
     faults.is_torn = !faults.is_empty();
@@ -284,39 +317,58 @@ pub(super) fn is_name(word: &str) -> bool {
 }
 
 /// How many letters of one word must change, come, go or swap with the next to
-/// make it another.
-fn distance(one: &str, other: &str) -> usize {
-    let (one, other) = (one.to_ascii_lowercase(), other.to_ascii_lowercase());
-    let (one, other) = (one.as_bytes(), other.as_bytes());
-    let mut rows: Vec<Vec<usize>> = vec![(0..=other.len()).collect()];
-    for i in 1..=one.len() {
-        let mut row = vec![i];
-        for j in 1..=other.len() {
-            let change = rows[i - 1][j - 1] + usize::from(one[i - 1] != other[j - 1]);
-            let mut least = change.min(rows[i - 1][j] + 1).min(row[j - 1] + 1);
-            let is_swap =
-                i > 1 && j > 1 && one[i - 1] == other[j - 2] && one[i - 2] == other[j - 1];
-            if is_swap {
-                least = least.min(rows[i - 2][j - 2] + 1);
-            }
-            row.push(least);
-        }
-        rows.push(row);
+/// make it another. Neither is longer than a name.
+fn distance(one: &[u8], other: &[u8]) -> usize {
+    let same = |i: usize, j: usize| one[i - 1].eq_ignore_ascii_case(&other[j - 1]);
+    // The last three rows of the table, the newest first.
+    let mut rows = [[0; LONGEST_NAME + 1]; 3];
+    for (j, first) in rows[0][..=other.len()].iter_mut().enumerate() {
+        *first = j;
     }
-    rows[one.len()][other.len()]
+    for i in 1..=one.len() {
+        rows.rotate_right(1);
+        let [row, before, two_before] = &mut rows;
+        row[0] = i;
+        for j in 1..=other.len() {
+            let change = before[j - 1] + usize::from(!same(i, j));
+            row[j] = change.min(before[j] + 1).min(row[j - 1] + 1);
+            if i > 1 && j > 1 && same(i, j - 1) && same(i - 1, j) {
+                row[j] = row[j].min(two_before[j - 2] + 1);
+            }
+        }
+    }
+    rows[0][other.len()]
 }
 
-/// A hint at the known word that somebody may have meant: one letter in three
-/// may be wrong.
-pub fn hint<'a>(word: &str, known: impl Iterator<Item = &'a str>) -> String {
+/// How far one word is from another, where one letter in three may be wrong.
+fn nearness(word: &str, name: &str) -> Option<usize> {
+    let (short, long) = (word.len().min(name.len()), word.len().max(name.len()));
+    if long > LONGEST_NAME || 3 * (long - short) > short {
+        return None;
+    }
+    let away = match short {
+        0..3 => usize::from(!word.eq_ignore_ascii_case(name)),
+        _ => distance(word.as_bytes(), name.as_bytes()),
+    };
+    (3 * away <= short).then_some(away)
+}
+
+/// The known word that is nearest to one, if it may have been meant.
+pub(super) fn nearest<'a>(word: &str, known: impl Iterator<Item = &'a str>) -> Option<&'a str> {
     let known: Vec<&str> = known.take(MOST_HINTED + 1).collect();
     if known.len() > MOST_HINTED {
-        return String::new();
+        return None;
     }
-    let near = known.iter().map(|&name| (distance(word, name), name));
-    let near = near.filter(|&(away, name)| 3 * away <= name.len().min(word.len()));
-    match near.min() {
-        Some((_, name)) => format!("; did you mean '{name}'?"),
+    let near = known
+        .iter()
+        .filter_map(|&name| Some((nearness(word, name)?, name)));
+    near.min().map(|(_, name)| name)
+}
+
+/// A hint at the known word that somebody may have meant.
+pub fn hint<'a>(word: &str, known: impl Iterator<Item = &'a str>) -> String {
+    match nearest(word, known) {
+        Some(name) => format!("; did you mean '{name}'?"),
         None => String::new(),
     }
 }

@@ -1,7 +1,7 @@
 //! The lines of a policy file that concern states and their arrows.
 
 use super::policy::{Form, Table};
-use super::said::{hint, is_name, quoted, Fault, Faults, Place, Said};
+use super::said::{is_name, quoted, Fault, Faults, Place, Said};
 use super::Names;
 use crate::names::{EVENTS, MOST_STATES, NO_ARROW};
 
@@ -12,9 +12,10 @@ const MOST_NAMED: usize = 200;
 /// The events of a row, as a table's length.
 const ROW: usize = EVENTS as usize;
 
-/// An arrow: its state, its event or `others`, its successors.
+/// An arrow: its state, its event or `others`, its successors. Below a wrong line
+/// it has no state.
 struct Arrow<'a> {
-    state: usize,
+    state: Option<usize>,
     event: Said<'a>,
     listed: Vec<Said<'a>>,
 }
@@ -27,12 +28,21 @@ pub(super) struct States<'a> {
     places: Vec<Place>,
     starts: Option<Vec<Said<'a>>>,
     arrows: Vec<Arrow<'a>>,
+    /// Whether the last line with a state was wrong.
+    is_astray: bool,
+    /// Whether there were more states than are kept.
+    is_full: bool,
 }
 
 impl<'a> States<'a> {
-    /// Whether there is no state.
+    /// Whether there is no state and no arrow.
     pub fn is_empty(&self) -> bool {
-        self.names.is_empty()
+        self.names.is_empty() && self.arrows.is_empty()
+    }
+
+    /// A line with a state was wrong: the arrows below it are nobody's.
+    pub fn stray(&mut self) {
+        self.is_astray = true;
     }
 
     /// The places of the states' names.
@@ -54,11 +64,18 @@ impl<'a> States<'a> {
         if self.names.contains(&name.text) {
             return Err(name.fault(format!("the state {} stands twice", quoted(name.text))));
         }
-        if self.names.len() == MOST_NAMED {
-            return Err(name.fault(format!("too many states: a policy has 1 to {MOST_STATES}")));
+        match self.names.len() {
+            MOST_NAMED if self.is_full => return Ok(()),
+            MOST_NAMED => {
+                self.is_full = true;
+                let message = format!("too many states: a policy has 1 to {MOST_STATES}");
+                return Err(name.fault(message));
+            }
+            _ => (),
         }
         self.names.push(name.text);
         self.places.push(name.place());
+        self.is_astray = false;
         Ok(())
     }
 
@@ -73,10 +90,13 @@ impl<'a> States<'a> {
 
     /// Takes a line with arrows.
     pub fn arrow(&mut self, words: &[Said<'a>]) -> Result<(), Fault> {
-        let Some(state) = self.names.len().checked_sub(1) else {
-            return Err(
-                words[0].fault("an arrow stands under its state, and no state stands above")
-            );
+        let state = match self.names.len().checked_sub(1) {
+            _ if self.is_astray => None,
+            None => {
+                let message = "an arrow stands under its state, and no state stands above";
+                return Err(words[0].fault(message));
+            }
+            last => last,
         };
         self.arrows.push(Arrow {
             state,
@@ -93,19 +113,19 @@ impl<'a> States<'a> {
                 return Vec::new();
             }
         }
-        let number = |said: &Said| {
-            let found = self.names.iter().position(|&known| known == said.text);
-            let unknown = || {
-                let near = hint(said.text, self.names.iter().copied());
-                said.fault(format!("no state is named {}{near}", quoted(said.text)))
-            };
-            found.ok_or_else(unknown)
-        };
         let mut known = Vec::new();
         for said in listed {
-            match number(said) {
-                Ok(state) => known.push(state),
-                Err(fault) => faults.miss(fault),
+            match self.names.iter().position(|&known| known == said.text) {
+                Some(state) => known.push(state),
+                None if self.is_full => (),
+                None => {
+                    let near = faults.hint(said.text, self.names.iter().copied());
+                    let message = format!("no state is named {}{near}", quoted(said.text));
+                    faults.add(Fault {
+                        unknown: Some(said.text.to_string()),
+                        ..said.fault(message)
+                    });
+                }
             }
         }
         known
@@ -126,7 +146,10 @@ impl<'a> States<'a> {
             "others" => ROW,
             name => event.event(names.known_event(name))? as usize,
         };
-        let slot = &mut found[(ROW + 1) * arrow.state + place];
+        let Some(state) = arrow.state else {
+            return Ok(());
+        };
+        let slot = &mut found[(ROW + 1) * state + place];
         match slot {
             Some(known) if self.is_drawing => known.extend(numbers),
             Some(_) => {
@@ -145,9 +168,6 @@ impl<'a> States<'a> {
     fn successors(&self, names: &Names, faults: &mut Faults) -> Vec<Vec<usize>> {
         let mut found: Vec<Option<Vec<usize>>> = vec![None; (ROW + 1) * self.names.len()];
         for arrow in &self.arrows {
-            if faults.is_full() {
-                break;
-            }
             let added = self.add(arrow, names, &mut found, faults);
             faults.keep(added);
         }

@@ -165,7 +165,11 @@ fn policies() {
         ),
         (
             POLICY.replace("gas -> none", "gas none"),
-            ":6:3: error: 'gas' begins no line of a policy",
+            ":6:3: error: -> or before is missing behind 'gas'",
+        ),
+        (
+            POLICY.replace("gas -> none", "gas->none"),
+            ":6:3: error: blanks stand around ->",
         ),
         (
             format!("gas -> shut\n{POLICY}"),

@@ -31,6 +31,12 @@ fn the_largest_files_are_refused_soon() {
         filled(|_| "SAR r1, r1, 40\n".to_string()),
         filled(|place| format!("at{place}: GOIF always, to{place}\n")),
         filled(|place| format!("cell {place} 0 a\ncell {place} 0 a\n")),
+        filled(|place| format!("state a{}\n 0 -> b{place}\n", place % 190)),
+        filled(|place| match place < 900 {
+            true => format!("label{place}:\n"),
+            false => format!("GOIF always, labes{place}\n"),
+        }),
+        filled(|_| "a\n".to_string()),
         "state a\n".to_string() + &filled(|_| format!("0 ->{}\n", " b".repeat(400)))[100..],
     ];
     for text in texts {
@@ -56,17 +62,29 @@ fn the_largest_files_are_refused_soon() {
 }
 
 #[test]
-fn a_thousand_errors_are_kept() {
-    let folder = folder("thousand");
-    for (lines, more) in [
-        (999, "and 949 errors more"),
-        (1001, "and at least 950 errors more"),
+fn all_errors_are_printed() {
+    const LINES: usize = 5000;
+    let folder = folder("all-errors");
+    let path = file(&folder, "wrong", "JUMP\n".repeat(LINES));
+    let came = command(&["check", &path, "--drum=sample.drum"]);
+    came.refused("wrong:5000:1: error: 'JUMP' is no instruction");
+    assert_eq!(came.error.matches(": error: ").count(), LINES);
+    assert!(
+        came.out.ends_with(": refused, 5000 errors\n"),
+        "{}",
+        came.out
+    );
+    let came = command(&["forward", &path, "--json"]);
+    assert_eq!(came.out.lines().count(), LINES);
+    // Drums and policies too.
+    for args in [
+        vec!["check", "sample.routine", "--drum", &path],
+        vec!["policy", "show", &path],
     ] {
-        let path = file(&folder, "wrong", "JUMP\n".repeat(lines));
-        let came = command(&["forward", &path]);
-        came.refused(more);
-        assert_eq!(came.error.matches(": error: ").count(), 50);
-        let came = command(&["forward", &path, "--json"]);
-        assert_eq!(came.out.lines().count(), lines.min(1000));
+        let came = command(&args);
+        came.refused("wrong:5000:1: error: 'JUMP' begins no line of a ");
+        assert!(came.error.matches(": error: ").count() >= LINES);
+        // What a line may be is listed once.
+        assert_eq!(came.error.matches("they are").count(), 1);
     }
 }

@@ -34,6 +34,9 @@ fn a_label_stands_for_its_number_everywhere() {
 fn landings_are_marked_in_the_text() {
     let text = "landing HALT\nHALT\nlanding a: b: HALT\nlanding\n# a comment\nc:\nHALT\nLanding\n";
     assert_eq!(assembled(text).landings, [0, 2, 3, 4]);
+    // The mark stands before the instruction, before or behind its labels.
+    let text = "a: landing HALT\na1: landing b: HALT\nc: landing\n d: HALT\n";
+    assert_eq!(assembled(text).landings, [0, 1, 2]);
     let folder = folder("landings");
     let drum_text = fs::read_to_string(examples().join("profile.drum")).unwrap();
     let check = |drum: &str, routine: &str| command(&["check", routine, "--drum", drum]);
@@ -183,7 +186,7 @@ loop: HALT
         "U 1o\nSL 2\nSL 3\nevent 16 a\nscale gas 7\nlandings some\n",
     );
     let came = command(&["check", "sample.routine", "--drum", &drum]);
-    assert_eq!(came.error.matches(": error: ").count(), 6, "{}", came.error);
+    assert_eq!(came.error.matches(": error: ").count(), 7, "{}", came.error);
     let policy = file(
         &folder,
         "policy",
@@ -191,13 +194,23 @@ loop: HALT
     );
     let came = command(&["policy", "show", &policy]);
     assert_eq!(came.error.matches(": error: ").count(), 4, "{}", came.error);
-    let many = file(&folder, "many", "JUMP\n".repeat(60));
-    let came = command(&["assemble", &many, "-o", "-"]);
-    assert!(
-        came.error.ends_with("and 10 errors more\n"),
-        "{}",
-        came.error
+    // A jump behind the end is judged beside lines that cannot be read.
+    let path = file(
+        &folder,
+        "text",
+        "JUMP\nGOIF always, 3\nSAR r1, r1, 40\nGOIF always, 4\n",
     );
+    let came = command(&["forward", &path]);
+    for said in [
+        ":1:1: error: 'JUMP' is no instruction",
+        ":3:13: error: SAR by 40: it shifts by 0 to 31",
+    ] {
+        came.refused(said);
+    }
+    assert_eq!(came.error.matches(": error: ").count(), 2, "{}", came.error);
+    let path = file(&folder, "text", "JUMP\nGOIF always, 3\n");
+    command(&["forward", &path])
+        .refused(":2:14: error: 3 lies behind the routine's end, which is 2");
 }
 
 #[test]

@@ -92,7 +92,7 @@ fn show_unchecked(args: &Args, problem: Problem) -> Done {
         Problem::File(file, _) => file.clone(),
         Problem::Refused(reports) => reports
             .first()
-            .map_or(String::new(), |report| report.file.clone()),
+            .map_or(String::new(), |report| report.file.to_string()),
         _ => return Err(problem),
     };
     problem.say(args.is_json());

@@ -67,12 +67,15 @@ impl<T: Into<Json>> From<Option<T>> for Json {
 }
 
 fn write_text(f: &mut fmt::Formatter<'_>, text: &str) -> fmt::Result {
+    let is_special = |c: char| c == '"' || c == '\\' || c.is_control();
     f.write_char('"')?;
-    for c in text.chars() {
-        match c {
-            '"' | '\\' => write!(f, "\\{c}")?,
-            c if c.is_control() => write!(f, "\\u{:04x}", u32::from(c))?,
-            c => f.write_char(c)?,
+    for part in text.split_inclusive(is_special) {
+        let last = part.chars().next_back().filter(|&c| is_special(c));
+        f.write_str(&part[..part.len() - last.map_or(0, char::len_utf8)])?;
+        match last {
+            Some(c @ ('"' | '\\')) => write!(f, "\\{c}")?,
+            Some(c) => write!(f, "\\u{:04x}", u32::from(c))?,
+            None => (),
         }
     }
     f.write_char('"')

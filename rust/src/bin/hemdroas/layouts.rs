@@ -22,17 +22,18 @@ const Q: usize = 7;
 /// A region: its name, its letter, its first cell and its length.
 type Region = (&'static str, usize, u64, u64);
 
-/// Two regions that share a cell.
-fn shared(regions: &[Region]) -> Option<Wrong> {
+/// The regions that share a cell, two and two.
+fn shared(regions: &[Region]) -> impl Iterator<Item = Wrong> + '_ {
     let meet = |a: &Region, b: &Region| a.2 < b.2 + b.3 && b.2 < a.2 + a.3;
     let pairs = (0..regions.len()).flat_map(|i| (0..i).map(move |j| (j, i)));
-    let (one, other) = pairs
-        .map(|(j, i)| (&regions[j], &regions[i]))
-        .find(|(one, other)| meet(one, other))?;
-    let first = one.2.max(other.2);
-    Some(Wrong {
-        letter: other.1,
-        message: format!("{} and {} share cell {first}", one.0, other.0),
+    let met = pairs.map(|(j, i)| (&regions[j], &regions[i]));
+    let met = met.filter(move |(one, other)| meet(one, other));
+    met.map(|(one, other)| {
+        let first = one.2.max(other.2);
+        Wrong {
+            letter: other.1,
+            message: format!("{} and {} share cell {first}", one.0, other.0),
+        }
     })
 }
 

@@ -119,6 +119,7 @@ impl Setup {
     pub fn check(&self, path: &str) -> Result<Checked, Problem> {
         let layout = self.layout();
         let routine = Routine::of_file(path, &self.names)?;
+        self.drum.sound(&layout)?;
         let commands = commands(&self.drum, &layout, &routine)?;
         let landings = self.drum.drum.landings.of(routine.landings());
         Ok(Checked {
@@ -150,9 +151,7 @@ impl Setup {
             return Err(Report::refusal(&policy.path, Refusal::BadPolicy, message).into());
         }
         self.drum.taken(layout, &checked.routine, answer)?;
-        let mut other = vec![u32::MAX; memory.len()];
-        let _ = native::install(layout, &table.policy(), &checked.landings, &mut other);
-        self.drum.write_cells(layout, &mut memory, &other)?;
+        self.drum.write_cells(&mut memory);
         Ok(Loaded {
             names: self.names.clone(),
             scales: self.drum.drum.scales,

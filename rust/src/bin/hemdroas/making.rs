@@ -6,6 +6,7 @@ use super::report::Report;
 use hemdroas::names::{EVENTS, MOST_STATES, NO_ARROW};
 use hemdroas::text::{self, Form, Names, Place, PolicyFile, Table};
 use hemdroas::{native, Answer, Drawing, Refusal};
+use std::collections::BTreeSet;
 
 /// The keys of a policy's states, which were numbered as first met, from that
 /// of the start.
@@ -55,25 +56,42 @@ fn named_events(pairs: &[u8]) -> Vec<u8> {
     events
 }
 
-/// The first pair that names an event above all, or the fifth event, and what is
-/// wrong with it.
-fn bad_pair(pairs: &[u8], names: &Names) -> Option<(usize, String)> {
-    let mut seen = Vec::new();
-    pairs.iter().enumerate().find_map(|(place, event)| {
-        if !seen.contains(event) {
-            seen.push(*event);
-        }
-        let number = u32::from(*event);
-        let message = match seen.len() > MOST_NAMED {
-            _ if number >= EVENTS => format!("{number} is no event: they are 0 to {}", EVENTS - 1),
+/// What is said of the events that are too many.
+const ORDINALS: [&str; 12] = [
+    "fifth",
+    "sixth",
+    "seventh",
+    "eighth",
+    "ninth",
+    "tenth",
+    "eleventh",
+    "twelfth",
+    "thirteenth",
+    "fourteenth",
+    "fifteenth",
+    "sixteenth",
+];
+
+/// The pairs that name an event above all, or one too many, and what is wrong with
+/// each.
+fn bad_pairs(pairs: &[u8], names: &Names) -> Vec<(usize, String)> {
+    let mut seen = BTreeSet::new();
+    let mut bad = Vec::new();
+    for (place, &event) in pairs.iter().enumerate() {
+        let number = u32::from(event);
+        let count = seen.len();
+        let message = match number < EVENTS {
+            true if !seen.insert(event) || count < MOST_NAMED => continue,
             true => format!(
-                "{} is a fifth event: pairs name at most four",
-                names.word(number)
+                "{} is a {} event: pairs name at most four",
+                names.word(number),
+                ORDINALS[count - MOST_NAMED]
             ),
-            false => return None,
+            false => format!("{number} is no event: they are 0 to {}", EVENTS - 1),
         };
-        Some((place / 2, message))
-    })
+        bad.push((place / 2, message));
+    }
+    bad
 }
 
 fn of_pairs(path: &str, pairs: &[u8], file: &Given) -> Result<MadePolicy, Problem> {
@@ -83,9 +101,15 @@ fn of_pairs(path: &str, pairs: &[u8], file: &Given) -> Result<MadePolicy, Proble
     let count = match made.answer {
         Answer::Taken(count) => count,
         Answer::Refused { refusal, .. } => {
-            let found = bad_pair(pairs, names).map(|(pair, said)| (file.said.pairs[pair], said));
-            let (place, said) = found.unwrap_or((Place::default(), meaning(refusal).to_string()));
-            return Err(file.refused(path, refusal, place, said));
+            let report = |(pair, said): (usize, String)| Report {
+                place: file.said.pairs[pair],
+                ..Report::refusal(path, refusal, said)
+            };
+            let reports: Vec<Report> = bad_pairs(pairs, names).into_iter().map(report).collect();
+            return Err(match reports.is_empty() {
+                true => Report::refusal(path, refusal, meaning(refusal)).into(),
+                false => Problem::Refused(Report::by_place(&file.content, reports)),
+            });
         }
     };
     table.truncate(count as usize);

@@ -1,9 +1,8 @@
 //! What can go wrong, as it is shown, and the statuses.
 
 use super::files;
-use super::json::Json;
 use super::report::Report;
-use hemdroas::text::{Fault, MOST_FAULTS};
+use hemdroas::text::Fault;
 use hemdroas::{Ending, Refusal};
 
 /// The statuses that the command ends with, the better first.
@@ -44,8 +43,8 @@ pub enum Problem {
 /// How a subcommand ended.
 pub type Done = Result<Status, Problem>;
 
-/// The most reports about a file that are printed.
-const MOST_REPORTS: usize = 50;
+/// The reports that are printed together.
+const TOGETHER: usize = 1000;
 
 impl From<Report> for Problem {
     fn from(report: Report) -> Problem {
@@ -63,48 +62,49 @@ impl Problem {
         }
     }
 
-    /// What is said on standard error.
-    fn text(&self) -> String {
+    /// What is said of no file's text on standard error, and in objects.
+    fn said(&self) -> (String, Vec<Report>) {
         match self {
-            Problem::Usage(said) => format!("hemdroas: {said}\n"),
-            Problem::File(path, said) => format!("hemdroas: {path}: {said}\n"),
-            Problem::Quiet => String::new(),
-            Problem::Refused(reports) => {
-                let text: String = reports
-                    .iter()
-                    .take(MOST_REPORTS)
-                    .map(Report::text)
-                    .collect();
-                match reports.len().checked_sub(MOST_REPORTS) {
-                    None | Some(0) => text,
-                    Some(more) if reports.len() >= MOST_FAULTS => {
-                        format!("{text}and at least {more} errors more\n")
-                    }
-                    Some(more) => format!("{text}and {more} errors more\n"),
-                }
+            Problem::Usage(said) => (format!("hemdroas: {said}\n"), vec![Report::error("", said)]),
+            Problem::File(path, said) => (
+                format!("hemdroas: {path}: {said}\n"),
+                vec![Report::error(path, said)],
+            ),
+            Problem::Quiet | Problem::Refused(_) => (String::new(), Vec::new()),
+        }
+    }
+
+    /// Says it on standard error.
+    fn complain(&self) {
+        files::complain(&self.said().0);
+        if let Problem::Refused(reports) = self {
+            for part in reports.chunks(TOGETHER) {
+                files::complain(&part.iter().map(Report::text).collect::<String>());
             }
         }
     }
 
-    /// What is said in objects.
-    fn json(&self) -> Vec<Json> {
-        match self {
-            Problem::Usage(said) => vec![Report::error("", said).json()],
-            Problem::File(path, said) => vec![Report::error(path, said).json()],
-            Problem::Refused(reports) => reports.iter().map(Report::json).collect(),
-            Problem::Quiet => Vec::new(),
+    /// Says it in objects on standard output.
+    fn print(&self) -> Result<(), Problem> {
+        let (_, said) = self.said();
+        let reports = match self {
+            Problem::Refused(reports) => reports,
+            _ => &said,
+        };
+        for part in reports.chunks(TOGETHER) {
+            let objects = part.iter().map(|report| format!("{}\n", report.json()));
+            files::print(&objects.collect::<String>())?;
         }
+        Ok(())
     }
 
-    /// Says it: on standard error, or in objects on standard output.
+    /// Says it: on standard error, or in objects on standard output, where that can be written.
     pub fn say(&self, is_json: bool) {
-        if !is_json {
-            return files::complain(&self.text());
-        }
-        for object in self.json() {
-            if files::print_json(&object).is_err() {
-                return;
-            }
+        match is_json {
+            false => self.complain(),
+            true => self
+                .print()
+                .unwrap_or_else(|unwritten| unwritten.complain()),
         }
     }
 

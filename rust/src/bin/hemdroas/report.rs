@@ -1,8 +1,9 @@
 //! Errors and warnings about a file, as compilers print them.
 
 use super::json::{object, Json};
-use hemdroas::text::{Fault, Place};
+use hemdroas::text::{is_unseen, Fault, Place};
 use hemdroas::Refusal;
+use std::rc::Rc;
 
 /// The most characters of a line that is shown, and those of them that are none.
 const LONGEST_SHOWN: usize = 200;
@@ -24,15 +25,24 @@ impl Level {
     }
 }
 
+/// A line as it is shown, unless it is no text at all.
+fn shown(line: &[u8]) -> Option<Rc<str>> {
+    let line = line.strip_suffix(b"\r").unwrap_or(line);
+    let is_odd = |c: char| c.is_control() && c != '\t' || is_unseen(c);
+    let text = String::from_utf8_lossy(line).replace(is_odd, "\u{fffd}");
+    let is_shown = text.matches('\u{fffd}').count() <= MOST_ODD && text.len() <= LONGEST_SHOWN;
+    is_shown.then(|| text.into())
+}
+
 /// What is to be said of a file.
 #[derive(Clone)]
 pub struct Report {
     pub level: Level,
-    pub file: String,
+    pub file: Rc<str>,
     /// Where; line 0 stands for the whole file.
     pub place: Place,
     /// The line, as it stands in the file.
-    pub source: Option<String>,
+    pub source: Option<Rc<str>>,
     pub message: String,
     pub refusal: Option<Refusal>,
     /// The instruction, and its text where no line shows it.
@@ -42,12 +52,16 @@ pub struct Report {
 impl Report {
     /// An error about a whole file.
     pub fn error(file: &str, message: impl Into<String>) -> Report {
+        Report::about(file.into(), message.into())
+    }
+
+    fn about(file: Rc<str>, message: String) -> Report {
         Report {
             level: Level::Error,
-            file: file.to_string(),
+            file,
             place: Place::default(),
             source: None,
-            message: message.into(),
+            message,
             refusal: None,
             instruction: None,
         }
@@ -61,44 +75,42 @@ impl Report {
         }
     }
 
-    /// A fault of a file's text.
-    fn fault(file: &str, line: &[u8], fault: Fault) -> Report {
-        let refusal = fault.refusal.map(|(refusal, _)| refusal);
-        Report {
-            refusal,
+    /// The faults of a file's text, by their places.
+    pub fn faults(file: &str, content: &[u8], faults: Vec<Fault>) -> Vec<Report> {
+        let file: Rc<str> = file.into();
+        let report = |fault: Fault| Report {
+            place: fault.place,
+            refusal: fault.refusal.map(|(refusal, _)| refusal),
             instruction: fault.refusal.map(|(_, place)| (place, None)),
-            ..Report::error(file, fault.message).on(line, fault.place)
-        }
+            ..Report::about(file.clone(), fault.message)
+        };
+        Report::by_place(content, faults.into_iter().map(report).collect())
     }
 
-    /// The faults of a file's text.
-    pub fn faults(file: &str, content: &[u8], faults: Vec<Fault>) -> Vec<Report> {
-        let lines: Vec<&[u8]> = content.split(|&byte| byte == b'\n').collect();
-        let report = |fault: Fault| {
-            let line = lines.get(fault.place.line.wrapping_sub(1));
-            Report::fault(file, line.copied().unwrap_or_default(), fault)
-        };
-        faults.into_iter().map(report).collect()
+    /// Reports about a file's text by their places, each with its line. Those about
+    /// the whole text come last.
+    pub fn by_place(content: &[u8], mut reports: Vec<Report>) -> Vec<Report> {
+        reports.sort_by_key(|report| (report.place.line == 0, report.place));
+        let mut lines = content.split(|&byte| byte == b'\n').zip(1..);
+        let mut last: (usize, Option<Rc<str>>) = (0, None);
+        for report in &mut reports {
+            let line = report.place.line;
+            if line != last.0 {
+                let found = lines.find(|&(_, number)| number == line);
+                last = (line, found.and_then(|(bytes, _)| shown(bytes)));
+            }
+            report.source = last.1.clone();
+        }
+        reports
     }
 
     /// The same, at a place of the file's text.
     pub fn at(self, content: &[u8], place: Place) -> Report {
         let mut lines = content.split(|&byte| byte == b'\n');
         let line = lines.nth(place.line.wrapping_sub(1)).unwrap_or_default();
-        self.on(line, place)
-    }
-
-    /// The same, at a place of this line.
-    fn on(self, line: &[u8], place: Place) -> Report {
-        let line = line.strip_suffix(b"\r").unwrap_or(line);
-        let is_odd = |c: char| c.is_control() && c != '\t' || c == '\u{feff}';
-        let text = String::from_utf8_lossy(line).replace(is_odd, "\u{fffd}");
-        // What is no text at all is not shown.
-        let is_shown = text.matches('\u{fffd}').count() <= MOST_ODD && text.len() <= LONGEST_SHOWN;
-        let source = is_shown.then_some(text);
         Report {
             place,
-            source,
+            source: shown(line),
             ..self
         }
     }
@@ -147,9 +159,7 @@ impl Report {
             ("type", self.level.word().into()),
             (
                 "file",
-                Some(self.file.as_str())
-                    .filter(|file| !file.is_empty())
-                    .into(),
+                Some(&*self.file).filter(|file| !file.is_empty()).into(),
             ),
             ("line", number(self.place.line).into()),
             ("column", number(self.place.column).into()),

@@ -6,7 +6,7 @@ use super::problem::{faulty, meaning, Problem};
 use super::report::{Level, Report};
 use hemdroas::names::{MOST_COMMANDS, MOST_INSTRUCTIONS};
 use hemdroas::text::{
-    self, backward, objections, refused_bytes, Listed, Names, Objection, Place, Shown, MOST_FAULTS,
+    self, backward, objections, refused_bytes, Listed, Names, Objection, Place, Shown,
 };
 use hemdroas::{native, Answer, Layout, Refusal};
 
@@ -248,7 +248,6 @@ impl Routine {
             found.into_iter().map(move |found| (place, found))
         });
         found
-            .take(MOST_FAULTS)
             .map(|(place, found)| self.report(Level::Error, place, &found))
             .collect()
     }
