@@ -296,6 +296,42 @@ fn a_preview_with_a_typo_is_asked_for_again() {
     assert_eq!(came.error.matches("readings of bean: ").count(), 4);
 }
 
+/// A comma may be a decimal comma where an event has a scale: who types it is asked
+/// again. Elsewhere it separates readings, and that is said.
+#[test]
+fn a_comma_between_digits_is_not_taken_silently() {
+    let again = "'196,5' may be one reading or two: write 196.5, or 196 5";
+    let shown = |typed: &str| format!("bean          {typed}");
+    let lines = "196,5\n196.5 197, 198\n150,175\nstop\n";
+    for (args, lines) in [
+        (with("preview", PROFILE, &[]), lines.replace("stop", "")),
+        (
+            with("run", PROFILE, &["--resume"]),
+            format!("preview 196,5\n{lines}"),
+        ),
+        (
+            with("step", PROFILE, &[]),
+            format!("until charge\n{lines}stop\n"),
+        ),
+    ] {
+        let came = typed(&args, &lines);
+        came.ended(came.status, again);
+        assert_eq!(
+            came.error.matches(again).count(),
+            lines.matches("196,5").count()
+        );
+        let is_readings = args[0] != "step" || came.out.contains(&shown("150.0"));
+        assert!(is_readings, "{}", came.out);
+        for reading in ["196.5", "197.0", "198.0"] {
+            assert!(came.out.contains(&shown(reading)), "{args:?}: {}", came.out);
+        }
+        assert!(!came.out.contains("196.0"), "{}", came.out);
+    }
+    let came = typed(&with("preview", ROAST, &[]), "196,5\n\n");
+    came.ended(5, "'196,5' is taken as two readings, 196 and 5");
+    assert!(came.out.contains("2 readings used"), "{}", came.out);
+}
+
 #[test]
 fn a_lesson_takes_its_commands_where_a_reading_is_asked_for() {
     let asked = "all\nwhat\nstate\nregs\ncells\nrecord\nhelp\nbreak door\nback\n\nuntil 19\n2000\n\n2100\nstop\n";

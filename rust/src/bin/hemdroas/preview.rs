@@ -5,7 +5,7 @@ use super::endings::{End, Given};
 use super::files;
 use super::load::{load, Loaded, Stand};
 use super::problem::{Done, Problem, Status};
-use super::prompt::{ask, words};
+use super::prompt::{ask, typed_readings};
 use super::records::head;
 use super::running::{all_used, given, show_pairs, supply};
 use super::stretch::{event_at, stretch, How, Stretch, Supply};
@@ -64,9 +64,17 @@ fn more_readings(loaded: &Loaded, stand: &Stand, supply: &mut Supply) -> Result<
     }
     let event = event_at(loaded, stand).unwrap_or(0);
     let question = format!("readings of {}, or Enter: ", loaded.names.word(event));
-    let line = ask(&question)?.unwrap_or_default();
-    supply.readings.extend(words(&line));
-    Ok(!supply.readings.is_empty())
+    loop {
+        let line = ask(&question)?.unwrap_or_default();
+        match typed_readings(&line, loaded.scale(event)) {
+            Ok(readings) => supply.readings.extend(readings),
+            Err(said) => {
+                files::complain(&format!("{said}\n"));
+                continue;
+            }
+        }
+        return Ok(!supply.readings.is_empty());
+    }
 }
 
 pub fn preview(args: &Args) -> Done {

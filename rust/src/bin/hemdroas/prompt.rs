@@ -78,3 +78,34 @@ pub fn words(listed: &str) -> impl Iterator<Item = String> + '_ {
     let words = listed.split([',', ' ', '\t']).map(str::trim);
     words.filter(|word| !word.is_empty()).map(str::to_string)
 }
+
+/// Two readings with a comma between them that may be one with a decimal comma.
+fn doubtful(word: &str, scale: u32) -> Option<(&str, &str)> {
+    let is_whole = |part: &str| !part.is_empty() && part.bytes().all(|c| c.is_ascii_digit());
+    let parts: Vec<&str> = word.split(',').collect();
+    let pairs = parts.windows(2).map(|pair| (pair[0], pair[1]));
+    let decimals = scale.ilog10() as usize;
+    pairs
+        .filter(|(whole, _)| is_whole(whole.strip_prefix('-').unwrap_or(whole)))
+        .find(|(_, rest)| is_whole(rest) && (decimals == 0 || rest.len() <= decimals))
+}
+
+/// The readings of a line that was typed for an event with a scale. A comma that may
+/// stand for a point is not taken for two readings; where an event has no decimals,
+/// what is taken is said.
+pub fn typed_readings(line: &str, scale: u32) -> Result<Vec<String>, String> {
+    let doubts = line
+        .split_whitespace()
+        .filter_map(|word| doubtful(word, scale));
+    for (whole, rest) in doubts {
+        if scale > 1 {
+            return Err(format!(
+                "'{whole},{rest}' may be one reading or two: write {whole}.{rest}, or {whole} {rest}"
+            ));
+        }
+        files::complain(&format!(
+            "'{whole},{rest}' is taken as two readings, {whole} and {rest}\n"
+        ));
+    }
+    Ok(words(line).collect())
+}

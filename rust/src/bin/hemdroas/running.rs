@@ -6,7 +6,7 @@ use super::files;
 use super::load::{load, Loaded, Stand};
 use super::preview::{look_ahead, show_preview};
 use super::problem::{Done, Problem, Status};
-use super::prompt::{ask, words};
+use super::prompt::{ask, typed_readings, words};
 use super::records::{head, pair_objects, rows};
 use super::stretch::{event_at, instruction_at, stretch, How, Stretch, Supply};
 use hemdroas::text::{number, scaled};
@@ -121,7 +121,17 @@ fn resume(
         let Some(line) = ask(&question(loaded, stand, ending))? else {
             return Ok(Resumed::Stopped);
         };
-        let mut typed: VecDeque<String> = words(&line).collect();
+        let read = match ending {
+            Ending::Silent => typed_readings(&line, scale),
+            _ => Ok(words(&line).collect()),
+        };
+        let mut typed = match read {
+            Ok(typed) => VecDeque::from(typed),
+            Err(said) => {
+                files::complain(&format!("{said}\n"));
+                continue;
+            }
+        };
         let first = typed.front().map(String::as_str);
         match first {
             Some("stop") => return Ok(Resumed::Stopped),

@@ -6,7 +6,7 @@ use super::files;
 use super::load::load;
 use super::orders::{order, Goal, Order, HELP};
 use super::problem::{Done, Problem, Status};
-use super::prompt::{ask, words};
+use super::prompt::{ask, typed_readings};
 use super::records::{head, rows};
 use super::running::{given, readings};
 use super::school::{Lesson, Taken};
@@ -105,7 +105,10 @@ impl Class<'_> {
                             return Ok(false);
                         }
                     }
-                    Some(line) => self.typed.extend(words(&line)),
+                    Some(line) => match typed_readings(&line, self.lesson.loaded.scale(event)) {
+                        Ok(readings) => self.typed.extend(readings),
+                        Err(said) => files::complain(&format!("{said}\n")),
+                    },
                 }
                 continue;
             };
