@@ -7,6 +7,7 @@ use crate::{command, file, folder, typed, with, PROFILE, SAMPLE};
 use hemdroas::model;
 use hemdroas::{Engine, Status};
 use std::collections::BTreeSet;
+use std::fs;
 
 const FILES: &str = include_str!("../../../docs/FILES.md");
 
@@ -125,6 +126,39 @@ fn questions_go_to_standard_error() {
             "readings of bean"
         };
         assert!(came.error.contains(question), "{}", came.error);
+    }
+}
+
+#[test]
+fn a_routine_that_is_not_forward_has_its_object() {
+    let came = command(&["forward", "roast.routine", "--drum=roast.drum", "--json"]);
+    let last = r#"{"type":"forward","file":"roast.routine","forward":false,"steps":null}"#;
+    assert_eq!((came.status, came.out.lines().last()), (1, Some(last)));
+    assert_eq!(came.out.lines().count(), 3, "{}", came.out);
+}
+
+/// With -o the file is the same as without --json, and the object is printed.
+#[test]
+fn a_file_is_written_beside_the_objects() {
+    let folder = folder("beside");
+    let (one, other) = (file(&folder, "one.svg", ""), file(&folder, "other.svg", ""));
+    for (line, kind) in [
+        ("precedence order.policy", "policy"),
+        ("merge roast.policy exporter.policy", "policy"),
+        ("determinise exporter.policy", "policy"),
+        ("draw exporter.policy", "graph"),
+    ] {
+        let words: Vec<&str> = line.split(' ').collect();
+        let args = [&["policy"], &words[..], &["--drum=roast.drum", "-o"]].concat();
+        command(&[&args[..], &[&one]].concat()).printed(0, "");
+        let came = command(&[&args[..], &[&other, "--json"]].concat());
+        assert_eq!(
+            types(&checked(&came.out)),
+            BTreeSet::from([kind.to_string()])
+        );
+        let written = [&one, &other].map(|path| fs::read(path).unwrap());
+        assert!(!written[0].is_empty());
+        assert_eq!(written[0], written[1]);
     }
 }
 

@@ -63,24 +63,29 @@ fn printed_identity() -> Option<(u64, u64)> {
     identity_of(File::from(out).metadata())
 }
 
+/// The outputs of the arguments, each with its identity where it is a plain file.
+/// Objects are printed beside a file that is written.
+fn outputs(args: &Args) -> Vec<(&str, Option<(u64, u64)>)> {
+    let named = args.value("-o").filter(|&out| out != "-");
+    let mut outputs: Vec<_> = named.iter().map(|&out| (out, identity(out))).collect();
+    if named.is_none() || args.is_json() {
+        outputs.push((STANDARD_OUTPUT, printed_identity()));
+    }
+    outputs
+}
+
 /// Refuses an output that is one of the inputs, whatever its name is.
 pub fn keep_inputs(args: &Args) -> Result<(), Problem> {
-    let named = args.value("-o").filter(|&out| out != "-");
-    let written = match named {
-        Some(out) => identity(out),
-        None => printed_identity(),
-    };
-    let Some(written) = written else {
-        return Ok(());
-    };
     let options = ["--drum", "--policy"].map(|name| args.value(name));
     let files = args.files().iter().map(String::as_str);
-    for input in files.chain(options.into_iter().flatten()) {
-        let opened = if input == "-" { "/dev/stdin" } else { input };
-        if identity(opened) == Some(written) {
-            let said = format!("it is the input {input}, and would be overwritten");
-            let out = named.unwrap_or(STANDARD_OUTPUT);
-            return Err(Problem::File(out.to_string(), said));
+    let inputs: Vec<&str> = files.chain(options.into_iter().flatten()).collect();
+    for (out, written) in outputs(args) {
+        for input in inputs.iter().filter(|_| written.is_some()) {
+            let opened = if *input == "-" { "/dev/stdin" } else { input };
+            if identity(opened) == written {
+                let said = format!("it is the input {input}, and would be overwritten");
+                return Err(Problem::File(out.to_string(), said));
+            }
         }
     }
     Ok(())

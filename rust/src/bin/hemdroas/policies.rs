@@ -93,7 +93,7 @@ impl Whole {
         ])
     }
 
-    /// Writes its text or its object where the arguments say.
+    /// Writes its text and its object where the arguments say.
     fn write(&self, args: &Args) -> Done {
         let never = self.never_line();
         if !never.is_empty() && !args.is_json() {
@@ -104,17 +104,22 @@ impl Whole {
         } else {
             format!("# {never}")
         };
-        let text = match args.is_json() {
-            true => format!("{}\n", self.json()),
-            false => never + &policy_text(&self.made.table, &self.ceilings, &self.names),
-        };
-        write(args, &text)
+        let text = never + &policy_text(&self.made.table, &self.ceilings, &self.names);
+        write(args, &text, &self.json())
     }
 }
 
-/// Writes where the arguments say.
-fn write(args: &Args, text: &str) -> Done {
-    files::write(args.value("-o").unwrap_or("-"), text.as_bytes())?;
+/// Writes a text where the arguments say, and prints the object where they ask for it.
+fn write(args: &Args, text: &str, object: &Json) -> Done {
+    let named = args.value("-o").filter(|&out| out != "-");
+    match named {
+        Some(out) => files::write(out, text.as_bytes())?,
+        None if args.is_json() => (),
+        None => files::print(text)?,
+    }
+    if args.is_json() {
+        files::print_json(object)?;
+    }
     Ok(Status::Well)
 }
 
@@ -217,7 +222,8 @@ fn table_text(table: &Table, names: &Names) -> String {
 pub fn show(args: &Args) -> Done {
     let whole = Whole::of(args)?;
     if args.is_json() {
-        return whole.write(args);
+        files::print_json(&whole.json())?;
+        return Ok(Status::Well);
     }
     let table = table_text(&whole.made.table, &whole.names);
     files::print(&format!(
@@ -265,9 +271,8 @@ pub fn draw(args: &Args) -> Done {
     let graph = graph(args)?;
     let is_dot = |out: &str| out.ends_with(".dot") || out.ends_with(".gv");
     let text = match args.has("--dot") || args.value("-o").is_some_and(is_dot) {
-        _ if args.is_json() => format!("{}\n", graph.json()),
         true => dot::text(&graph),
         false => super::svg::text(&graph),
     };
-    write(args, &text)
+    write(args, &text, &graph.json())
 }

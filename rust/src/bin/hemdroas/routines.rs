@@ -3,7 +3,7 @@
 use super::args::Args;
 use super::drums::{self, DrumFile};
 use super::files;
-use super::json::object;
+use super::json::{object, Json};
 use super::problem::{Done, Problem, Status};
 use super::report::{Level, Report};
 use super::sources::{commands, Routine};
@@ -102,24 +102,35 @@ fn check_bundles(args: &Args, routine: &Routine) -> Result<(), Problem> {
     Ok(())
 }
 
+/// The object of a routine that is forward, with its most steps, or is not.
+fn forward_object(path: &str, most: Option<u64>) -> Json {
+    object([
+        ("type", "forward".into()),
+        ("file", path.into()),
+        ("forward", most.is_some().into()),
+        ("steps", most.into()),
+    ])
+}
+
 pub fn forward(args: &Args) -> Done {
     let path = args.file(0);
     let routine = Routine::of_file(path, &drums::names(args)?)?;
-    routine.taken(native::forward(&routine.words))?;
+    let answer = native::forward(&routine.words);
+    if let Err(problem) = routine.taken(answer) {
+        problem.say(args.is_json());
+        if args.is_json() {
+            files::print_json(&forward_object(path, None))?;
+        }
+        return Ok(problem.status());
+    }
     check_bundles(args, &routine)?;
     let bundles = (routine.words.len() + 1).next_power_of_two();
     let most = model::most_steps(bundles);
-    if args.is_json() {
-        files::print_json(&object([
-            ("type", "forward".into()),
-            ("file", path.into()),
-            ("forward", true.into()),
-            ("steps", (most as u64).into()),
-        ]))?;
-        return Ok(Status::Well);
+    match args.is_json() {
+        true => files::print_json(&forward_object(path, Some(most as u64)))?,
+        false => files::print(&format!(
+            "forward: it ends or stops within {most} steps over all its runs\n"
+        ))?,
     }
-    files::print(&format!(
-        "forward: it ends or stops within {most} steps over all its runs\n"
-    ))?;
     Ok(Status::Well)
 }
