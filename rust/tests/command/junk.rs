@@ -37,10 +37,29 @@ const GOOD: [(&str, i32); 12] = [
     ("policy draw exporter.policy --drum roast.drum", 0),
 ];
 
+/// The same for page, which needs the proved library for browsers.
+const PAGE: &str = "page sample.routine --drum sample.drum --policy sample.policy -o -";
+
 /// The arguments of each, and its status.
 fn good() -> Vec<(Vec<&'static str>, i32)> {
-    GOOD.map(|(line, status)| (line.split(' ').collect(), status))
-        .into()
+    let mut all: Vec<(Vec<&str>, i32)> = GOOD
+        .map(|(line, status)| (line.split(' ').collect(), status))
+        .into();
+    let page: Vec<&str> = PAGE.split(' ').collect();
+    if command(&page).status == 0 {
+        all.push((page, 0));
+    }
+    all
+}
+
+/// Those that can print objects, doing so.
+fn good_json() -> impl Iterator<Item = (Vec<&'static str>, i32)> {
+    let mut all = good();
+    all.retain(|(args, _)| !["assemble", "list", "page"].contains(&args[0]));
+    all.into_iter().map(|(mut args, status)| {
+        args.push("--json");
+        (args, status)
+    })
 }
 
 /// Whether an argument names a file of the examples, behind an option too.
@@ -145,7 +164,11 @@ fn files_that_are_none() {
             }
         }
     }
-    assert_eq!(tried, 11 * 29, "every file of every subcommand");
+    let files =
+        |(args, _): &(Vec<&str>, i32)| args.iter().filter(|word| named(word).is_some()).count();
+    let files: usize = good().iter().map(files).sum();
+    assert!(files >= 29, "every file of every subcommand");
+    assert_eq!(tried, 11 * files);
 }
 
 #[test]
@@ -175,7 +198,7 @@ fn lines_may_end_as_on_windows() {
 
 #[test]
 fn an_output_that_nobody_reads_ends_quietly() {
-    for (args, _) in good() {
+    for (args, _) in good().into_iter().chain(good_json()) {
         let (reader, writer) = pipe().expect("a pipe can be made");
         drop(reader);
         let output = Command::new(env!("CARGO_BIN_EXE_hemdroas"))
@@ -198,7 +221,9 @@ fn an_output_that_nobody_reads_ends_quietly() {
 
 #[test]
 fn an_output_that_is_closed_cannot_be_written() {
-    for (args, _) in good() {
+    let others = ["--version", "help", "help run", "policy"];
+    let others = others.map(|line| (line.split(' ').collect(), 0));
+    for (args, _) in good().into_iter().chain(good_json()).chain(others) {
         let line = format!(
             "exec '{}' {} >&-",
             env!("CARGO_BIN_EXE_hemdroas"),
