@@ -1,8 +1,7 @@
 /*
- * A small host: takes a routine of 18 bytes, brings it safely onto the drum
- * and prints what it did.
+ * A small host: loads a routine of 18 bytes, runs it and prints its events.
  *
- * Build, once 'tools/install PREFIX' has installed the library:
+ * Install the library with 'tools/install PREFIX', then build:
  *   gcc -std=c11 -Wall -Wextra examples/host.c $(pkg-config --cflags --libs hemdroas) -o target/host
  */
 #include "hemdroas.h"
@@ -26,7 +25,7 @@ static const struct hemdroas_layout layout = {
     .ceilings = HEMDROAS_NO_CEILINGS,
 };
 
-/* Gas at 70, open the door, and gas again, which the policy forbids. */
+/* Orders gas at 70, opens the door and orders gas again. The policy forbids that. */
 static const uint8_t routine[] = {0x04, 0x00,
                                   0x21, 0x01, 0x46, 0x00, 0x00, 0x00,
                                   0x01, 0x0C,
@@ -35,17 +34,16 @@ static const uint8_t routine[] = {0x04, 0x00,
 
 static const uint32_t readings[] = {1800, 1950, 2100};
 
-/* The routine has no GOX; its first instruction would be a landing. */
+/* Where a GOX may go: instruction 0. This routine has no GOX. */
 static const uint32_t landings[] = {0};
 
-/* The commands of the routine, and the memory of the drum. */
 static uint64_t commands[HEMDROAS_MOST_COMMANDS];
 static uint32_t memory[CELLS];
 
 int main(void)
 {
-    /* Everything is allowed while the door is shut; once it is open, gas is
-     * not. No event shuts it. */
+    /* State 0: the door is shut, and everything is allowed. State 1: the door is
+     * open, and gas is not allowed. No event leads back to state 0. */
     uint8_t table[HEMDROAS_EVENTS * STATES];
     memset(table, 0, HEMDROAS_EVENTS);
     memset(table + HEMDROAS_EVENTS, 1, HEMDROAS_EVENTS);

@@ -3,14 +3,14 @@
 // The module imports nothing. Buffers lie in its own memory, from __heap_base on. Pointers are numbers, lengths are BigInt.
 import { readFileSync } from "node:fs";
 
-const PAGES = 2; // of 64 KB, beside the module's own
+const PAGES = 2; // of 64 KB, added to the module's own
 const [EVENTS, STATES, CELLS, STATE_CELL, LOG] = [16, 2, 1024, 0, 64];
 const [MOST_COMMANDS, MACHINE, ANSWER, RUN_ANSWER] = [4096, 18, 2, 4];
 const [GAS, DOOR, NO_ARROW, NO_CEILING, BUDGET] = [0, 2, 255, 0xffffffff, 1000];
 
 const { instance } = await WebAssembly.instantiate(readFileSync(process.argv[2]));
 const library = instance.exports;
-library.memory.grow(PAGES); // before the first view: to grow the memory detaches them
+library.memory.grow(PAGES); // before the first view: growing the memory detaches all views
 let top = library.__heap_base.value;
 
 const lend = (Type, count) => {

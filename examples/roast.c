@@ -1,13 +1,14 @@
 /*
  * A fuller host: a drum that roasts two lots with a stranger's routine.
  *
- * The purge timer and the batch record lie in the drum's memory too. The routine
- * tries to write the timer; every cell outside the sandbox is shown untouched.
- * Before each run a preview says what it will do. The log is short, so it fills,
- * and the probe falls silent; both are pauses. Lot 2 comes with a policy of its
- * exporter, which is merged with the roastery's and swapped in.
+ * The host keeps its purge timer and its batch record in the same memory. The
+ * routine tries to write the timer. The host shows that no cell outside the
+ * sandbox changed but the state cell. Before each run a preview shows what the
+ * run will do. The routine pauses when the log is full or the probe has no
+ * reading. For lot 2 the host merges its policy with that of the coffee's
+ * exporter and installs the merged one.
  *
- * Build, once 'tools/install PREFIX' has installed the library:
+ * Install the library with 'tools/install PREFIX', then build:
  *   gcc -std=c11 -Wall -Wextra examples/roast.c $(pkg-config --cflags --libs hemdroas) -o target/roast
  */
 #include "hemdroas.h"
@@ -17,23 +18,23 @@
 #include <stdlib.h>
 #include <string.h>
 
-/* Where things lie. The purge timer and the batch record are in free cells:
- * neither in the sandbox nor state, table or landing cells. The table has room
- * for 7 states, to cell 127. */
+/* Where things lie in memory. The purge timer and the batch record are in cells
+ * that neither the sandbox nor the policy uses. The table, cells 16 to 127, has
+ * room for 7 states. */
 enum { STATE_CELL = 0, PURGE = 8, BATCH_LOT = 9, BATCH_WEIGHT = 10, BATCH_EVENTS = 11, TABLE = 16, LANDINGS = 128, LOW = 256, HIGH = 511, CELLS = 1024 };
 
 enum { GAS = 0, AIR = 1, DOOR = 2, CHARGE = 3, PROBE = 8 };
 enum { BUDGET = 1000, LOG = 8 };
 
-/* The exporter's routine: charge, then gas until the beans have 200 degrees, then the door. */
+/* The exporter's routine: charges the drum, heats until the beans have 200 degrees, then opens the door. */
 static const uint8_t routine[] = {
-    0x0D, 0x00,                                     /*     13 instructions; more would be HALT */
+    0x0D, 0x00,                                     /*     13 instructions; HALT follows the last */
     0x23, 0x01, 0x01, 0xD0, 0x07, 0x00, 0x00,       /*  0  SET r1, 2000 */
     0x23, 0x01, 0x02, 0x08, 0x00, 0x00, 0x00,       /*  1  SET r2, 8 */
-    0x0D, 0x09, 0x02, 0x01,                         /*  2  STORE r2, r1: at the purge timer */
+    0x0D, 0x09, 0x02, 0x01,                         /*  2  STORE r2, r1: tries to set the purge timer */
     0x21, 0x01, 0x01, 0x00, 0x00, 0x00,             /*  3  SET r0, 1 */
     0x21, 0x0C, 0x03, 0x00, 0x00, 0x00,             /*  4  EVENT charge */
-    0x21, 0x01, 0x78, 0x00, 0x00, 0x00,             /*  5  SET r0, 120: more than there is */
+    0x21, 0x01, 0x78, 0x00, 0x00, 0x00,             /*  5  SET r0, 120: above the ceiling */
     0x01, 0x0C,                                     /*  6  EVENT gas */
     0x21, 0x0C, 0x08, 0x00, 0x00, 0x00,             /*  7  EVENT probe: r0 becomes the reading */
     0x39, 0x0A, 0x01, 0x02, 0x05, 0x00, 0x00, 0x00, /*  8  GOIF r0, r1, below, 5 */
@@ -43,11 +44,11 @@ static const uint8_t routine[] = {
     0x21, 0x0C, 0x02, 0x00, 0x00, 0x00,             /* 12  EVENT door */
 };
 
-/* The routine has no GOX; its first instruction would be a landing. */
+/* Where a GOX may go: instruction 0. This routine has no GOX. */
 static const uint32_t landings[] = {0};
 enum { LANDINGS_LISTED = sizeof landings / sizeof landings[0] };
 
-/* States and ceilings are those of the policy that is installed. */
+/* fit_layout sets states and ceilings to those of the policy. */
 static struct hemdroas_layout layout = {
     .cells = CELLS,
     .low = LOW,
@@ -94,7 +95,7 @@ static void arrow(struct policy *p, uint32_t from, uint32_t event, uint8_t to)
     p->table[HEMDROAS_EVENTS * from + event] = to;
 }
 
-/* Every event is allowed, and stays in its state; gas up to a ceiling. */
+/* A policy that allows every event in every state, and gas up to most_gas. */
 static void start_policy(struct policy *p, uint32_t states, uint32_t most_gas)
 {
     const struct hemdroas_policy open = {.states = states, .start = 0, .ceilings = HEMDROAS_NO_CEILINGS};
@@ -104,7 +105,7 @@ static void start_policy(struct policy *p, uint32_t states, uint32_t most_gas)
         memset(p->table + HEMDROAS_EVENTS * state, (int)state, HEMDROAS_EVENTS);
 }
 
-/* The roastery's: no gas once the door is open. */
+/* The roastery's policy: no gas once the door is open. */
 static void roastery(struct policy *p)
 {
     start_policy(p, 2, 100);
@@ -112,7 +113,7 @@ static void roastery(struct policy *p)
     arrow(p, 1, GAS, HEMDROAS_NO_ARROW);
 }
 
-/* The exporter's for lot 2: charge before gas and door, then two orders of gas. */
+/* The exporter's policy: charge before gas and door, and at most two orders of gas. */
 static void exporter(struct policy *p)
 {
     start_policy(p, 4, 80);
@@ -130,7 +131,6 @@ static void fit_layout(const struct policy *p)
     memcpy(layout.ceilings, p->numbers.ceilings, sizeof layout.ceilings);
 }
 
-/* The routine comes from outside: read, rewritten, checked, installed. */
 static void load(const struct policy *p)
 {
     struct hemdroas_answer answer;
@@ -141,7 +141,7 @@ static void load(const struct policy *p)
     length = answer.place;
 }
 
-/* Another policy for the same commands. They passed under another layout, so they are checked again. */
+/* Installs another policy for the same commands. The layout changes, so they are checked again. */
 static void swap_policy(const struct policy *p)
 {
     struct hemdroas_answer answer;
@@ -173,8 +173,8 @@ static void print_answer(const char *what, const struct hemdroas_run_answer *ans
            what, hemdroas_ending_text(answer->ending), answer->steps, answer->pairs, answer->readings);
 }
 
-/* One run, with a preview before it: the run does what that said, and moves no
- * cell outside the sandbox but the state cell. */
+/* Previews a run, then runs. Fails if the run differs from its preview, or changes
+ * a cell outside the sandbox other than the state cell. */
 static struct hemdroas_run_answer stretch(const uint32_t *readings, size_t count)
 {
     uint32_t before[CELLS], work[CELLS], foreseen[LOG] = {0}, log[LOG] = {0};
@@ -202,7 +202,7 @@ static struct hemdroas_run_answer stretch(const uint32_t *readings, size_t count
     return ran;
 }
 
-/* Roasts a lot to its end. The probe gives its first readings, falls silent and then gives the others. */
+/* Roasts a lot to its end. The probe has its first readings at once, the others only after a pause. */
 static void roast(uint32_t lot, uint32_t weight, const uint32_t *readings, size_t first, size_t count)
 {
     printf("lot %" PRIu32 ": policy of %" PRIu32 " states, gas up to %" PRIu32 "\n", lot, layout.states, layout.ceilings[GAS]);
@@ -212,7 +212,7 @@ static void roast(uint32_t lot, uint32_t weight, const uint32_t *readings, size_
     size_t used = 0, given = first;
     struct hemdroas_run_answer ran;
     do {
-        memory[PURGE]--; /* the host's own business, a run does not see it */
+        memory[PURGE]--; /* the host's own timer; no run can read it */
         ran = stretch(readings + used, given - used);
         used += ran.readings;
         memory[BATCH_EVENTS] += ran.pairs;

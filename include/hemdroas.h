@@ -1,34 +1,51 @@
 /*
- * Hemdroas runs a stranger's roasting routine in a drum controller's memory and
- * keeps it to its sandbox and to the policy of events.
+ * Hemdroas runs small programs from strangers, called routines, on the
+ * controller of a coffee roasting drum. A routine can write only its own part of
+ * memory, the sandbox. It can send only the events that a policy allows.
  *
- * Call hemdroas_load once, then hemdroas_run as often as the routine needs.
- * Loading does four things, and each has a call of its own: it reads the bytes
- * into words, rewrites the words into commands, checks the commands and
- * installs the policy. Only a checked list is safe. hemdroas_load checks its own
- * list. Check any other with hemdroas_check before you run it, and keep it
- * unchanged from then on.
+ * Terms
+ *   cell      32 bits of the drum's memory; memory is an array of cells
+ *   layout    where sandbox, policy and code lie; a struct that the host fills in
+ *   word      one instruction of a routine, in 64 bits
+ *   command   one instruction of the machine, in 64 bits
+ *   bundle    the four commands that one word becomes
+ *   event     an order to the drum (0 to 7) or a reading of a probe (8 to 15)
+ *   log       where a run records each event and its value
+ *   policy    a table of states: which event is allowed in which, and what follows
+ *   ceiling   the largest value that an order records
+ *   landing   an instruction that GOX, the jump to a computed place, may go to
+ *
+ * How to use it. Call hemdroas_load once. Then call hemdroas_run as often as the
+ * routine needs. hemdroas_load does four things, and each has a call of its own:
+ * it reads the bytes into words, rewrites the words into commands, checks the
+ * commands and installs the policy.
+ *
+ * Only checked commands are safe to run. hemdroas_load checks its own. Check any
+ * others with hemdroas_check before you run them, and do not change them after.
  *
  * Buffers. Each pointer to a buffer comes with the number of its elements, and
  * no call reaches past it. Lengths are 64-bit numbers on every machine. NULL is
  * allowed where the length is 0, and nowhere else. A buffer of uint64_t must be
- * aligned to 8 bytes, of uint32_t to 4, of uint16_t to 2. What a call writes
- * must not overlap anything else that it is lent; two inputs may be the same.
+ * aligned to 8 bytes, of uint32_t to 4, of uint16_t to 2. A buffer or struct that
+ * a call writes must not overlap any other of its arguments. Two that it only
+ * reads may overlap.
  *
  * Memory. No call allocates or keeps a pointer. A call takes at most 1.1 KB of
- * stack on x86-64 and 1.2 KB on Cortex-M4. docs/MACHINES.md has the other
+ * stack on x86-64 and 1.2 KB on Cortex-M4. docs/MACHINES.md lists the other
  * machines on which it was measured.
  *
  * Threads. The library has no global state. Calls on different buffers may run
  * at the same time. Two calls may share a buffer if neither writes it.
  *
- * Refusals. A refused call changes no buffer. A refused run also leaves its
- * machine or engine as it was. A refused loading or installation hands back a machine of zeros
- * that has faulted (status 3). A success leaves the output past its result as
- * it was.
+ * Refusals. A call that cannot do its work is refused, and answers with a number
+ * that says why. A refused call changes no buffer. A refused run also leaves its
+ * machine or engine as it was. If hemdroas_load or hemdroas_install is refused,
+ * the machine is set to zeros and to faulted (status 3). A call that succeeds
+ * writes only its result: the rest of an output buffer stays as it was.
  *
- * Another policy. States and ceilings belong to the layout. To swap the policy,
- * change the layout, then check the commands and install again.
+ * Changing the policy. The number of states and the ceilings stand in the layout
+ * too. Change them there, call hemdroas_check on the commands again, then
+ * hemdroas_install.
  */
 #ifndef HEMDROAS_H
 #define HEMDROAS_H
@@ -50,45 +67,45 @@ enum {
     HEMDROAS_EVENTS = 16,          /* 0 to 7 are orders, 8 to 15 readings */
     HEMDROAS_ORDERS = 8,
     HEMDROAS_NO_ARROW = 255,       /* in a policy's table: the event is not allowed */
-    HEMDROAS_MOST_STATES = 16,     /* of a policy */
-    HEMDROAS_MOST_TABLE = 256,     /* bytes of a policy's table: always room enough */
-    HEMDROAS_MOST_WORDS = 1023,    /* of a routine: always room enough */
-    HEMDROAS_MOST_COMMANDS = 4096, /* of a routine: always room enough */
+    HEMDROAS_MOST_STATES = 16,     /* the most states of a policy */
+    HEMDROAS_MOST_TABLE = 256,     /* a buffer of so many bytes holds any policy's table */
+    HEMDROAS_MOST_WORDS = 1023,    /* a buffer of so many words holds any routine */
+    HEMDROAS_MOST_COMMANDS = 4096, /* a buffer of so many commands holds any routine */
     HEMDROAS_MOST_LANDINGS = 1024,
-    HEMDROAS_MOST_CELLS = 4096     /* of memory */
+    HEMDROAS_MOST_CELLS = 4096     /* the largest memory */
 };
 
-/* Why nothing was done. Success is taken (0). */
+/* Why a call was refused; 0, 'taken', is success. */
 enum hemdroas_refusal {
     HEMDROAS_TAKEN = 0,
-    HEMDROAS_SHORT_WEIGHT = 1,      /* bytes end early */
-    HEMDROAS_FOREIGN_MATTER = 2,    /* a field that should be absent or zero, a stray bit */
-    HEMDROAS_UNKNOWN_VARIETY = 3,   /* kind above 12 */
-    HEMDROAS_OFF_GRADE = 4,         /* register, condition, shift or event out of range */
+    HEMDROAS_SHORT_WEIGHT = 1,      /* the bytes end too early */
+    HEMDROAS_FOREIGN_MATTER = 2,    /* a field that is 0 or not of this kind was given, or a stray bit is set */
+    HEMDROAS_UNKNOWN_VARIETY = 3,   /* the instruction's kind is above 12 */
+    HEMDROAS_OFF_GRADE = 4,         /* a register, condition, shift or event is out of range */
     HEMDROAS_OVERSIZE = 5,          /* more than 1023 instructions */
-    HEMDROAS_OVERWEIGHT = 6,        /* bytes after the last instruction */
-    HEMDROAS_BAD_LAYOUT = 7,        /* layout not right, or memory not of its cells */
-    HEMDROAS_BAD_LANDING = 8,       /* jump past the end of the routine */
-    HEMDROAS_SMALL_HOPPER = 9,      /* output too short */
-    HEMDROAS_BAD_POLICY = 10,       /* policy that cannot be installed on this layout, or merged */
-    HEMDROAS_BAD_BUNDLE = 11,       /* commands of no allowed shape, or no HALT at the end */
-    HEMDROAS_BAD_COUNT = 12,        /* not 4, 8, 16, ... 4096 commands */
-    HEMDROAS_BAD_BASE = 13,         /* base no multiple of the number of commands */
-    HEMDROAS_BAD_LANDING_LIST = 14, /* landings not strictly rising, or one above 1023 */
-    HEMDROAS_TOO_MANY_STATES = 15,  /* the policy would have more than 16 */
-    HEMDROAS_BAD_DRAWING = 16,      /* no start, states not 1 to 16, not 16 arrows a state, or a bit of no state */
-    HEMDROAS_BAD_PAIR = 17,         /* event above 15 or without its partner, or more than four events named */
-    HEMDROAS_NOT_FORWARD = 18       /* a GOX, or a GOIF to its own or a lower instruction */
+    HEMDROAS_OVERWEIGHT = 6,        /* bytes follow the last instruction */
+    HEMDROAS_BAD_LAYOUT = 7,        /* the layout is not right, or memory has another length than layout.cells */
+    HEMDROAS_BAD_LANDING = 8,       /* a GOIF jumps past the end of the routine */
+    HEMDROAS_SMALL_HOPPER = 9,      /* the output buffer is too short */
+    HEMDROAS_BAD_POLICY = 10,       /* the policy is not right, or does not fit the layout */
+    HEMDROAS_BAD_BUNDLE = 11,       /* four commands that are no allowed bundle, or the last bundle is not HALT */
+    HEMDROAS_BAD_COUNT = 12,        /* the number of commands is not 4, 8, 16, ... or 4096 */
+    HEMDROAS_BAD_BASE = 13,         /* the base is not a multiple of the number of commands */
+    HEMDROAS_BAD_LANDING_LIST = 14, /* the landings are not strictly rising, or one is above 1023 */
+    HEMDROAS_TOO_MANY_STATES = 15,  /* the policy would have more than 16 states */
+    HEMDROAS_BAD_DRAWING = 16,      /* no start, not 1 to 16 states, not 16 arrows for each, or a bit for a state that does not exist */
+    HEMDROAS_BAD_PAIR = 17,         /* an event above 15, an odd number of events, or more than four different ones */
+    HEMDROAS_NOT_FORWARD = 18       /* a GOX, or a GOIF to its own instruction or a lower one */
 };
 
-/* How a run came out. A refused run has the refusal's number instead. */
+/* How a run ended. A refused run answers the refusal's number instead. */
 enum hemdroas_ending {
-    HEMDROAS_ENDING_ENDED = 20,        /* the routine came to its end */
-    HEMDROAS_ENDING_NO_ARROW = 21,     /* the policy stopped it */
-    HEMDROAS_ENDING_FAULT = 22,        /* never of a list that passed the check and runs as installed */
-    HEMDROAS_ENDING_LOG_FULL = 23,     /* pause: go on with an empty log */
-    HEMDROAS_ENDING_PROBE_SILENT = 24, /* pause: go on with new readings; comes before log full (23) */
-    HEMDROAS_ENDING_SPENT = 25,        /* pause: go on with a new budget */
+    HEMDROAS_ENDING_ENDED = 20,        /* the routine finished */
+    HEMDROAS_ENDING_NO_ARROW = 21,     /* the policy stopped the routine: the event was not allowed */
+    HEMDROAS_ENDING_FAULT = 22,        /* bad address or bad command; never for checked commands run as installed */
+    HEMDROAS_ENDING_LOG_FULL = 23,     /* pause: run again with an empty log */
+    HEMDROAS_ENDING_PROBE_SILENT = 24, /* pause: run again with new readings; answered even if the log is full too */
+    HEMDROAS_ENDING_SPENT = 25,        /* pause: run again with a new budget */
     HEMDROAS_ENDING_NO_LANDING = 26    /* stopped: a GOX to an instruction that is no landing */
 };
 
@@ -96,12 +113,12 @@ enum hemdroas_ending {
 enum hemdroas_status {
     HEMDROAS_STATUS_RUNNING = 0,
     HEMDROAS_STATUS_ENDED = 1,
-    HEMDROAS_STATUS_STOPPED = 2, /* by the policy */
+    HEMDROAS_STATUS_STOPPED = 2, /* the policy stopped it */
     HEMDROAS_STATUS_FAULTED = 3,
     HEMDROAS_STATUS_STRAYED = 4  /* stopped at a GOX to an instruction that is no landing */
 };
 
-/* The word of a refusal's number; that of 0 is "taken". */
+/* A refusal's name, for messages. */
 static inline const char *hemdroas_refusal_text(uint32_t number)
 {
     switch (number) {
@@ -128,7 +145,7 @@ static inline const char *hemdroas_refusal_text(uint32_t number)
     }
 }
 
-/* The word of an ending's number; for a refused run, the refusal's word. */
+/* An ending's name, for messages; for a refused run, the refusal's name. */
 static inline const char *hemdroas_ending_text(uint32_t number)
 {
     switch (number) {
@@ -143,14 +160,15 @@ static inline const char *hemdroas_ending_text(uint32_t number)
     }
 }
 
-/* ---- structs: only 32-bit numbers, without gaps */
+/* ---- structs: 32-bit numbers only, without padding */
 
-/* A layout's or a policy's ceilings where no order is limited. */
+/* Initialises the ceilings of a layout or a policy so that no order is limited. */
 #define HEMDROAS_NO_CEILINGS \
     {UINT32_MAX, UINT32_MAX, UINT32_MAX, UINT32_MAX, UINT32_MAX, UINT32_MAX, UINT32_MAX, UINT32_MAX}
 
-/* Where things lie in a drum's memory. A layout is right if all of these hold:
- * - cells and states are in range;
+/* Where things lie in a drum's memory. The letters are those of the rules. A
+ * layout is right if all of these hold:
+ * - cells is 1 to 4096, and states is 1 to 16;
  * - low <= high < cells, state_cell < cells, table + 16 * states <= cells and
  *   landings + 32 <= cells;
  * - high - low + 1 is a power of two, and low is a multiple of it;
@@ -165,82 +183,84 @@ struct hemdroas_layout {
     uint32_t states;                    /* S: policy states, 1 to 16 */
     uint32_t base;                      /* B: address of the first command */
     uint32_t landings;                  /* Q: first of 32 cells with a bit for each landing */
-    /* Order e records the smaller of r0 and ceilings[e]. Left out, every ceiling
-     * is 0 and every order records 0: give numbers, or HEMDROAS_NO_CEILINGS. */
+    /* Order e records r0, but at most ceilings[e]. Do not leave the ceilings out:
+     * they would all be 0. If there are none, use HEMDROAS_NO_CEILINGS. */
     uint32_t ceilings[HEMDROAS_ORDERS];
 };
 
-/* A machine, which runs commands, as installing or the last run left it. With a
- * status above 4 a run ends in fault (22) with three zeros and leaves the record
- * as it was, unless it is refused as bad layout (7). */
+/* A machine runs commands. Between runs this struct holds all of it but memory.
+ * If status is above 4, a run does nothing and leaves the struct as it was. It
+ * answers bad layout (7) or, if the layout is right, fault (22) with three zeros. */
 struct hemdroas_machine {
-    uint32_t r[16]; /* r15 is hidden from routines */
-    uint32_t pc;
+    uint32_t r[16]; /* registers; no routine can name r15 */
+    uint32_t pc;    /* address of the next command */
     uint32_t status; /* enum hemdroas_status */
 };
 
-/* An engine, which runs words. Set it to zeros before its first run. */
+/* An engine runs words, without rewriting them. Set it to zeros before its first run. */
 struct hemdroas_engine {
-    uint32_t r[15];
-    uint32_t index; /* of the next instruction */
+    uint32_t r[15]; /* registers */
+    uint32_t index; /* number of the next instruction */
     uint32_t status; /* enum hemdroas_status */
 };
 
-/* A policy without its table. In that, table[16 * s + e] is the state after event
- * e in state s, or HEMDROAS_NO_ARROW. */
+/* A policy's numbers. Its table is a buffer of its own: table[16 * s + e] is the
+ * state after event e in state s, or HEMDROAS_NO_ARROW. */
 struct hemdroas_policy {
     uint32_t states; /* 1 to 16 */
     uint32_t start;  /* below states */
-    uint32_t ceilings[HEMDROAS_ORDERS]; /* as a layout's */
+    uint32_t ceilings[HEMDROAS_ORDERS]; /* as in a layout */
 };
 
-/* If taken (0), place counts the words, bytes or commands written; for the checks
- * and install it is 0. If refused, it is
- * - the instruction at fault, for short weight (1), foreign matter (2), unknown
- *   variety (3), off grade (4), bad landing (8) and hemdroas_forward's not
- *   forward (18);
- * - the bundle at fault, for bad bundle (11) and hemdroas_check_forward's not
- *   forward (18);
- * - else 0. */
+/* What most calls answer. If the number is taken (0), place is how many words,
+ * bytes or commands were written; a check or an installation has place 0. If the
+ * call is refused, place is
+ * - the number of the bad instruction, for short weight (1), foreign matter (2),
+ *   unknown variety (3), off grade (4), bad landing (8) and, from
+ *   hemdroas_forward, not forward (18);
+ * - the number of the bad bundle, for bad bundle (11) and, from
+ *   hemdroas_check_forward, not forward (18);
+ * - 0 for any other refusal. */
 struct hemdroas_answer {
     uint32_t number; /* enum hemdroas_refusal */
     uint32_t place;
 };
 
-/* If the run is refused as bad layout (7), the other three are 0. */
+/* What a run answers. If it is refused as bad layout (7), the other three are 0. */
 struct hemdroas_run_answer {
     uint32_t ending;   /* enum hemdroas_ending, or HEMDROAS_BAD_LAYOUT */
-    uint32_t steps;    /* commands done */
-    uint32_t pairs;    /* of event and value written to the log, two cells each */
-    uint32_t readings; /* used */
+    uint32_t steps;    /* commands executed */
+    uint32_t pairs;    /* events recorded; each takes two log cells, event and value */
+    uint32_t readings; /* readings used */
 };
 
-/* If the run is refused, the last three are 0. */
+/* What a run of the engine answers. If it is refused, the last three are 0. */
 struct hemdroas_engine_answer {
     uint32_t ending;       /* enum hemdroas_ending, or enum hemdroas_refusal */
-    uint32_t place;        /* of the refused word, else 0 */
-    uint32_t instructions; /* done */
-    uint32_t pairs;        /* of event and value written to the log, two cells each */
-    uint32_t readings;     /* used */
+    uint32_t place;        /* number of the refused word, else 0 */
+    uint32_t instructions; /* instructions executed */
+    uint32_t pairs;        /* events recorded; each takes two log cells, event and value */
+    uint32_t readings;     /* readings used */
 };
 
-/* If refused, the other three are 0. */
+/* What hemdroas_precedence answers. If it is refused, the other three are 0. */
 struct hemdroas_precedence_answer {
     uint32_t number; /* enum hemdroas_refusal */
     uint32_t place;  /* bytes of the table written */
-    uint32_t states; /* the start state is 0 */
-    uint32_t never;  /* bit e is set if no allowed list of events holds event e, as when pairs form a ring */
+    uint32_t states; /* states of the policy; it starts in state 0 */
+    uint32_t never;  /* bit e is set if event e can never be allowed, as when pairs form a ring */
 };
 
-/* If refused, the other three are 0. */
+/* What hemdroas_determinise answers. If it is refused, the other three are 0. */
 struct hemdroas_determinise_answer {
     uint32_t number; /* enum hemdroas_refusal */
     uint32_t place;  /* bytes of the table written */
     uint32_t states;
-    uint32_t start; /* 0 */
+    uint32_t start; /* always 0 */
 };
 
-/* The library takes each struct as an array of so many numbers: a gap does not compile. */
+/* The library reads each struct as an array of 32-bit numbers. If a compiler pads
+ * one, the next lines do not compile. */
 #define HEMDROAS_NUMBERS(name, count) \
     typedef char name##_has_no_gaps[sizeof(struct name) == (count) * sizeof(uint32_t) ? 1 : -1]
 HEMDROAS_NUMBERS(hemdroas_layout, 16);
@@ -256,57 +276,59 @@ HEMDROAS_NUMBERS(hemdroas_determinise_answer, 4);
 
 /* ---- from bytes to an installed machine */
 
-/* Reads a routine of n bytes into words. */
+/* Reads a routine of n bytes into words. room is the length of words. */
 void hemdroas_read(const uint8_t *bytes, uint64_t n, uint64_t *words, uint64_t room, struct hemdroas_answer *answer);
 
-/* Writes n words as a routine's bytes. It is the inverse of reading. */
+/* Writes n words as a routine's bytes: the inverse of hemdroas_read. room is the
+ * length of bytes. */
 void hemdroas_write(const uint64_t *words, uint64_t n, uint8_t *bytes, uint64_t room, struct hemdroas_answer *answer);
 
-/* Rewrites n words into bundles of 4 commands. The number of bundles is the
- * smallest of 1, 2, 4, ... 1024 that is above n. The layout's base must be a
- * multiple of the number of commands, else it is refused as bad base (13). */
+/* Rewrites n words into bundles of 4 commands, with HALT after the last word. The
+ * number of bundles is the smallest power of two above n. The layout's base must
+ * be a multiple of the number of commands, else it is refused as bad base (13). */
 void hemdroas_rewrite(const struct hemdroas_layout *layout, const uint64_t *words, uint64_t n,
                       uint64_t *commands, uint64_t room, struct hemdroas_answer *answer);
 
-/* Checks that n commands, run under this layout, keep to sandbox and policy. */
+/* Checks that n commands cannot leave the sandbox or break the policy when they
+ * run under this layout. It does not matter who made the commands. */
 void hemdroas_check(const struct hemdroas_layout *layout, const uint64_t *commands, uint64_t n,
                     struct hemdroas_answer *answer);
 
-/* Checks that n words are a routine that always finishes: it has no GOX, and
- * every GOIF goes to a higher instruction than its own. If not, the lowest
- * instruction that breaks this is refused as not forward (18). Before that come
- * oversize (5) and the refusals of a word: unknown variety (3), foreign matter
- * (2), off grade (4) and bad landing (8).
+/* Checks that n words are a forward routine, one that always finishes: it has no
+ * GOX, and each GOIF goes to a higher instruction. The first instruction that
+ * breaks this is refused as not forward (18). Before that come oversize (5) and
+ * the refusals of a word: unknown variety (3), foreign matter (2), off grade (4)
+ * and bad landing (8).
  *
- * Rewritten into N bundles and run as installed, such a routine ends or stops
- * within 4 * (N - 1) + 1 steps over all its runs. For this each pause must be
- * resumed with two log cells and a reading, and the budgets must suffice. */
+ * A forward routine that was rewritten into N bundles and installed ends or stops
+ * within 4 * (N - 1) + 1 steps, counted over all its runs. The host must resume
+ * it after each pause, with two free log cells, a reading and enough budget. */
 void hemdroas_forward(const uint64_t *words, uint64_t n, struct hemdroas_answer *answer);
 
-/* Checks n commands as hemdroas_check does, then that they are the commands of
- * such a routine. If not, the lowest bundle that breaks this is refused as not
- * forward (18). */
+/* Checks n commands as hemdroas_check does, then that they are a forward routine.
+ * The first bundle that breaks this is refused as not forward (18). */
 void hemdroas_check_forward(const struct hemdroas_layout *layout, const uint64_t *commands, uint64_t n,
                             struct hemdroas_answer *answer);
 
-/* 1 if states is 1 to 16 and each of the word's four bytes is below states or
- * HEMDROAS_NO_ARROW, else 0. Installing tests a policy's table so, four bytes
- * at a time. */
+/* Tests four bytes of a policy's table, packed into one word. It returns 1 if
+ * states is 1 to 16 and each byte is below states or HEMDROAS_NO_ARROW, else 0.
+ * hemdroas_install applies the same test to the whole table. */
 uint32_t hemdroas_word_right(uint32_t states, uint32_t word);
 
-/* Installs a policy: writes its start state to the state cell, its table and the
- * bits of the landings to their cells, and yields a machine at the first command.
- * states must be the layout's, and len 16 times that. landings are the
- * instructions that a GOX may go to, strictly rising; there may be none. */
+/* Installs a policy: writes its start state, its table and a bit for each landing
+ * to the cells that the layout names. It sets machine to start at the first
+ * command. states must equal layout->states, and len must be 16 times that.
+ * landings lists the instructions that a GOX may go to, in rising order and each
+ * once. The list may be empty. */
 void hemdroas_install(const struct hemdroas_layout *layout, uint32_t states, uint32_t start,
                       const uint8_t *table, uint64_t len, const uint32_t *landings, uint64_t count,
                       uint32_t *memory, uint64_t cells,
                       struct hemdroas_machine *machine, struct hemdroas_answer *answer);
 
 /* Loads a routine of n bytes: reads, rewrites and checks it, then installs the
- * policy. It answers the first refusal of the four with its place, so damaged
- * bytes are refused before a bad layout (7). If it is taken (0), place counts
- * the commands, which stand at the start of commands. */
+ * policy. It answers the first refusal of these four calls, with its place. So
+ * damaged bytes are refused before a bad layout (7). If it is taken (0), place is
+ * the number of commands written to the start of commands. */
 void hemdroas_load(const struct hemdroas_layout *layout, uint32_t states, uint32_t start,
                    const uint8_t *table, uint64_t len, const uint32_t *landings, uint64_t count,
                    const uint8_t *bytes, uint64_t n, uint64_t *commands, uint64_t room,
@@ -315,52 +337,50 @@ void hemdroas_load(const struct hemdroas_layout *layout, uint32_t states, uint32
 
 /* ---- running */
 
-/* Runs n commands until the routine ends, pauses or has done budget steps. Each
- * event takes two cells of the log, from cell 0 on: its number and its value.
- * Readings are taken from cell 0 on.
+/* Runs n commands until the routine ends, stops, pauses or has executed budget
+ * commands. Each event is written to the log as two numbers, event and value,
+ * from log[0] on. Readings are used from readings[0] on. r is the length of
+ * readings, g that of log.
  *
- * After log full (23) and probe silent (24) the state cell holds the policy's
- * state over the recorded events. After spent (25) it may still hold the state
- * before the last of them. After a pause, lend the same machine and memory
- * again. */
+ * To resume after a pause, call again with the same machine and memory. After log
+ * full (23) or probe silent (24) the state cell holds the policy's state after
+ * all recorded events. After spent (25) the last event may still be missing. */
 void hemdroas_run(const struct hemdroas_layout *layout, const uint64_t *commands, uint64_t n,
                   struct hemdroas_machine *machine, uint32_t *memory, uint64_t cells, uint32_t budget,
                   const uint32_t *readings, uint64_t r, uint32_t *log, uint64_t g, struct hemdroas_run_answer *answer);
 
-/* Looks ahead: answers as hemdroas_run would with these readings, writes the log
- * as that would, and yields in after the machine that it would leave. machine
- * and memory do not change. The run works on a copy of the memory in work, which
- * then holds what the run would leave. spare, like cells, must be the layout's
- * cells. Otherwise it is refused as bad layout (7): work stays as it was, and
- * after gets machine's own numbers. */
+/* Shows what hemdroas_run would do with these readings, but changes neither
+ * machine nor memory. Answer and log are those of that run. It leaves the new
+ * machine in after and the new memory in work. The lengths cells, of memory, and
+ * spare, of work, must both equal layout->cells. If not, it is refused as bad
+ * layout (7): work stays as it was, and after becomes a copy of machine. */
 void hemdroas_preview(const struct hemdroas_layout *layout, const uint64_t *commands, uint64_t n,
                       const struct hemdroas_machine *machine, const uint32_t *memory, uint64_t cells,
                       uint32_t *work, uint64_t spare, uint32_t budget,
                       const uint32_t *readings, uint64_t r, uint32_t *log, uint64_t g,
                       struct hemdroas_machine *after, struct hemdroas_run_answer *answer);
 
-/* Runs a routine's n words as they are written, one instruction after another,
- * under the layout, policy and landings that hemdroas_install or hemdroas_load
- * left in memory. Log and readings are as for hemdroas_run. Budget 1 does one
- * instruction.
+/* Runs a routine's n words directly, without rewriting them. The policy and the
+ * landings are those that hemdroas_install or hemdroas_load wrote to memory. Log
+ * and readings are as for hemdroas_run. The budget counts instructions, so budget
+ * 1 executes one.
  *
- * All words are judged first, with the rewriter's refusals in its order: bad
- * layout (7), oversize (5), then for the first word at fault unknown variety
- * (3), foreign matter (2), off grade (4) or bad landing (8). An engine that is
- * not running comes back as it was, also with a status above 4. */
+ * All words are tested first. The run may be refused as bad layout (7), then as
+ * oversize (5). Then the first bad word is refused as unknown variety (3),
+ * foreign matter (2), off grade (4) or bad landing (8). An engine whose status is
+ * not running (0) stays as it was. */
 void hemdroas_engine_run(const struct hemdroas_layout *layout, const uint64_t *words, uint64_t n,
                          struct hemdroas_engine *engine, uint32_t *memory, uint64_t cells, uint32_t budget,
                          const uint32_t *readings, uint64_t r, uint32_t *log, uint64_t g,
                          struct hemdroas_engine_answer *answer);
 
-/* Goes on with words that hemdroas_engine_run took before, without judging all
- * of them again: its cost depends on the instructions done, not on n. Where
- * hemdroas_engine_run would take the words, both answer and leave the same, so
- * the two may be mixed freely.
+/* Does what hemdroas_engine_run does, but does not test all words first. So its
+ * cost depends on the instructions executed, not on n. On words that
+ * hemdroas_engine_run accepts, both calls do the same, and you may mix them.
  *
- * Each word is judged as it is reached. Words that were never judged are safe
- * too: the first that is no instruction ends the run in fault (22). Refused as
- * bad layout (7), then as oversize (5). */
+ * Each word is tested when its turn comes. Words that were never tested before
+ * are safe too: the first one that is no instruction ends the run in fault (22).
+ * A run may be refused as bad layout (7), then as oversize (5). */
 void hemdroas_engine_continue(const struct hemdroas_layout *layout, const uint64_t *words, uint64_t n,
                               struct hemdroas_engine *engine, uint32_t *memory, uint64_t cells, uint32_t budget,
                               const uint32_t *readings, uint64_t r, uint32_t *log, uint64_t g,
@@ -368,36 +388,40 @@ void hemdroas_engine_continue(const struct hemdroas_layout *layout, const uint64
 
 /* ---- making policies */
 
-/* Makes the policy of n / 2 pairs of events, pairs[2 * i] before
- * pairs[2 * i + 1]: the second is allowed only once the first has been recorded.
- * A state is the set of named events recorded so far: bit k stands for the k-th
- * smallest of them, from 0. Events that no pair names are allowed in every
- * state, and stay in it. Refused as bad pair (17), then small hopper (9). */
+/* Makes a policy from n / 2 pairs of events: event pairs[2 * i + 1] is allowed
+ * only after event pairs[2 * i] has been recorded. n counts events, and room is
+ * the length of table. A state's number is the set of those events, named in some
+ * pair, that were recorded so far: bit k stands for the k-th smallest, from 0. An
+ * event that no pair names is always allowed and changes no state. Refused as bad
+ * pair (17), then small hopper (9). */
 void hemdroas_precedence(const uint8_t *pairs, uint64_t n, uint8_t *table, uint64_t room,
                          struct hemdroas_precedence_answer *made);
 
-/* Makes the policy of a drawing in which a state may have several arrows for one
+/* Makes a policy from a drawing, in which a state may have several arrows for one
  * event, and several states may be starts. Bit s of starts is set if state s is
  * a start. Bit t of arrows[16 * s + e] is set if event e leads from state s to
- * state t. A list of events is allowed exactly if some path through the drawing
- * follows it.
+ * state t. n is the length of arrows, room that of table. The policy allows a
+ * list of events exactly if some path through the drawing, from a start, follows
+ * it.
  *
- * The policy's states are the sets of states that events lead to; the empty set
- * is none. State 0 is the set of starts. The others are numbered as they are
- * first met, from the lowest numbered set on, events in rising order. Refused as
- * bad drawing (16), then too many states (15), then small hopper (9). */
+ * This is the subset construction: each state of the policy is a nonempty set of
+ * the drawing's states that some events lead to. State 0 is the set of starts.
+ * The others are numbered as a search finds them. It takes the sets in the order
+ * of their numbers, and for each set the events from 0 to 15. Refused as bad
+ * drawing (16), then too many states (15), then small hopper (9). */
 void hemdroas_determinise(uint32_t states, uint32_t starts, const uint16_t *arrows, uint64_t n,
                           uint8_t *table, uint64_t room, struct hemdroas_determinise_answer *made);
 
 /* Merges two policies into one that allows a list of events exactly if both do.
- * len1 and len2 must be 16 times their policy's states, and each byte of a table
- * below those states or HEMDROAS_NO_ARROW. The order of the two does not matter.
+ * Each table must have 16 bytes for each state of its policy. Each byte must be
+ * below the number of states or HEMDROAS_NO_ARROW. Either policy may come first:
+ * the result is the same. Each ceiling is the smaller of the two.
  *
- * The merged states are the pairs of states that events lead to. State 0 is the
- * pair of starts. The others are numbered as they are first met, from the lowest
- * numbered pair on, events in rising order. Each ceiling is the smaller of the
- * two. The answer's place counts the table's bytes. Refused as bad policy (10),
- * then too many states (15), then small hopper (9); merged is then all zeros. */
+ * Each state of the merged policy is a pair of states, one of each policy, that
+ * some events lead to. State 0 is the pair of starts. The others are numbered as
+ * a search finds them, as in hemdroas_determinise. The answer's place is the number of bytes written to
+ * table. Refused as bad policy (10), then too many states (15), then small hopper
+ * (9). If it is refused, merged is set to zeros. */
 void hemdroas_merge(const struct hemdroas_policy *one, const uint8_t *table1, uint64_t len1,
                     const struct hemdroas_policy *other, const uint8_t *table2, uint64_t len2,
                     uint8_t *table, uint64_t room, struct hemdroas_policy *merged, struct hemdroas_answer *answer);
