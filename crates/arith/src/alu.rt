@@ -1,4 +1,4 @@
-// Adds, subtracts, combines and shifts 32-bit numbers, and tests a condition.
+// Adds, subtracts, combines and shifts 32-bit numbers, and tests the condition of a jump.
 use crate::signed::less;
 pub use crate::signed::sar;
 use types::Layout;
@@ -30,7 +30,7 @@ pub fn or(x: u32, y: u32) -> u32
     x | y
 }
 
-// A shift by a cell's bits or more loses them all.
+// Shifting by 32 or more leaves 0.
 pub fn shl(x: u32, v: u32) -> u32
     ensures { λ r. ⌜ r ≡ shlOf x v ⌝ }
 {
@@ -40,7 +40,7 @@ pub fn shl(x: u32, v: u32) -> u32
     x << v
 }
 
-// Condition c.
+// Whether condition c holds of x and y.
 pub fn holds(c: u64, x: u32, y: u32) -> bool
     ensures { λ r. ⌜ r ≡ holdsOf c x y ⌝ }
 {

@@ -1,11 +1,11 @@
-// 32-bit numbers as two's complement: arithmetic shift right, and signed comparison.
+// Two's complement on 32-bit numbers: arithmetic shift right, and signed comparison.
 use types::Layout;
 ghost use mathlib.Core.Path.{_≡_};
 ghost use Prim.Native.Nat.{min};
 ghost use Rattle.types.specs.Names.{topShift};
 ghost use Rattle.spec.specs.Signed.{twos, bitsOf, sarOf, lessOf};
 
-// The number that x stands for as two's complement.
+// The signed number that the bits of x stand for.
 fn to_signed(x: u32) -> i32
     ensures { λ r. ⌜ r ≡ twos x ⌝ }
 {
@@ -16,14 +16,14 @@ fn to_signed(x: u32) -> i32
     }
 }
 
-// The bits of z as two's complement.
+// The bits of the signed number z.
 fn to_bits(z: i32) -> u32
     ensures { λ r. ⌜ r ≡ bitsOf z ⌝ }
 {
     if z >= 0 { z as u32 } else { !((!z) as u32) }
 }
 
-// A shift past a cell's last bit leaves the sign alone, as the shift to that bit does.
+// A shift by more than 31 gives the same as a shift by 31: only the sign is left.
 fn clamp_shift(v: u32) -> u32
     ensures { λ r. ⌜ r ≡ min v topShift ⌝ }
 {

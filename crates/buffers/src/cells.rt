@@ -1,9 +1,9 @@
-// Reads or sets one cell of a slice, and widens a byte.
+// Reads or sets one cell of a slice without a bounds failure, and widens bytes.
 ghost use mathlib.Core.Path.{_≡_};
 ghost use Prim.Native.Nat.{_<_};
 ghost use lib.ListN.{getD, set};
 
-// A cell; 0 where there is none.
+// Reads a cell, or 0 past the end.
 pub fn peek(cells: &[u32], at: usize) -> u32
     ensures { λ r. ⌜ r ≡ getD (now (cells .entry)) at 0 ⌝ }
 {
@@ -13,7 +13,7 @@ pub fn peek(cells: &[u32], at: usize) -> u32
     cells[at]
 }
 
-// A cell set; nothing where there is none.
+// Sets a cell; past the end it does nothing.
 pub fn poke(cells: &mut [u32], at: usize, x: u32)
     ensures { λ _. ⌜ now (cells .exit) ≡ set (now (cells .entry)) at x ⌝ }
 {
@@ -22,14 +22,12 @@ pub fn poke(cells: &mut [u32], at: usize, x: u32)
     }
 }
 
-// A byte as an index.
 pub fn index_of(x: u8) -> usize
     ensures { λ r. ⌜ (r ≡ x) × (r < 256) ⌝ }
 {
     x as usize
 }
 
-// A byte as a cell.
 pub fn cell_of(x: u8) -> u32
     ensures { λ r. ⌜ (r ≡ x) × (r < 256) ⌝ }
 {

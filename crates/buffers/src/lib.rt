@@ -1,4 +1,4 @@
-// Reads and writes of slices that a caller lends.
+// Reads and writes slices that the caller lends.
 pub mod cells;
 pub mod pairs;
 pub mod stores;

@@ -1,1 +1,1 @@
-// What the engine's two C functions answer and leave, and the claims about their calls; no code.
+// Defines what the engine's two C functions answer and leave, with the claims about their calls. It has no code.

@@ -1,2 +1,2 @@
-// What each C function answers and leaves, in a C host's numbers, and the claims about its calls; no code.
+// Defines what each C function answers and leaves, in the numbers that a C host sees, with the claims about its calls. It has no code.
 pub mod engine;

@@ -1,1 +1,1 @@
-// Claims about what each change request altered in answers given before it; no code.
+// Claims about which earlier answers each change request altered. It has no code.

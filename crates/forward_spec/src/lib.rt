@@ -1,1 +1,1 @@
-// Request 13: the class of routines that always finish, its two checks and the claims about it; no code.
+// Request 13: defines the routines that always finish and their two checks, with the claims about them. It has no code.

@@ -1,18 +1,18 @@
-// The count of bundles of a routine, and the tests of a list's length and base address.
+// Computes how many bundles a routine needs, and tests the length and the base address of a command list.
 use types::Bundle;
 use types::Layout;
 ghost use mathlib.Core.Path.{_≡_};
 ghost use Rattle.spec.specs.Words.{bundlesFor};
 ghost use Rattle.spec.specs.Bundles.{countRight, baseRight};
 
-// N, the smallest power of two greater than n.
+// The number of bundles for n instructions: the smallest power of two above n.
 pub fn bundles(n: u32) -> usize
     ensures { λ r. ⌜ r ≡ bundlesFor n ⌝ }
 {
     1usize << (32 - u32::leading_zeros(n))
 }
 
-// Whether a list of k commands is N bundles, N a power of two from 1 to 1,024.
+// Whether k commands are N bundles, where N is a power of two from 1 to 1,024.
 pub fn count_right(k: usize) -> bool
     ensures { λ r. ⌜ r ≡ countRight k ⌝ }
 {
@@ -21,7 +21,7 @@ pub fn count_right(k: usize) -> bool
         & (usize::count_ones(k / Bundle::LENGTH) == 1)
 }
 
-// Whether the base is a multiple of the length of n bundles; of no length, or one past the base, only 0 is.
+// Whether the base is a multiple of the length of n bundles. If that length is 0 or above the base, only base 0 is.
 pub fn base_right(l: Layout, n: usize) -> bool
     ensures { λ r. ⌜ r ≡ baseRight l n ⌝ }
 {

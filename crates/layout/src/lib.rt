@@ -1,3 +1,3 @@
-// Layouts: the test of one, the mask of its sandbox, and the count of bundles at its base.
+// Tests a layout, masks addresses into its sandbox, and counts the bundles of a routine.
 pub mod count;
 pub mod memory;

@@ -1,10 +1,10 @@
-// Tests a layout, and masks an address into its sandbox.
+// Tests whether a layout is right, and masks an address into its sandbox.
 use types::Layout;
 use types::PolicyNumbers;
 ghost use mathlib.Core.Path.{_≡_};
 ghost use Rattle.spec.specs.Layouts.{rightLayout, fitsCells, maskOf, widthOf};
 
-// Whether a layout is right. SH < U is tested before SH − SL + 1 is formed, which could wrap otherwise.
+// Whether a layout is right. SH < U is tested first, because SH − SL + 1 could wrap otherwise.
 pub fn layout_right(l: Layout) -> bool
     ensures { λ r. ⌜ r ≡ rightLayout l ⌝ }
 {
@@ -25,7 +25,7 @@ pub fn layout_right(l: Layout) -> bool
     if u32::count_ones(span) != 1 {
         return false;
     }
-    // The sandbox has 2 to the width cells: SL is a multiple of them when it has no bit below the width.
+    // The sandbox has 2^width cells. SL is a multiple of that if its lowest `width` bits are 0.
     let width = width(l);
     let aligned = (low >> width) << width == low;
     let end = table as u64 + PolicyNumbers::EVENTS as u64 * states as u64;
@@ -43,21 +43,21 @@ pub fn layout_right(l: Layout) -> bool
     in_range & (aligned & (in_memory & apart))
 }
 
-// Whether a layout is right and a memory of so many cells has its size: what is not refused with 7 (bad layout).
+// Whether a layout is right and memory has its length. Otherwise the call is refused as bad layout (7).
 pub fn fits(l: Layout, cells: usize) -> bool
     ensures { λ r. ⌜ r ≡ fitsCells l cells ⌝ }
 {
     layout_right(l) & (cells == l.size as usize)
 }
 
-// The mask of an address, for data and code alike.
+// The address inside the sandbox that e is masked to. Jumps into the code use the same mask.
 pub fn mask(e: u32, low: u32, high: u32) -> u32
     ensures { λ r. ⌜ r ≡ maskOf low high e ⌝ }
 {
     (e & high) | low
 }
 
-// The mask's width, the address bits inside the sandbox.
+// How many low bits of an address the mask keeps: the sandbox has 2^width cells.
 pub fn width(l: Layout) -> u32
     ensures { λ r. ⌜ r ≡ widthOf l ⌝ }
 {

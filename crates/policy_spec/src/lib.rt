@@ -1,4 +1,4 @@
-// Definitions and claims for the crates that make policies; no code.
+// Definitions and claims for the crates that make policies. It has no code but types.
 pub mod maps;
 pub mod precedence;
 pub mod reachability;

@@ -1,1 +1,1 @@
-// Natural numbers as bit maps; definitions in specs/, no code.
+// Natural numbers as sets of bits. The definitions are in specs/; there is no code.

@@ -1,17 +1,17 @@
-// Request 11, 'This before that': the types of a policy made from pairs of events; its definitions and claims are in specs/.
+// Request 11, 'This before that': types for a policy made from pairs of events. Definitions and claims are in specs/.
 use types::Answer;
 use types::PolicyNumbers;
 
-// The most events that a list of pairs may name.
+// The most different events that a list of pairs may name.
 pub const MOST_NAMED: usize = 4;
 
-// Events of one row.
+// Entries in one row of a table.
 pub const EVENTS: usize = PolicyNumbers::EVENTS as usize;
 
-// The mark of no arrow.
+// In a table, this entry means that the event is not allowed.
 pub const NO_ARROW: usize = PolicyNumbers::NO_ARROW as usize;
 
-// What making a policy answers: place is the bytes written; the policy's numbers; the map of the events that no allowed word holds.
+// The result of making a policy: bytes written as place, the policy's numbers, and the set of events that it never allows.
 pub struct Made {
     pub answer: Answer,
     pub policy: PolicyNumbers,

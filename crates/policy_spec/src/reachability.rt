@@ -1,5 +1,5 @@
-// Requests 7 and 8: the types of a search for the nodes that events reach from a start.
-// A node is a number above 0; 0 is no node. Definitions and claims are in specs/.
+// Requests 7 and 8: types for a search that finds all nodes that events lead to from a start node.
+// A node is a number above 0; 0 means no node. Definitions and claims are in specs/.
 use types::Answer;
 use types::Layout;
 use types::PolicyNumbers;
@@ -7,22 +7,22 @@ use types::PolicyNumbers;
 // The most states of a policy.
 pub const MOST: usize = Layout::MOST_STATES as usize;
 
-// Events of one row.
+// Entries in one row of a table.
 pub const EVENTS: usize = PolicyNumbers::EVENTS as usize;
 
-// Room for the nodes of a policy and one too many, and for the arrows of the nodes of a policy.
+// Room for one node more than a policy may have, and for the arrows of the nodes that it may have.
 pub const NODES: usize = MOST + 1;
 
 pub const ARROWS: usize = EVENTS * MOST;
 
-// The worklist: the nodes reached, with one place for the node that is too many, how many they are, and the numbers of those to which the arrows lead.
+// The work list: the nodes found so far, with room for one too many, their count, and for each arrow the number of the node that it leads to.
 pub struct Worklist {
     pub nodes: [u16; NODES],
     pub count: usize,
     pub arrows: [u8; ARROWS],
 }
 
-// What making a policy answers: place is the bytes written; the policy's numbers.
+// The result of making a policy: bytes written as place, and the policy's numbers.
 pub struct Made {
     pub answer: Answer,
     pub policy: PolicyNumbers,

@@ -1,2 +1,2 @@
-// Document 01's sample tray and trial as theorems, and runs that satisfy the claims' premises; no code.
+// Document 01's examples as theorems, and runs that satisfy the premises of the claims, so that these are not empty. It has no code.
 pub mod engine;

@@ -1,1 +1,1 @@
-// What loading a routine answers and leaves, and the claim that what is loaded is isolated; no code.
+// Defines what loading a routine answers and leaves, and claims that a loaded routine is isolated. It has no code.

@@ -1,1 +1,1 @@
-// The rules as definitions in specs/, and the claims about them, proved in proofs/; no code.
+// Defines the rules of the sandbox in specs/ and proves claims about them in proofs/. It has no code.

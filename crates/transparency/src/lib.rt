@@ -1,1 +1,1 @@
-// Request 14: claims that the sandbox does not alter a well-behaved routine; no code.
+// Request 14: claims that the sandbox does not alter a routine that behaves well. It has no code.

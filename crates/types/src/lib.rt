@@ -1,11 +1,11 @@
-// The types and named numbers that all crates share, with constructors for layout, machine, answer and outcome.
+// Defines the types and named numbers that all crates share: layouts, policies, instructions, commands, machines, refusals and answers.
 ghost use mathlib.Core.Path.{_≡_};
 ghost use Rattle.types.specs.declared.Ending.the-variants.{Refused};
 ghost use Rattle.types.specs.declared.Refusal.the-variants.{Taken};
 ghost use Rattle.types.specs.Names.{numberOf, answer};
 ghost use Rattle.types.specs.Records.{layoutOf, machineOf, machineAt, machineRefused, outcomeOf};
 
-// The layout of one drum: U, SL, SH, M, P, S, B and Q, and the ceilings of events 0 to 7.
+// Where things lie in a drum's memory. U, SL, SH, M, P, S, B and Q are the paper's letters. Orders 0 to 7 have a ceiling each.
 pub struct Layout {
     pub size: u32,
     pub low: u32,
@@ -22,7 +22,7 @@ impl Layout {
     pub const MOST_CELLS: u32 = 4096;
 
     pub const MOST_STATES: u32 = 16;
-    // The cells that hold a bit for each landing, and the bits of one.
+    // How many cells hold the landing bits, and how many bits a cell has.
     pub const LANDING_CELLS: u32 = 32;
 
     pub const CELL_BITS: u32 = 32;
@@ -56,20 +56,18 @@ impl Layout {
     }
 }
 
-// The numbers of a policy: S and its start state. Its table of 16 bytes a state, and the landings that are installed with
-// it, are lent beside them.
+// A policy's state count and start state. Its table, 16 bytes a state, and its landings are passed beside it as slices.
 pub struct PolicyNumbers {
     pub states: u32,
     pub start: u32,
 }
 
-// And the numbers of every policy.
 impl PolicyNumbers {
-    // The mark of no arrow in a table.
+    // In a table, this entry means that the event is not allowed.
     pub const NO_ARROW: u32 = 255;
-    // Events of one row.
+    // Entries in one row of a table.
     pub const EVENTS: u32 = 16;
-    // Events below this one are orders, the others readings.
+    // Events below this number are orders; the others are readings.
     pub const ORDERS: u32 = 8;
 }
 
@@ -92,7 +90,7 @@ pub struct Limits {
     pub v: u64,
 }
 
-// A guest instruction, which is also the bundle that it becomes. PLAIN holds kinds SET to SAR: kind, d, a, b, v.
+// A guest instruction. PLAIN covers the kinds SET to SAR; its fields are kind, d, a, b, v.
 pub enum Instr {
     HALT,
     PLAIN(u64, u64, u64, u64, u64),
@@ -104,11 +102,11 @@ pub enum Instr {
 }
 
 impl Instr {
-    // The most instructions of a routine, and the bytes of their count.
+    // The most instructions of a routine. A routine's bytes begin with their count, in COUNT_BYTES.
     pub const MOST: usize = 1023;
 
     pub const COUNT_BYTES: usize = 2;
-    // The kinds; a plain one is a step higher as a command.
+    // The kind numbers. As a command, a plain instruction has its kind plus a fixed step.
     pub const KIND_HALT: u64 = 0;
 
     pub const KIND_SET: u64 = 1;
@@ -138,7 +136,7 @@ impl Instr {
     pub const PLAIN_STEP: u64 = Command::SET - Instr::KIND_SET;
 }
 
-// A command. Plain holds the arithmetic kinds SET to SHL: kind, d, a, b, v. Invalid is a word that is no command.
+// A command of the machine. Plain covers the arithmetic kinds; its fields are kind, d, a, b, v. Invalid is any word that is no command.
 pub enum Command {
     Nop,
     Halt,
@@ -155,7 +153,7 @@ pub enum Command {
 }
 
 impl Command {
-    // The kinds, and their count.
+    // The kind numbers, and how many there are.
     pub const NOP: u64 = 0;
 
     pub const HALT: u64 = 1;
@@ -197,25 +195,25 @@ impl Command {
     pub const EVENT: u64 = 19;
 
     pub const KINDS: u64 = Command::EVENT + 1;
-    // NOP has no field: its word is its kind.
+    // NOP has no fields, so its word is its kind.
     pub const NOP_WORD: u64 = Command::NOP;
 }
 
-// The words of one bundle.
+// The four command words of one instruction.
 pub struct Bundle {
     pub words: [u64; Bundle::LENGTH],
 }
 
 impl Bundle {
-    // Commands of a bundle, and how many stand behind its first.
+    // The commands of a bundle, and how many follow its first.
     pub const LENGTH: usize = 4;
 
     pub const TAIL: usize = Bundle::LENGTH - 1;
-    // The most bundles of a list, and their commands.
+    // The most bundles of a list, and how many commands they have.
     pub const MOST: usize = 1024;
 
     pub const MOST_COMMANDS: usize = Bundle::LENGTH * Bundle::MOST;
-    // The shift that makes of an instruction's number the distance of its bundle.
+    // Shifting an instruction's number by this gives the distance of its bundle from the base.
     pub const SHIFT: u64 = 2;
 }
 
@@ -227,7 +225,7 @@ pub enum Status {
     Strayed,
 }
 
-// Their numbers for a host, and their count.
+// The numbers that a host sees for the statuses, and how many there are.
 impl Status {
     pub const RUNNING: u32 = 0;
 
@@ -242,7 +240,7 @@ impl Status {
     pub const COUNT: u32 = Status::STRAYED + 1;
 }
 
-// The machine's record.
+// The machine's record: all that a run needs to continue, except memory.
 pub struct Machine {
     pub regs: [u32; Machine::REGISTERS],
     pub pc: u32,
@@ -250,7 +248,7 @@ pub struct Machine {
 }
 
 impl Machine {
-    // The hidden register, which no guest field names; it is the last.
+    // The register that no guest field can name. Bundles use it for masked addresses. It is the last one.
     pub const HIDDEN: usize = 15;
 
     pub const REGISTERS: usize = Machine::HIDDEN + 1;
@@ -261,14 +259,14 @@ impl Machine {
         Machine { regs, pc, status }
     }
 
-    // The record that installing yields: registers 0, pc at the base, running.
+    // The record that installing yields: all registers 0, pc at the base, running.
     pub fn new(base: u32) -> Machine
         ensures { λ r. ⌜ r ≡ machineAt base ⌝ }
     {
         Machine::from_parts([0; Machine::REGISTERS], base, Status::Running)
     }
 
-    // The record that a refused installation yields.
+    // The record that a refused installation yields: zeros, and faulted.
     pub fn refused() -> Machine
         ensures { λ r. ⌜ r ≡ machineRefused ⌝ }
     {
@@ -276,7 +274,7 @@ impl Machine {
     }
 }
 
-// The rejects of document 01, and 14 to 18 of the requests, in the order of their numbers.
+// Why a call was refused, in the order of the numbers. Those from 14 on come from the change requests, the others from document 01.
 pub enum Refusal {
     Taken,
     Short,
@@ -339,28 +337,28 @@ impl Refusal {
     pub const NOT_FORWARD: u8 = 18;
 }
 
-// A refusal's number, or 0, and its place, or what was written.
+// What a call answers: the refusal's number or 0, and a place. On success the place is how much was written.
 pub struct Answer {
     pub number: u8,
     pub place: usize,
 }
 
 impl Answer {
-    // A refusal that has no place.
+    // A refusal without a place.
     pub fn refused(number: u8) -> Answer
         ensures { λ r. ⌜ r ≡ answer number 0 ⌝ }
     {
         Answer { number, place: 0 }
     }
 
-    // A refusal at a place: of an instruction or of a bundle.
+    // A refusal at an instruction or a bundle.
     pub fn refused_at(number: u8, place: usize) -> Answer
         ensures { λ r. ⌜ r ≡ answer number place ⌝ }
     {
         Answer { number, place }
     }
 
-    // No refusal; the place is what was written, or 0.
+    // A success. The place is how much was written, or 0.
     pub fn taken(place: usize) -> Answer
         ensures { λ r. ⌜ r ≡ answer (numberOf Taken) place ⌝ }
     {
@@ -371,13 +369,13 @@ impl Answer {
     }
 }
 
-// One instruction read: its word and the bytes that it took, or the refusal's number.
+// The result of reading one instruction: its word and how many bytes it took, or the refusal's number.
 pub enum Decoded {
     Word(u64, usize),
     RefusedWith(u8),
 }
 
-// How a run ends; Refused where its layout or memory is refused.
+// How a run ends. Refused means that the layout or the memory was refused.
 pub enum Ending {
     Done,
     NoArrow,
@@ -389,7 +387,7 @@ pub enum Ending {
     Refused,
 }
 
-// Document 01's numbers of endings, and 26 of the requests; a refused run answers Refusal::BAD_LAYOUT.
+// The numbers of the endings. No landing (26) comes from a change request, the others from document 01. A refused run answers bad layout (7).
 impl Ending {
     pub const DONE: u8 = 20;
 
@@ -406,7 +404,7 @@ impl Ending {
     pub const NO_LANDING: u8 = 26;
 }
 
-// What a run answers: its ending, the steps taken, the pairs recorded and the readings used.
+// What a run answers: its ending, and how many steps it took, pairs it recorded and readings it used.
 pub struct RunAnswer {
     pub ending: Ending,
     pub steps: u32,
@@ -415,18 +413,18 @@ pub struct RunAnswer {
 }
 
 impl RunAnswer {
-    // The log cells of a pair.
+    // Each recorded pair takes two log cells: event and value.
     pub const PAIR_CELLS: usize = 2;
 }
 
-// A run's answer and the record that it leaves.
+// A run's answer, and the record after the run.
 pub struct Outcome {
     pub machine: Machine,
     pub answer: RunAnswer,
 }
 
 impl Outcome {
-    // A refused run: the record that was given, 7 and three zeros.
+    // A refused run: the record as it was, bad layout (7) and three zeros.
     pub fn refused(machine: Machine) -> Outcome
         ensures { λ r. ⌜ r ≡ outcomeOf machine Refused 0 0 0 ⌝ }
     {
@@ -442,14 +440,13 @@ impl Outcome {
     }
 }
 
-// Installing's answer and the record that it yields.
+// What installing answers, and the record that it yields.
 pub struct Installed {
     pub machine: Machine,
     pub answer: Answer,
 }
 
-// What one word would do to a machine: go to an address, set a register, set a cell, record an order,
-// take a reading, end with a status, or wait.
+// What one word does to a machine: jump, set a register or a cell, record an order, take a reading, end with a status, or pause.
 pub enum Effect {
     Go(u32),
     SetReg(usize, u32),
