@@ -1,4 +1,4 @@
-// `hemdroas_rewrite` and `hemdroas_check`: words into commands, and the check of commands.
+// `hemdroas_rewrite` and `hemdroas_check`: turn words into commands, and check commands.
 use capi_values::answers::ANSWER;
 use capi_values::answers::answer_of;
 use capi_values::layouts::LAYOUT;
@@ -9,7 +9,6 @@ ghost use Rattle.spec.specs.Bundles.{rewriteAnswer, rewriteOutput};
 ghost use Rattle.capi_spec.specs.Numbers.{layoutFrom, answerTo};
 ghost use Rattle.capi_spec.specs.Hosts.{checkFor};
 
-// Rewrites a routine's words into commands.
 #[no_mangle]
 pub extern "C" fn hemdroas_rewrite(
     layout: &[u32; LAYOUT],
@@ -24,7 +23,6 @@ pub extern "C" fn hemdroas_rewrite(
     *answer = answer_of(rewriter::rewrite(layout_of(layout), words, commands));
 }
 
-// Checks a list of commands.
 #[no_mangle]
 pub extern "C" fn hemdroas_check(
     layout: &[u32; LAYOUT],

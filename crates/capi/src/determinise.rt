@@ -1,4 +1,4 @@
-// `hemdroas_determinise`: a policy from a drawing with several arrows and starts.
+// `hemdroas_determinise`: makes a policy from a drawing with several arrows for one event and several starts.
 use capi_values::answers::MADE;
 use capi_values::answers::made_of;
 ghost use mathlib.Core.Path.{_≡_};
@@ -6,17 +6,16 @@ ghost use lib.ListN.{length};
 ghost use Rattle.policy_determinise.specs.Drawings.{drawingOf, determiniseOf, determiniseTable};
 ghost use Rattle.capi.specs.determinise.Numbers.{startsFrom, policyTo};
 
-// A map of 16 states is below it.
+// A set of 16 states is below this.
 const MAPS: u32 = 65536;
 
-// A map of starts; one that has a bit above 15 is none, since both are refused with 16 (bad drawing).
+// Start sets that are out of range become empty; both are refused as bad drawing (16).
 fn starts_of(map: u32) -> u16
     ensures { λ r. ⌜ r ≡ startsFrom map ⌝ }
 {
     if map < MAPS { map as u16 } else { 0 }
 }
 
-// Makes the policy of a drawing with several arrows and starts.
 #[no_mangle]
 pub extern "C" fn hemdroas_determinise(
     states: u32,

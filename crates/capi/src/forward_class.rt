@@ -1,4 +1,4 @@
-// `hemdroas_forward` and `hemdroas_check_forward`: the checks for the class of routines that always finish.
+// `hemdroas_forward` and `hemdroas_check_forward`: check that words or commands are a routine that always finishes.
 use capi_values::answers::ANSWER;
 use capi_values::answers::answer_of;
 use capi_values::layouts::LAYOUT;
@@ -7,7 +7,6 @@ ghost use mathlib.Core.Path.{_≡_};
 ghost use Rattle.capi_spec.specs.Numbers.{layoutFrom, answerTo};
 ghost use Rattle.forward_spec.specs.Forward.{forwardAnswer, checkForwardAnswer};
 
-// Checks that a routine's words are of the class that always finishes.
 #[no_mangle]
 pub extern "C" fn hemdroas_forward(words: &[u64], answer: &mut [u32; ANSWER])
     ensures { λ _. ⌜ now (answer .exit) ≡ answerTo (forwardAnswer (now (words .entry))) ⌝ }
@@ -15,7 +14,6 @@ pub extern "C" fn hemdroas_forward(words: &[u64], answer: &mut [u32; ANSWER])
     *answer = answer_of(forward::forward(words));
 }
 
-// Checks a list of commands, and that it is of that class.
 #[no_mangle]
 pub extern "C" fn hemdroas_check_forward(
     layout: &[u32; LAYOUT],

@@ -1,4 +1,4 @@
-// `hemdroas_install`: a policy into memory.
+// `hemdroas_install`: writes a policy into memory.
 use capi_values::answers::ANSWER;
 use capi_values::answers::answer_of;
 use capi_values::layouts::LAYOUT;
@@ -10,7 +10,6 @@ ghost use mathlib.Core.Path.{_≡_};
 ghost use Rattle.spec.specs.Policies.{policyOf};
 ghost use Rattle.capi_spec.specs.Hosts.{hostInstalled, installFor};
 
-// Installs a policy.
 #[no_mangle]
 pub extern "C" fn hemdroas_install(
     layout: &[u32; LAYOUT],

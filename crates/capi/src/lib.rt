@@ -1,4 +1,4 @@
-// The C interface: each function in the module of its part, over numbers, arrays and slices.
+// The C interface of include/hemdroas.h: a module for each part. Functions take numbers, arrays and slices.
 pub mod bytes;
 pub mod commands;
 pub mod determinise;

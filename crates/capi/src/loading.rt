@@ -1,4 +1,4 @@
-// `hemdroas_load`: a routine's bytes to an installed machine in one call.
+// `hemdroas_load`: turns a routine's bytes into an installed machine, in one call.
 use capi_values::answers::ANSWER;
 use capi_values::answers::answer_of;
 use capi_values::layouts::LAYOUT;
@@ -10,7 +10,6 @@ ghost use mathlib.Core.Path.{_≡_};
 ghost use Rattle.spec.specs.Policies.{policyOf};
 ghost use Rattle.capi_spec.specs.Hosts.{hostLoaded, loadFor};
 
-// Loads a routine: all that comes before a run, in one call.
 #[no_mangle]
 pub extern "C" fn hemdroas_load(
     layout: &[u32; LAYOUT],

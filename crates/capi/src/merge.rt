@@ -1,4 +1,4 @@
-// `hemdroas_merge`: one policy from two.
+// `hemdroas_merge`: makes one policy from two.
 use buffers::stores::store_cells;
 use capi_values::answers::ANSWER;
 use capi_values::answers::answer_of;
@@ -9,12 +9,11 @@ use types::PolicyNumbers;
 ghost use mathlib.Core.Path.{_≡_};
 ghost use Rattle.capi.specs.merge.Numbers.{sideFrom, mergedTo, hostMerged, mergeFor};
 
-// How many numbers one of the two has: states, start and, from there on, ceilings.
+// Where the ceilings begin in a policy's numbers, after states and start, and how many numbers there are.
 const CEILINGS: usize = 2;
 
 pub const POLICY: usize = CEILINGS + PolicyNumbers::ORDERS as usize;
 
-// One side of a merge.
 fn side_of(xs: &[u32; POLICY]) -> Side
     ensures { λ r. ⌜ r ≡ sideFrom (now (xs .entry)) ⌝ }
 {
@@ -26,7 +25,6 @@ fn side_of(xs: &[u32; POLICY]) -> Side
     Side { policy, ceilings }
 }
 
-// What was merged, as such numbers.
 fn merged_of(m: Merged) -> [u32; POLICY]
     ensures { λ r. ⌜ r ≡ mergedTo m ⌝ }
 {
@@ -37,7 +35,6 @@ fn merged_of(m: Merged) -> [u32; POLICY]
     xs
 }
 
-// Merges two policies into one that allows what both do.
 #[no_mangle]
 pub extern "C" fn hemdroas_merge(
     one: &[u32; POLICY],

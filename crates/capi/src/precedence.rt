@@ -1,4 +1,4 @@
-// `hemdroas_precedence`: a policy from pairs of events.
+// `hemdroas_precedence`: makes a policy from pairs of events.
 use capi_values::answers::MADE;
 use capi_values::answers::made_of;
 ghost use mathlib.Core.Path.{_≡_};
@@ -6,7 +6,6 @@ ghost use lib.ListN.{length};
 ghost use Rattle.policy_spec.specs.precedence.Precedence.{makeOf, makeTable};
 ghost use Rattle.capi.specs.precedence.Hosts.{precedenceTo};
 
-// Makes the policy of pairs of events, each first before its second.
 #[no_mangle]
 pub extern "C" fn hemdroas_precedence(pairs: &[u8], table: &mut [u8], made: &mut [u32; MADE])
     ensures made { λ _. ⌜ now (made .exit) ≡ precedenceTo (makeOf (now (pairs .entry)) (length (now (table .entry)))) ⌝ }

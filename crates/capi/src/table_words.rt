@@ -1,9 +1,9 @@
-// `hemdroas_word_right`: the test of four bytes of a policy's table as one word.
+// `hemdroas_word_right`: tests four bytes of a policy's table as one word.
 ghost use mathlib.Core.Path.{_≡_};
 ghost use Rattle.installer.specs.table_words.Words.{wordRight};
 ghost use Rattle.capi.specs.table_words.Hosts.{yesOrNo};
 
-// Whether four bytes of a policy's table, as one word, are right: 1 for yes, 0 for no.
+// Returns 1 for yes and 0 for no.
 #[no_mangle]
 pub extern "C" fn hemdroas_word_right(states: u32, word: u32) -> u32
     ensures { λ r. ⌜ r ≡ yesOrNo (wordRight states word) ⌝ }

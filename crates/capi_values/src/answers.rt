@@ -1,11 +1,11 @@
-// Answers as arrays of numbers.
+// Turns answers into the arrays of numbers that a C host sees.
 use types::Answer;
 use types::RunAnswer;
 ghost use mathlib.Core.Path.{_≡_};
 ghost use Prim.Native.Nat.{_<_, _^_};
 ghost use Rattle.capi_spec.specs.Numbers.{answerTo, runAnswerTo, madeTo};
 
-// How many numbers an answer has; a run's answer; a made policy.
+// How many numbers these have: an answer, a run's answer, a made policy.
 pub const ANSWER: usize = 2;
 
 pub const RUN_ANSWER: usize = 4;
@@ -32,7 +32,7 @@ pub fn run_answer_of(a: RunAnswer) -> [u32; RUN_ANSWER]
     ]
 }
 
-// A made policy: its answer, its states and one number more.
+// A made policy: its answer, its state count, and one more number.
 pub fn made_of(a: Answer, states: u32, more: u32) -> [u32; MADE]
     requires { ⌜ a .place < 2 ^ 32 ⌝ }
     ensures { λ r. ⌜ r ≡ madeTo a states more ⌝ }

@@ -1,4 +1,4 @@
-// A layout from an array of numbers.
+// Turns a C host's array of numbers into a layout.
 use buffers::stores::store_cells;
 use types::Layout;
 use types::PolicyNumbers;
@@ -8,14 +8,14 @@ ghost use lib.ListN.{length};
 ghost use Rattle.types.specs.Names.{orders};
 ghost use Rattle.capi_spec.specs.Numbers.{numbersFrom, layoutFrom};
 
-// How many numbers a layout has: the ceilings stand behind the others.
+// Where the ceilings begin in a layout's numbers, and how many numbers there are.
 const CEILINGS: usize = 8;
 
 const ORDERS: usize = PolicyNumbers::ORDERS as usize;
 
 pub const LAYOUT: usize = CEILINGS + ORDERS;
 
-// The ceilings of the orders: the numbers from a place on to the last.
+// The ceilings of the orders, from index `at` on.
 pub fn ceilings_from(xs: &[u32], at: usize) -> [u32; ORDERS]
     requires { ⌜ length (now xs) ≡ at + orders ⌝ }
     ensures { λ r. ⌜ r ≡ numbersFrom orders at (now (xs .entry)) ⌝ }
@@ -25,7 +25,6 @@ pub fn ceilings_from(xs: &[u32], at: usize) -> [u32; ORDERS]
     ceilings
 }
 
-// A layout.
 pub fn layout_of(xs: &[u32; LAYOUT]) -> Layout
     ensures { λ r. ⌜ r ≡ layoutFrom (now (xs .entry)) ⌝ }
 {

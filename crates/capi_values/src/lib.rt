@@ -1,4 +1,4 @@
-// Converts a C host's numbers into records and answers, and back.
+// Converts a C host's numbers into records, and answers into numbers.
 pub mod answers;
 pub mod layouts;
 pub mod machines;

@@ -1,4 +1,4 @@
-// The machine's record from an array of numbers, and back.
+// Turns a C host's array of numbers into a machine's record, and back.
 use crate::records::TRAILER;
 use crate::records::read_record;
 use crate::records::store_record;
@@ -7,10 +7,9 @@ ghost use mathlib.Core.Path.{_≡_};
 ghost use Rattle.types.specs.Names.{registers};
 ghost use Rattle.capi_spec.specs.Numbers.{numbersAfter, machineFrom, machineTo};
 
-// How many numbers it has.
+// How many numbers a machine has.
 pub const RECORD: usize = Machine::REGISTERS + TRAILER;
 
-// A record's machine.
 pub fn machine_of(xs: &[u32; RECORD]) -> Machine
     ensures { λ r. ⌜ r ≡ machineFrom (now (xs .entry)) ⌝ }
 {
@@ -27,7 +26,7 @@ pub fn store_machine(xs: &mut [u32; RECORD], m: Machine)
     store_record(xs, &m.regs, m.pc, status);
 }
 
-// A machine's record, stored over zeros: their status is one, running.
+// A machine as numbers. The zeros that it is stored over have a valid status, running.
 pub fn record_of(m: Machine) -> [u32; RECORD]
     ensures { λ r. ⌜ r ≡ machineTo m ⌝ }
 {

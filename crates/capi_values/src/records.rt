@@ -1,4 +1,4 @@
-// Registers and status of a record, the machine's or the engine's, read from an array of numbers and stored in it.
+// Reads registers and status of a machine or an engine from an array of numbers, and stores them there.
 use crate::statuses::status_number;
 use crate::statuses::status_of;
 use buffers::stores::store_cells;
@@ -8,10 +8,10 @@ ghost use Prim.Native.Nat.{_+_};
 ghost use lib.ListN.{length, take};
 ghost use Rattle.capi_spec.specs.Numbers.{statusFrom, trailer, recordTo, statusIn, numbersAfter};
 
-// Behind its registers a record has pc or index, then its status.
+// After the registers come pc or index, then the status.
 pub const TRAILER: usize = 2;
 
-// Reads a record's numbers, a machine's or an engine's: its registers into those lent, and its status.
+// Copies the registers into `regs`, and returns the status.
 pub fn read_record(xs: &[u32], regs: &mut [u32]) -> Status
     requires { ⌜ length (now xs) ≡ length (now regs) + trailer ⌝ }
     ensures registers { λ _. ⌜ now (regs .exit) ≡ take (length (now (regs .entry))) (now (xs .entry)) ⌝ }
@@ -23,7 +23,7 @@ pub fn read_record(xs: &[u32], regs: &mut [u32]) -> Status
     status_of(xs[last])
 }
 
-// Stores a record's numbers after a run. One whose status number is no status was not run, and stays as it was.
+// Stores the numbers after a run. If the old status number is no status, nothing was run and all stays as it was.
 pub fn store_record(xs: &mut [u32], regs: &[u32], at: u32, status: Status)
     requires { ⌜ length (now xs) ≡ length (now regs) + trailer ⌝ }
     ensures { λ _. ⌜ now (xs .exit) ≡ numbersAfter (length (now (regs .entry))) (now (xs .entry)) (recordTo (now (regs .entry)) at status) ⌝ }

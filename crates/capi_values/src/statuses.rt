@@ -1,9 +1,9 @@
-// The five statuses as numbers.
+// Converts the five statuses to numbers and back.
 use types::Status;
 ghost use mathlib.Core.Path.{_≡_};
 ghost use Rattle.capi_spec.specs.Numbers.{statusFrom, statusNumber};
 
-// A status; any number that is none counts as faulted.
+// A number that is no status counts as faulted.
 pub fn status_of(x: u32) -> Status
     ensures { λ r. ⌜ r ≡ statusFrom x ⌝ }
 {

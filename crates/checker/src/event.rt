@@ -1,4 +1,4 @@
-// The shape of EVENT, which asks the policy first.
+// Tests the shape of EVENT, which asks the policy before it records.
 use crate::word::HIDDEN;
 use crate::word::is_word;
 use types::Command;
@@ -9,7 +9,7 @@ ghost use Rattle.checker.specs.event.Event.{eventWords};
 
 const EVENTS: u64 = PolicyNumbers::EVENTS as u64;
 
-// An event: one number throughout.
+// Whether four words are an event bundle: LOOK and EVENT must name the same event.
 pub fn is_event(w: u64, x: u64, y: u64, z: u64) -> bool
     ensures { λ r. ⌜ r ≡ eventWords w x y z ⌝ }
 {

@@ -1,4 +1,4 @@
-// The shape of GOX, which masks its target in the hidden register.
+// Tests the shape of GOX, which masks its target in the hidden register.
 use crate::word::HIDDEN;
 use crate::word::is_word;
 use types::Bundle;
@@ -14,7 +14,6 @@ ghost use Rattle.spec.specs.Bundles.{addressOf, isBundle};
 
 const LENGTH: u64 = Bundle::LENGTH as u64;
 
-// The address of bundle g.
 fn address(l: Layout, g: u64) -> u64
     requires { ⌜ addressOf l g < 2 ^ 64 ⌝ }
     ensures { λ r. ⌜ r ≡ addressOf l g ⌝ }
@@ -22,7 +21,7 @@ fn address(l: Layout, g: u64) -> u64
     l.base as u64 + LENGTH * g
 }
 
-// GOX, with the last address of n bundles and the first.
+// Whether four words are a GOX whose mask keeps the target within n bundles.
 pub fn is_gox(l: Layout, n: usize, w: u64, x: u64, y: u64, z: u64) -> bool
     requires { ⌜ (0 < n) × (addressOf l n ≤ 2 ^ 32) ⌝ }
     ensures { λ r. ⌜ r ≡ isBundle l n (GOX (aOf w) (aOf z) (bOf z) (cOf z)) w x y z ⌝ }

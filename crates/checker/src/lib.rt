@@ -1,4 +1,4 @@
-// Checks a list of commands from any producer: every bundle has a known shape, and the last is HALT.
+// Checks a command list, whoever wrote it: each bundle must have a known shape, and the last must be HALT.
 pub mod event;
 pub mod indirect_jump;
 pub mod masked_access;
@@ -19,7 +19,7 @@ ghost use lib.ListN.{length};
 ghost use Rattle.types.specs.Names.{mostBundles, bundleLength};
 ghost use Rattle.spec.specs.Bundles.{addressOf, passesAt, checkFrom, checkAnswer};
 
-// Whether bundle h of n has a shape, and is a HALT if it is the last.
+// Whether bundle h of n has a known shape, and is HALT if it is the last.
 fn passes(l: Layout, n: usize, commands: &[u64], h: usize) -> bool
     requires { ⌜ (0 < n) × (n ≤ mostBundles) × (addressOf l n ≤ 2 ^ 32) × (h < n) × (bundleLength * n ≤ length (now commands)) ⌝ }
     ensures { λ r. ⌜ r ≡ passesAt l n (now (commands .entry)) h ⌝ }
@@ -36,7 +36,7 @@ fn passes(l: Layout, n: usize, commands: &[u64], h: usize) -> bool
     )
 }
 
-// The lowest of n bundles that does not pass.
+// Refuses the first of n bundles that does not pass as bad bundle (11).
 fn scan(l: Layout, n: usize, commands: &[u64]) -> Answer
     requires { ⌜ (0 < n) × (n ≤ mostBundles) × (addressOf l n ≤ 2 ^ 32) × (bundleLength * n ≤ length (now commands)) ⌝ }
     ensures { λ r. ⌜ r ≡ checkFrom l n (now (commands .entry)) 0 n ⌝ }

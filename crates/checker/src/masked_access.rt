@@ -1,4 +1,4 @@
-// The shapes of LOAD and STORE, which mask their address in the hidden register.
+// Tests the shapes of LOAD and STORE, which mask their address in the hidden register.
 use crate::word::HIDDEN;
 use crate::word::is_word;
 use types::Command;
@@ -8,7 +8,7 @@ ghost use mathlib.Core.Path.{_≡_};
 ghost use Rattle.spec.specs.Bundles.{isBundle};
 ghost use Rattle.checker.specs.masked_access.MaskedAccess.{maskWords, loadOf, storeOf, accessOf};
 
-// The first two words of both: the hidden register becomes the mask of a guest register's address.
+// Whether the first two words mask a guest register's address into the hidden register.
 fn is_mask(l: Layout, w: u64, x: u64) -> bool
     ensures { λ r. ⌜ r ≡ maskWords l w x ⌝ }
 {
@@ -18,7 +18,6 @@ fn is_mask(l: Layout, w: u64, x: u64) -> bool
         & is_word(x, Command::ORI, HIDDEN, HIDDEN, 0, 0, l.low as u64)
 }
 
-// The third word of a LOAD.
 fn is_load(y: u64) -> bool
     ensures { λ r. ⌜ r ≡ loadOf y ⌝ }
 {
@@ -26,7 +25,6 @@ fn is_load(y: u64) -> bool
     (to < HIDDEN) & is_word(y, Command::LOAD, to, HIDDEN, 0, 0, 0)
 }
 
-// The third word of a STORE.
 fn is_store(y: u64) -> bool
     ensures { λ r. ⌜ r ≡ storeOf y ⌝ }
 {
@@ -34,7 +32,7 @@ fn is_store(y: u64) -> bool
     (from < HIDDEN) & is_word(y, Command::STORE, 0, HIDDEN, from, 0, 0)
 }
 
-// LOAD or STORE, by the third word.
+// Whether four words are a LOAD or a STORE.
 pub fn is_access(l: Layout, w: u64, x: u64, y: u64, z: u64) -> bool
     ensures { λ r. ⌜ r ≡ isBundle l 0 (accessOf w y) w x y z ⌝ }
 {

@@ -1,4 +1,4 @@
-// The shapes of one command and three NOPs: HALT, a plain command, GOIF.
+// Tests the shapes of one command and three NOPs: HALT, a plain command, GOIF.
 use types::Bundle;
 use types::Command;
 use types::Layout;
@@ -14,21 +14,20 @@ const LENGTH: u64 = Bundle::LENGTH as u64;
 
 const NOP: u64 = Command::NOP_WORD;
 
-// HALT, and three that do nothing.
 pub fn is_halt(w: u64, x: u64, y: u64, z: u64) -> bool
     ensures { λ r. ⌜ r ≡ singleWords w x y z (command .halt) ⌝ }
 {
     (w == Command::HALT) & (x == NOP) & (y == NOP) & (z == NOP)
 }
 
-// A plain command on the guest's registers, and three that do nothing.
+// A plain command may use guest registers only.
 pub fn is_plain(w: u64, x: u64, y: u64, z: u64) -> bool
     ensures { λ r. ⌜ r ≡ plainWords w x y z ⌝ }
 {
     is_command(w) & only_guest_registers(w) & (x == NOP) & (y == NOP) & (z == NOP)
 }
 
-// Whether an address is that of one of n bundles.
+// Whether v is the address of one of n bundles.
 fn is_bundle_address(l: Layout, n: usize, v: u64) -> bool
     requires { ⌜ v < 2 ^ 32 ⌝ }
     ensures { λ r. ⌜ r ≡ isBundleAddress l n v ⌝ }
@@ -41,7 +40,7 @@ fn is_bundle_address(l: Layout, n: usize, v: u64) -> bool
     (away % LENGTH == 0) & (away / LENGTH < n as u64)
 }
 
-// GOIF to one of n bundles, and three that do nothing.
+// A GOIF must go to the first command of one of n bundles.
 pub fn is_goif(l: Layout, n: usize, w: u64, x: u64, y: u64, z: u64) -> bool
     ensures { λ r. ⌜ r ≡ goifWords l n w x y z ⌝ }
 {

@@ -1,4 +1,4 @@
-// Bytes of an instruction as numbers: one byte, or the four of v.
+// Reads numbers from an instruction's bytes: one byte, or the four of field v.
 ghost use mathlib.Core.Path.{_≡_};
 ghost use Prim.Native.Nat.{_+_, _*_, _≤_, _<_};
 ghost use lib.ListN.{length};
@@ -19,7 +19,7 @@ fn pair(s: &[u8], at: usize) -> u64
     wide(s[at]) + 256 * wide(s[at + 1])
 }
 
-// v in four bytes, low first, 0 where its bit is 0.
+// The four bytes of v, low first. If its map bit is 0, the field is absent and its value 0.
 pub fn quad(s: &[u8], at: usize, bit: usize) -> u64
     requires { ⌜ at + 4 * bit ≤ length (now s) ⌝ }
     ensures { λ r. ⌜ (r ≡ quadAt bit (now (s .entry)) at) × (r < 4294967296) ⌝ }

@@ -1,4 +1,4 @@
-// Decodes one instruction: by the fast path, or by the full path where that gives no answer.
+// Decodes one instruction. It tries the fast path first, and the full path if that gives no answer.
 use crate::fast_path::LONGEST;
 use crate::fast_path::read_fast;
 use crate::full_path::read_full;
@@ -6,7 +6,7 @@ use types::Decoded;
 ghost use mathlib.Core.Path.{_≡_};
 ghost use Rattle.spec.specs.Bytes.{decodeOne};
 
-// The instruction at the front of s: its word and its bytes, or the refusal. The fast path first.
+// Decodes the instruction at the front of s: its word and its length in bytes, or its refusal.
 pub fn read_one(s: &[u8]) -> Decoded
     ensures { λ r. ⌜ r ≡ decodeOne (now (s .entry)) ⌝ }
 {

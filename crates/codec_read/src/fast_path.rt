@@ -1,4 +1,4 @@
-// Decodes an instruction that is valid and has enough bytes after it; gives no answer for any other.
+// Decodes an instruction that is valid and has enough bytes after it. For any other it gives no answer, and the full path decides.
 use crate::bytes::quad;
 use crate::bytes::wide;
 use types::Decoded;
@@ -11,15 +11,15 @@ ghost use lib.ListN.{length};
 ghost use Rattle.spec.specs.Words.{packOf};
 ghost use Rattle.codec_read.specs.fast_path.Parts.{longest, bytePart, quadPart, ReadPrefix, FastAnswer};
 
-// The greatest map of fields, and the most bytes of an instruction.
+// The largest map byte, and the most bytes of an instruction.
 const TOP_MAP: usize = 63;
 
 pub const LONGEST: usize = 10;
 
-// No answer of the fast path, which refuses nothing itself.
+// Means that the fast path has no answer. It never refuses an instruction itself.
 const NO_ANSWER: u8 = Refusal::TAKEN;
 
-// A field, the place after it, and whether it stands though it is 0.
+// A field's value, the index after it, and whether it is present though 0.
 struct Part {
     value: u64,
     next: usize,
@@ -64,7 +64,7 @@ fn quad_part(s: &[u8], at: usize, bit: usize) -> Part
     }
 }
 
-// The word of fields that are not cut.
+// Packs fields that may exceed their width. A field that does spoils the word, but `fits` rejects it.
 fn join(kind: u64, d: u64, a: u64, b: u64, c: u64, v: u64) -> u64
     requires { ⌜ (kind < 256) × (d < 256) × (a < 256) × (b < 256) × (c < 256) × (v < 4294967296) ⌝ }
     ensures { λ r. ⌜ r ≡ packOf kind d a b c v ⌝ }
@@ -77,7 +77,7 @@ fn join(kind: u64, d: u64, a: u64, b: u64, c: u64, v: u64) -> u64
         + (v << field::AT_V)
 }
 
-// The fields from b on, and the instruction where it is plain that it is taken, or no answer.
+// Reads the fields from b on. Gives the instruction if it is valid, else no answer.
 fn read_fast_rest(s: &[u8], m: usize, at: usize, kind: u64, d: u64, a: u64) -> Decoded
     requires { ⌜ ReadPrefix (now s) m at kind d a ⌝ }
     ensures { λ r. ⌜ FastAnswer r (now (s .entry)) ⌝ }
@@ -105,7 +105,7 @@ fn read_fast_rest(s: &[u8], m: usize, at: usize, kind: u64, d: u64, a: u64) -> D
     Decoded::RefusedWith(NO_ANSWER)
 }
 
-// The instruction at the front of s where it is plain that it is taken, or no answer.
+// Decodes the instruction at the front of s if it is valid, else gives no answer.
 pub fn read_fast(s: &[u8]) -> Decoded
     requires { ⌜ longest ≤ length (now s) ⌝ }
     ensures { λ r. ⌜ FastAnswer r (now (s .entry)) ⌝ }

@@ -1,4 +1,4 @@
-// Decodes one instruction, or gives its first refusal.
+// Decodes any instruction, or finds its first refusal.
 use crate::bytes::quad;
 use crate::bytes::wide;
 use crate::map::map_of;
@@ -14,10 +14,10 @@ ghost use lib.ListN.{length};
 ghost use Rattle.spec.specs.Bytes.{sizeOf, byteAt, fieldsAt, decodeFields, decodeOne};
 ghost use Rattle.codec_read.specs.full_path.Parts.{fieldsFrom};
 
-// The greatest map of fields.
+// The largest map byte.
 const TOP_MAP: usize = 63;
 
-// A field of one byte, 0 where its bit is 0. No branch: an absent field reads the map byte, times 0.
+// A field of one byte, or 0 if its bit is 0. To avoid a branch, an absent field reads the map byte and multiplies it by 0.
 fn byte(s: &[u8], at: usize, bit: usize) -> u64
     requires { ⌜ (bit ≤ 1) × (1 ≤ length (now s)) × (at + bit ≤ length (now s)) ⌝ }
     ensures { λ r. ⌜ r ≡ byteAt bit (now (s .entry)) at ⌝ }
@@ -25,7 +25,7 @@ fn byte(s: &[u8], at: usize, bit: usize) -> u64
     bit as u64 * wide(s[at * bit])
 }
 
-// The fields from b on, which m announces; those before them are read.
+// Reads the fields from b on that the map m announces. The caller has read the others.
 fn fields_from(s: &[u8], at: usize, m: usize, kind: u64, d: u64, a: u64) -> Fields
     requires { ⌜ (1 ≤ length (now s)) × (at + m % 2 + m / 2 % 2 + 4 * (m / 2 / 2) ≤ length (now s)) ⌝ }
     ensures { λ r. ⌜ r ≡ fieldsFrom m (now (s .entry)) at kind d a ⌝ }
@@ -42,7 +42,7 @@ fn fields_from(s: &[u8], at: usize, m: usize, kind: u64, d: u64, a: u64) -> Fiel
     }
 }
 
-// The fields that the map m announces.
+// Reads the fields that the map m announces.
 fn fields_of(s: &[u8], m: usize) -> Fields
     requires { ⌜ sizeOf m ≤ length (now s) ⌝ }
     ensures { λ r. ⌜ r ≡ fieldsAt m (now (s .entry)) ⌝ }
@@ -57,7 +57,7 @@ fn fields_of(s: &[u8], m: usize) -> Fields
     fields_from(s, a_at + a_bit, m / 2 / 2 / 2, kind, d, a)
 }
 
-// A field that stands and is 0 makes the map another than the fields', which is foreign.
+// Refuses the fields, or packs them. The map must mark exactly the nonzero fields, so a present field that is 0 is foreign matter (2).
 fn decode_fields(m: usize, size: usize, f: Fields) -> Decoded
     requires { ⌜ size ≡ sizeOf m ⌝ }
     ensures { λ r. ⌜ r ≡ decodeFields m f ⌝ }
@@ -71,7 +71,7 @@ fn decode_fields(m: usize, size: usize, f: Fields) -> Decoded
     }
 }
 
-// The instruction at the front of s: its word and its bytes, or the refusal.
+// Decodes the instruction at the front of s: its word and its length in bytes, or its refusal.
 pub fn read_full(s: &[u8]) -> Decoded
     ensures { λ r. ⌜ r ≡ decodeOne (now (s .entry)) ⌝ }
 {

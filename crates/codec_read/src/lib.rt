@@ -23,13 +23,13 @@ ghost use Rattle.types.specs.Names.{countBytes};
 ghost use Rattle.spec.specs.Bytes.{scanOf, wordsOf, countOf, readAnswer, readOutput};
 ghost use Rattle.codec_read.specs.Scans.{firstPast};
 
-// What reading n instructions answers, and the place of the first GOIF that leads past them; n where none does.
+// What reading n instructions answers, and the index of the first GOIF that jumps past them, or n if there is none.
 pub struct Scanned {
     pub answer: Answer,
     pub past: usize,
 }
 
-// That place, once word i is looked at.
+// That index, after word i has been looked at.
 fn earliest(n: usize, past: usize, i: usize, w: u64) -> usize
     ensures { λ r. ⌜ r ≡ cond (eqb past n && badLanding n w) i past ⌝ }
 {
@@ -39,7 +39,7 @@ fn earliest(n: usize, past: usize, i: usize, w: u64) -> usize
     past
 }
 
-// A word stored; nothing where there is no room.
+// Stores a word, or nothing if there is no room.
 fn set_word(words: &mut [u64], at: usize, w: u64)
     ensures { λ _. ⌜ now (words .exit) ≡ set (now (words .entry)) at w ⌝ }
 {
@@ -48,8 +48,7 @@ fn set_word(words: &mut [u64], at: usize, w: u64)
     }
 }
 
-// n instructions from s on; their words are stored as far as there is room, up to the first that is refused. The one loop
-// that reads: with no room it only decides.
+// Reads n instructions from s and stores their words while there is room. It stops at the first refusal. With no room it only decides.
 pub fn scan(s: &[u8], n: usize, words: &mut [u64]) -> Scanned
     ensures answer { λ r. ⌜ r .answer ≡ scanOf n 0 (now (s .entry)) ⌝ }
     ensures past { λ r. ⌜ r .past ≡ firstPast n (wordsOf n (now (s .entry))) 0 ⌝ }
@@ -87,7 +86,7 @@ pub fn scan(s: &[u8], n: usize, words: &mut [u64]) -> Scanned
     }
 }
 
-// n in two bytes, low first.
+// The routine's count: two bytes, low first.
 pub fn count(s: &[u8]) -> usize
     requires { ⌜ countBytes ≤ length (now s) ⌝ }
     ensures { λ r. ⌜ r ≡ countOf (now (s .entry)) ⌝ }
@@ -95,7 +94,7 @@ pub fn count(s: &[u8]) -> usize
     index_of(s[0]) + 256 * index_of(s[1])
 }
 
-// What reading answers. Nothing is stored.
+// What reading answers. It stores nothing.
 fn read_answer(bytes: &[u8], room: usize) -> Answer
     ensures { λ r. ⌜ r ≡ readAnswer (now (bytes .entry)) room ⌝ }
 {
@@ -114,8 +113,7 @@ fn read_answer(bytes: &[u8], room: usize) -> Answer
     read.answer
 }
 
-// Reads a routine: the words go to the start of the output. One pass decides, one writes, so that a refusal leaves the
-// output as it was.
+// Reads a routine into the start of `words`. One pass decides and one writes, so a refusal leaves the output as it was.
 pub fn read(bytes: &[u8], words: &mut [u64]) -> Answer
     ensures answer { λ r. ⌜ r ≡ readAnswer (now (bytes .entry)) (length (now (words .entry))) ⌝ }
     ensures content { λ _. ⌜ now (words .exit) ≡ readOutput (now (bytes .entry)) (now (words .entry)) ⌝ }

@@ -1,10 +1,10 @@
-// The map byte of an instruction, which marks its nonzero fields; reading and writing share it.
+// Computes an instruction's map byte, which marks the nonzero fields. Reading and writing share it.
 use types::Fields;
 ghost use mathlib.Core.Path.{_≡_};
 ghost use Prim.Native.Nat.{_+_, _*_, _<_};
 ghost use Rattle.spec.specs.Bytes.{bitOf, mapOf, sizeOf};
 
-// A map of the fields before x, and x's bit below them.
+// Adds field x as a new lowest bit; the fields already in m move up.
 fn append(m: usize, x: u64) -> usize
     requires { ⌜ m < 64 ⌝ }
     ensures { λ r. ⌜ r ≡ 2 * m + bitOf x ⌝ }
@@ -12,7 +12,7 @@ fn append(m: usize, x: u64) -> usize
     if x == 0 { 2 * m } else { 2 * m + 1 }
 }
 
-// The map of the fields that stand.
+// The map that marks the nonzero fields.
 pub fn map_of(f: Fields) -> usize
     ensures { λ r. ⌜ r ≡ mapOf f ⌝ }
 {
@@ -22,7 +22,7 @@ pub fn map_of(f: Fields) -> usize
     )
 }
 
-// How many bytes an instruction of the map m takes.
+// How many bytes an instruction with map m takes.
 pub fn size_of(m: usize) -> usize
     requires { ⌜ m < 64 ⌝ }
     ensures { λ r. ⌜ r ≡ sizeOf m ⌝ }

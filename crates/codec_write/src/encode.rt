@@ -10,7 +10,7 @@ ghost use lib.Seq.{sets as stores};
 ghost use Rattle.spec.specs.Bytes.{bitOf, byteOut, quadOut, regsOut, fieldsOut, encodeOne};
 ghost use Rattle.codec_write.specs.encode.Widths.{encodedSize, ByteFields};
 
-// A field of one byte, left out where it is 0.
+// Writes a field of one byte, or nothing if it is 0. Returns the index after it.
 fn put_byte(bytes: &mut [u8], at: usize, x: u64) -> usize
     requires { ⌜ (at + bitOf x ≤ length (now bytes)) × (x < 256) ⌝ }
     ensures next { λ r. ⌜ r ≡ at + bitOf x ⌝ }
@@ -23,7 +23,7 @@ fn put_byte(bytes: &mut [u8], at: usize, x: u64) -> usize
     at + 1
 }
 
-// Two bytes, low first.
+// Writes two bytes, low first.
 fn put_pair(bytes: &mut [u8], at: usize, x: u64)
     requires { ⌜ at + 2 ≤ length (now bytes) ⌝ }
     ensures { λ _. ⌜ now (bytes .exit) ≡ set (set (now (bytes .entry)) at (x % 256)) (at + 1) (x / 256 % 256) ⌝ }
@@ -32,7 +32,7 @@ fn put_pair(bytes: &mut [u8], at: usize, x: u64)
     bytes[at + 1] = (x / 256 % 256) as u8;
 }
 
-// v in four bytes, low first, left out where it is 0.
+// Writes v in four bytes, low first, or nothing if it is 0. Returns the index after it.
 fn put_quad(bytes: &mut [u8], at: usize, v: u64) -> usize
     requires { ⌜ at + 4 * bitOf v ≤ length (now bytes) ⌝ }
     ensures next { λ r. ⌜ r ≡ at + 4 * bitOf v ⌝ }
@@ -84,7 +84,7 @@ fn put_fields(bytes: &mut [u8], at: usize, f: Fields) -> usize
     put_quad(bytes, r, f.v)
 }
 
-// The bytes of a word, from the place at on; the place after them.
+// Writes the bytes of a word from index `at` on. Returns the index after them.
 pub fn encode_word(bytes: &mut [u8], at: usize, w: u64) -> usize
     requires { ⌜ at + length (encodeOne w) ≤ length (now bytes) ⌝ }
     ensures next { λ r. ⌜ r ≡ at + length (encodeOne w) ⌝ }

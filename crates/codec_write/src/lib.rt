@@ -24,7 +24,7 @@ fn encoded_size(w: u64) -> usize
     size_of(map_of(fields(w)))
 }
 
-// The first refusal among the words, or the number of the routine's bytes, or 9 where there is no room for these.
+// The first refusal among the words, or how many bytes the routine takes, or small hopper (9) if there is no room for them.
 fn measure(words: &[u64], room: usize) -> Answer
     requires { ⌜ length (now words) ≤ mostInstructions ⌝ }
     ensures { λ r. ⌜ r ≡ firstRefused wordRefusal (now (words .entry)) 0 (roomFor room (length (routineOf (now (words .entry))))) ⌝ }
@@ -58,7 +58,7 @@ fn emit(words: &[u64], bytes: &mut [u8], at: usize)
     }
 }
 
-// The count and the words' bytes.
+// Writes the count and the bytes of all words.
 fn encode_all(words: &[u64], bytes: &mut [u8])
     requires { ⌜ (countBytes + length (bytesOf (now words)) ≤ length (now bytes)) × (length (now words) ≤ mostInstructions) ⌝ }
     ensures { λ _. ⌜ now (bytes .exit) ≡ stores (now (bytes .entry)) 0 (routineOf (now (words .entry))) ⌝ }
@@ -78,7 +78,7 @@ fn write_check(words: &[u64], room: usize) -> Answer
     measure(words, room)
 }
 
-// Writes a routine: its bytes from the start of the output, which a refusal leaves as it was.
+// Writes a routine to the start of `bytes`. A refusal leaves the output as it was.
 pub fn write(words: &[u64], bytes: &mut [u8]) -> Answer
     ensures answer { λ r. ⌜ r ≡ writeAnswer (now (words .entry)) (length (now (bytes .entry))) ⌝ }
     ensures content { λ _. ⌜ now (bytes .exit) ≡ writeOutput (now (words .entry)) (now (bytes .entry)) ⌝ }

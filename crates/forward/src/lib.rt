@@ -1,4 +1,4 @@
-// Checks guest words for the class of routines that always finish: no GOX, and every GOIF goes to a higher instruction.
+// Checks that a routine's words are forward, so that it always finishes: no GOX, and each GOIF goes to a higher instruction.
 pub mod list;
 
 use types::Answer;
@@ -11,7 +11,7 @@ ghost use lib.ListN.{length};
 ghost use Rattle.spec.specs.Words.{routine};
 ghost use Rattle.forward_spec.specs.Forward.{forwardAt, forwardFrom, forwardAnswer};
 
-// Whether instruction h is forward.
+// Whether instruction i, at number h, is forward.
 fn forward_at(h: usize, i: Instr) -> bool
     ensures { λ r. ⌜ r ≡ forwardAt h i ⌝ }
 {
@@ -26,7 +26,7 @@ fn forward_at(h: usize, i: Instr) -> bool
     }
 }
 
-// The lowest instruction that breaks the class.
+// The first instruction that is not forward (18).
 fn scan_words(words: &[u64]) -> Answer
     ensures { λ r. ⌜ r ≡ forwardFrom (routine (now (words .entry))) 0 (length (now (words .entry))) ⌝ }
 {
@@ -40,7 +40,7 @@ fn scan_words(words: &[u64]) -> Answer
     Answer::taken(0)
 }
 
-// Checks guest words: 5, then 3, 2, 4 or 8 of the lowest word refused, then 18.
+// Checks words: oversize (5), then the first bad word's refusal, then not forward (18).
 pub fn forward(words: &[u64]) -> Answer
     ensures { λ r. ⌜ r ≡ forwardAnswer (now (words .entry)) ⌝ }
 {

@@ -1,4 +1,4 @@
-// Checks a command list for the class of routines that always finish.
+// Checks that a command list is forward, so that it always finishes.
 use checker::check;
 use types::Answer;
 use types::Bundle;
@@ -13,10 +13,9 @@ ghost use Rattle.types.specs.Names.{bundleLength};
 ghost use Rattle.spec.specs.Bundles.{bundleAt};
 ghost use Rattle.forward_spec.specs.Forward.{forwardWord, forwardFrom, checkForwardAnswer};
 
-// Commands of a bundle.
 const LENGTH: u64 = Bundle::LENGTH as u64;
 
-// Whether bundle h is forward, by its first word: a GOX begins with a shift.
+// Whether bundle h is forward. Its first word is enough: only GOX begins with a shift.
 fn forward_word(l: Layout, h: usize, w: u64) -> bool
     ensures { λ r. ⌜ r ≡ forwardWord l h w ⌝ }
 {
@@ -32,7 +31,7 @@ fn forward_word(l: Layout, h: usize, w: u64) -> bool
     (h as u64) < (to - base) / LENGTH
 }
 
-// The lowest bundle that breaks the class.
+// The first bundle that is not forward (18).
 fn scan_bundles(l: Layout, commands: &[u64]) -> Answer
     ensures { λ r. ⌜ r ≡ forwardFrom (bundleAt l (now (commands .entry))) 0 (length (now (commands .entry)) / bundleLength) ⌝ }
 {
@@ -47,7 +46,7 @@ fn scan_bundles(l: Layout, commands: &[u64]) -> Answer
     Answer::taken(0)
 }
 
-// Checks a list of commands: all the checker's refusals, then 18.
+// Checks a command list: all the checker's refusals, then not forward (18).
 pub fn check_forward(layout: Layout, commands: &[u64]) -> Answer
     ensures { λ r. ⌜ r ≡ checkForwardAnswer layout (now (commands .entry)) ⌝ }
 {

@@ -1,4 +1,4 @@
-// Tests a list of landings, and computes the cells that hold its bits.
+// Tests a list of landings, and computes the cells that hold a bit for each landing.
 use types::Bundle;
 use types::Layout;
 ghost use mathlib.Core.Path.{_≡_};
@@ -9,10 +9,10 @@ ghost use lib.ListN.{length, getD, set};
 ghost use Rattle.types.specs.Names.{mostBundles, landingCells, cellBits};
 ghost use Rattle.spec.specs.Landings.{rightLandings, landingsOf};
 
-// A landing is below it.
+// Every landing is below this.
 const MOST: u32 = Bundle::MOST as u32;
 
-// Whether a list of landings rises strictly and has no entry above 1,023.
+// Whether the landings rise strictly and none is above 1,023.
 pub fn landings_right(landings: &[u32]) -> bool
     ensures { λ r. ⌜ r ≡ rightLandings (now (landings .entry)) ⌝ }
 {
@@ -32,10 +32,9 @@ pub fn landings_right(landings: &[u32]) -> bool
     true
 }
 
-// How many cells hold a bit for each landing.
 pub const CELLS: usize = Layout::LANDING_CELLS as usize;
 
-// A landing's bit set.
+// Sets the bit of landing x.
 fn mark(cells: &mut [u32; CELLS], x: u32)
     requires { ⌜ (x < mostBundles) × (length (now cells) ≡ landingCells) ⌝ }
     ensures { λ _. ⌜ now (cells .exit) ≡ set (now (cells .entry)) (x / cellBits) (bitOr (getD (now (cells .entry)) (x / cellBits) 0) (2 ^ (x % cellBits))) ⌝ }

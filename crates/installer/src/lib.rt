@@ -24,7 +24,7 @@ ghost use Rattle.spec.specs.Layouts.{rightLayout};
 ghost use Rattle.spec.specs.Policies.{lentPolicy, rightPolicy};
 ghost use Rattle.spec.specs.Machines.{installAnswer, installOf, installMemory};
 
-// Whether a policy can be installed under a layout that is right: the four conditions of refusal 10 (bad policy).
+// Whether a policy fits a right layout. If not, it is refused as bad policy (10).
 fn policy_right(layout: Layout, policy: PolicyNumbers, table: &[u8]) -> bool
     requires { ⌜ rightLayout layout ≡ true ⌝ }
     ensures { λ r. ⌜ r ≡ rightPolicy layout (lentPolicy policy (now (table .entry)) []) ⌝ }
@@ -35,7 +35,7 @@ fn policy_right(layout: Layout, policy: PolicyNumbers, table: &[u8]) -> bool
     false
 }
 
-// What installing answers. Nothing is written.
+// What installing answers. It writes nothing.
 pub fn install_answer(
     layout: Layout,
     policy: PolicyNumbers,
@@ -57,7 +57,7 @@ pub fn install_answer(
     Answer::taken(0)
 }
 
-// Installing: the start state to the state cell, the table to its cells and the landings' bits to theirs, nothing else.
+// Writes the start state to the state cell, the table to its cells, the landing bits to theirs, and nothing else.
 pub fn install(
     layout: Layout,
     policy: PolicyNumbers,

@@ -14,8 +14,7 @@ ghost use Rattle.installer.specs.table.Tables.{tableRight};
 // The bytes of a word.
 const WORD: usize = 4;
 
-// Whether every byte of a table is a state or no arrow: word after word, of which a table of 16 bytes a state is made.
-// No early exit, so that many are tested at once.
+// Whether every byte of a table is a state or no arrow. The loop has no early exit, so the compiler can test many words at once.
 fn entries_right(states: u32, table: &[u8]) -> bool
     requires { ⌜ (1 ≤ states) × (states ≤ mostStates) × (length (now table) ≡ events * states) ⌝ }
     ensures { λ r. ⌜ r ≡ entriesRight states (now (table .entry)) ⌝ }
@@ -30,8 +29,7 @@ fn entries_right(states: u32, table: &[u8]) -> bool
     ok
 }
 
-// Whether S is from 1 to 16, the table has 16 bytes a state, the start is a state and each byte a state or no arrow. The
-// entries come last: a table that gets that far is made of whole words.
+// Whether the policy's numbers and table are right. The entries come last: a table of 16 bytes a state is made of whole words.
 pub fn table_right(policy: PolicyNumbers, table: &[u8]) -> bool
     ensures { λ r. ⌜ r ≡ tableRight (lentPolicy policy (now (table .entry)) []) ⌝ }
 {

@@ -7,23 +7,23 @@ ghost use lib.ListN.{length, take, drop};
 ghost use Rattle.spec.specs.Policies.{statesRight};
 ghost use Rattle.installer.specs.table_words.Words.{lowBytes, wordBytes, wordRight};
 
-// A number in each of a word's four bytes: 1, the low seven bits, and the top bit.
+// Constants with the same value in each of four bytes: 1, the low seven bits, the top bit.
 const ONES: u32 = 0x0101_0101;
 
 const LOWS: u32 = 0x7F7F_7F7F;
 
 const TOPS: u32 = 0x8080_8080;
 
-// Whether a right layout can have so many states.
+// Whether a state count is from 1 to 16.
 pub fn states_right(states: u32) -> bool
     ensures { λ r. ⌜ r ≡ statesRight states ⌝ }
 {
     (1 <= states) & (states <= Layout::MOST_STATES)
 }
 
-// Whether S is from 1 to 16 and each of a word's four bytes is a state or no arrow. The four are tested at once: 128 − S
-// more than a byte's low seven bits carry into its top bit if they are S or more, and 1 more if they are 127. No sum
-// reaches the next byte. So `over` has the top bits of the bytes that are no state, `full` of those that are 255.
+// Whether each of the four bytes is a state or no arrow (255), all at once. Adding 128 − S to the low seven bits sets the top bit if they are S or more.
+// Adding 1 sets it if they are 127. No sum carries into the next byte.
+// So the top bits of `over` mark the bytes that are no state, those of `full` the bytes that are 255.
 pub fn word_right(states: u32, w: u32) -> bool
     ensures { λ r. ⌜ r ≡ wordRight states w ⌝ }
 {
@@ -36,7 +36,7 @@ pub fn word_right(states: u32, w: u32) -> bool
     over == full
 }
 
-// The word whose bytes, low first, are four of a table.
+// Packs four bytes of a table, low first, into a word.
 pub fn word_at(table: &[u8], at: usize) -> u32
     requires { ⌜ at + wordBytes ≤ length (now table) ⌝ }
     ensures { λ r. ⌜ lowBytes wordBytes r ≡ take wordBytes (drop at (now (table .entry))) ⌝ }

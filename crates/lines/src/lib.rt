@@ -1,4 +1,4 @@
-// Prints lines of text and numbers, for the programs.
+// Prints lines of text and numbers for the programs `trial` and `tray`.
 use libc::STDOUT_FILENO;
 use types::Answer;
 
@@ -10,13 +10,13 @@ pub fn end() {
     write(b"\n");
 }
 
-// The start of a line, or more of it, and a number.
+// Prints a text and a number, without a line end.
 pub fn print(text: &[u8], n: u64) {
     write(text);
     io::print_decimal(STDOUT_FILENO, n);
 }
 
-// A line of a case and its answer.
+// Prints a line with a case's name and its answer.
 pub fn print_case(name: &[u8], a: Answer) {
     write(name);
     print(b" ", a.number as u64);

@@ -1,10 +1,9 @@
-// Tests one bit of a map.
+// Tests one bit of a set that is stored as a number.
 ghost use mathlib.Core.Path.{_≡_};
 ghost use Prim.Native.Nat.{_<_};
 ghost use Rattle.types.specs.Names.{events};
 ghost use Rattle.policy_spec.specs.maps.Maps.{bit};
 
-// Whether a bit of a map is set.
 pub fn has_bit(map: usize, k: usize) -> bool
     requires { ⌜ k < events ⌝ }
     ensures { λ r. ⌜ r ≡ bit map k ⌝ }

@@ -14,7 +14,7 @@ ghost use Rattle.policy_spec.specs.maps.Maps.{bit};
 ghost use Rattle.policy_spec.specs.reachability.Worklists.{Explored};
 ghost use Rattle.policy_determinise.specs.Drawings.{ValidDrawing, drawingOf, unionOf, setAfter, mapsRight, drawingRight, determiniseOf, determiniseTable};
 
-// The successors of a state, if it is in the set.
+// The states m that state k leads to, if k is in the set x; else the empty set.
 fn successors_in(x: u16, k: usize, m: u16) -> u16
     requires { ⌜ k < mostStates ⌝ }
     ensures { λ r. ⌜ r ≡ cond (bit x k) m 0 ⌝ }
@@ -26,7 +26,7 @@ fn successors_in(x: u16, k: usize, m: u16) -> u16
     }
 }
 
-// The set after an event in a set.
+// The set of states that event n leads to from the set x.
 fn next(states: usize, arrows: &[u16], x: u16, n: usize) -> u16
     requires { ⌜ (states ≤ mostStates) × (n < events) × (length (now arrows) ≡ events * states) ⌝ }
     ensures { λ r. ⌜ r ≡ unionOf (now (arrows .entry)) x n states ⌝ }
@@ -40,7 +40,7 @@ fn next(states: usize, arrows: &[u16], x: u16, n: usize) -> u16
     set
 }
 
-// Whether a map has no bit at or above the state count.
+// Whether a set has only states below the state count.
 fn fits_states(m: u16, states: usize) -> bool
     requires { ⌜ states ≤ mostStates ⌝ }
     ensures { λ r. ⌜ r ≡ ltb m (2 ^ states) ⌝ }
@@ -48,7 +48,7 @@ fn fits_states(m: u16, states: usize) -> bool
     (m as u32) < (1 << states)
 }
 
-// Whether no map of a list has a bit at or above the state count.
+// Whether all sets of a list have only states below the state count.
 fn maps_right(states: usize, arrows: &[u16]) -> bool
     requires { ⌜ states ≤ mostStates ⌝ }
     ensures { λ r. ⌜ r ≡ mapsRight states (now (arrows .entry)) ⌝ }
@@ -62,7 +62,7 @@ fn maps_right(states: usize, arrows: &[u16]) -> bool
     ok
 }
 
-// Whether a drawing is not refused with 16 (bad drawing).
+// Whether a drawing is right. If not, it is refused as bad drawing (16).
 fn drawing_right(states: usize, starts: u16, arrows: &[u16]) -> bool
     ensures { λ r. ⌜ r ≡ drawingRight (drawingOf states starts (now (arrows .entry))) ⌝ }
 {
@@ -78,7 +78,7 @@ fn drawing_right(states: usize, starts: u16, arrows: &[u16]) -> bool
         & maps_right(states, arrows)
 }
 
-// The sets that events lead to from the starts.
+// Finds all sets that events lead to from the set of starts.
 fn explore(states: usize, starts: u16, arrows: &[u16]) -> Worklist
     requires { ⌜ ValidDrawing (drawingOf states starts (now arrows)) ⌝ }
     ensures { λ r. ⌜ Explored (setAfter (drawingOf states starts (now (arrows .entry)))) starts r ⌝ }
@@ -101,8 +101,8 @@ fn explore(states: usize, starts: u16, arrows: &[u16]) -> Worklist
     found
 }
 
-// Makes the policy of a drawing: its table from the start of the one lent, its state count and start. The starts are a map of states,
-// and entry 16 × s + n such a map of the successors of state s under event n.
+// Makes the policy of a drawing: writes its table to the start of `table`, and answers its numbers. Bit s of `starts` marks state s as a start.
+// Bit t of entry 16 × s + n says that event n leads from state s to state t.
 pub fn determinise(states: u32, starts: u16, arrows: &[u16], table: &mut [u8]) -> Made
     ensures made { λ r. ⌜ r ≡ determiniseOf (drawingOf states starts (now (arrows .entry))) (length (now (table .entry))) ⌝ }
     ensures table { λ _. ⌜ now (table .exit) ≡ determiniseTable (drawingOf states starts (now (arrows .entry))) (now (table .entry)) ⌝ }

@@ -1,4 +1,4 @@
-// Request 7, 'Two policies at once': makes the policy of pairs of states. The pair of s and t is the number 16 × s + t + 1; 0 is no pair.
+// Request 7, 'Two policies at once': merges two policies. A state is a pair of states s and t, numbered 16 × s + t + 1; 0 means no pair.
 use buffers::cells::index_of;
 use installer::table::table_right;
 use policy_spec::reachability::EVENTS;
@@ -15,26 +15,24 @@ ghost use Rattle.types.specs.Names.{events, noArrow};
 ghost use Rattle.policy_spec.specs.reachability.Worklists.{Explored};
 ghost use Rattle.policy_merge.specs.Pairs.{sideOf, arrowsOf, pair as pairOf, both as bothOf, pairAfter, smaller as smallerOf, mergeMade, withCeilings, mergeOf, mergeTable};
 
-// The mark of no arrow.
 const NO_ARROW: usize = PolicyNumbers::NO_ARROW as usize;
 
-// Orders, each with its ceiling.
 const ORDERS: usize = PolicyNumbers::ORDERS as usize;
 
-// One of the two: a policy's numbers and the ceilings of the orders; its table is lent beside it.
+// One of the two policies: its numbers and ceilings. Its table is passed beside it.
 pub struct Side {
     pub policy: PolicyNumbers,
     pub ceilings: [u32; ORDERS],
 }
 
-// What merging answers: place is the bytes written; the policy's numbers; the ceilings of the orders.
+// The result of merging: bytes written as place, the policy's numbers, and the ceilings.
 pub struct Merged {
     pub answer: Answer,
     pub policy: PolicyNumbers,
     pub ceilings: [u32; ORDERS],
 }
 
-// The state after an event in a state, or no arrow; there is none where the table has no entry.
+// The state after event n in state s, or no arrow, also past the end of the table.
 fn arrow(table: &[u8], s: usize, n: usize) -> usize
     requires { ⌜ (s < 2 ^ 16) × (n < events) ⌝ }
     ensures { λ r. ⌜ (r ≡ getD (now (table .entry)) (events * s + n) noArrow) × (r < 256) ⌝ }
@@ -47,7 +45,7 @@ fn arrow(table: &[u8], s: usize, n: usize) -> usize
     }
 }
 
-// The pair of two states.
+// The number of a pair of states.
 fn pair(s: usize, t: usize) -> u16
     requires { ⌜ (s < 256) × (t < 256) ⌝ }
     ensures { λ r. ⌜ r ≡ pairOf s t ⌝ }
@@ -55,7 +53,7 @@ fn pair(s: usize, t: usize) -> u16
     (MOST * s + t + 1) as u16
 }
 
-// The pair of two arrows; none unless both are.
+// The pair of two arrows, or none if one of them is missing.
 fn both(s: usize, t: usize) -> u16
     requires { ⌜ (s < 256) × (t < 256) ⌝ }
     ensures { λ r. ⌜ r ≡ bothOf s t ⌝ }
@@ -69,7 +67,7 @@ fn both(s: usize, t: usize) -> u16
     pair(s, t)
 }
 
-// The pair after an event in a pair: of the policies, the tables say it alone.
+// The pair after event n in pair x. Only the tables are needed.
 fn next(left: &[u8], right: &[u8], x: u16, n: usize) -> u16
     requires { ⌜ n < events ⌝ }
     ensures { λ r. ⌜ r ≡ pairAfter (arrowsOf (now (left .entry))) (arrowsOf (now (right .entry))) x n ⌝ }
@@ -81,7 +79,7 @@ fn next(left: &[u8], right: &[u8], x: u16, n: usize) -> u16
     both(arrow(left, p / MOST, n), arrow(right, p % MOST, n))
 }
 
-// The pairs that events lead to from a pair.
+// Finds all pairs that events lead to from the start pair.
 fn explore(left: &[u8], right: &[u8], start: u16) -> Worklist
     requires { ⌜ 0 < start ⌝ }
     ensures { λ r. ⌜ Explored (pairAfter (arrowsOf (now (left .entry))) (arrowsOf (now (right .entry)))) start r ⌝ }
@@ -105,7 +103,7 @@ fn least(x: u32, y: u32) -> u32
     if x < y { x } else { y }
 }
 
-// The smaller of each two ceilings.
+// The smaller of the two ceilings of each order.
 fn smaller(c: [u32; ORDERS], d: [u32; ORDERS]) -> [u32; ORDERS]
     ensures { λ r. ⌜ r ≡ smallerOf c d ⌝ }
 {
@@ -118,7 +116,7 @@ fn smaller(c: [u32; ORDERS], d: [u32; ORDERS]) -> [u32; ORDERS]
     out
 }
 
-// What was made, with the ceilings unless it was refused.
+// Adds the ceilings, or zeros if the policy was refused.
 fn with_ceilings(made: Made, ceilings: [u32; ORDERS]) -> Merged
     ensures { λ r. ⌜ r ≡ withCeilings made ceilings ⌝ }
 {
@@ -138,7 +136,7 @@ fn with_ceilings(made: Made, ceilings: [u32; ORDERS]) -> Merged
     }
 }
 
-// The policy of two policies' pairs, or their refusal.
+// Makes the merged policy without ceilings, or refuses it.
 fn made_of(a: PolicyNumbers, left: &[u8], b: PolicyNumbers, right: &[u8], table: &mut [u8]) -> Made
     ensures made { λ r. ⌜ r ≡ mergeMade (sideOf a (now (left .entry))) (sideOf b (now (right .entry))) (length (now (table .entry))) ⌝ }
     ensures table { λ _. ⌜ now (table .exit) ≡ mergeTable (sideOf a (now (left .entry))) (sideOf b (now (right .entry))) (now (table .entry)) ⌝ }
@@ -151,8 +149,7 @@ fn made_of(a: PolicyNumbers, left: &[u8], b: PolicyNumbers, right: &[u8], table:
     policy_reachability::writing::write(explore(left, right, start), table)
 }
 
-// Merges two policies, `left` the table of one and `right` that of the other: the table from the start of the one lent, the state count
-// and start, and the ceilings.
+// Merges two policies, with tables `left` and `right`: writes the merged table to the start of `table`, and answers its numbers and ceilings.
 pub fn merge(one: Side, left: &[u8], other: Side, right: &[u8], table: &mut [u8]) -> Merged
     ensures merged { λ r. ⌜ r ≡ mergeOf (sideOf (one .policy) (now (left .entry))) (one .ceilings) (sideOf (other .policy) (now (right .entry)))
         (other .ceilings) (length (now (table .entry))) ⌝ }

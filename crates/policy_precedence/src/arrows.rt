@@ -1,4 +1,4 @@
-// The arrow of an event in a state: there is one once all events that must come before it are recorded.
+// Computes the arrow of an event in a state. There is one once all events that must come first are recorded.
 use buffers::cells::index_of;
 use policy_spec::precedence::NO_ARROW;
 ghost use mathlib.Core.Path.{_≡_};
@@ -8,10 +8,9 @@ ghost use lib.Count.{ones};
 ghost use Rattle.types.specs.Names.{events};
 ghost use Rattle.policy_spec.specs.precedence.Precedence.{ValidPairs, pairsIn, statesOf, firstsIn, arrowOf};
 
-// The events of a pair.
 pub const PAIR: usize = 2;
 
-// The bit of an event in a state: how many named events are smaller.
+// The bit of event e in a state's number: how many named events are smaller.
 fn bit_index(names: usize, e: usize) -> usize
     requires { ⌜ e < events ⌝ }
     ensures { λ r. ⌜ (r ≡ ones (bitAnd names (2 ^ e - 1))) × (r ≤ e) ⌝ }
@@ -19,7 +18,7 @@ fn bit_index(names: usize, e: usize) -> usize
     usize::count_ones(names & ((1 << e) - 1)) as usize
 }
 
-// Whether all firsts of an event are recorded in a state.
+// Whether all events that must come before e are recorded in state s.
 fn firsts_recorded(names: usize, pairs: &[u8], s: usize, e: usize) -> bool
     requires { ⌜ ValidPairs (now pairs) names ⌝ }
     ensures { λ r. ⌜ r ≡ firstsIn (now (pairs .entry)) s e (pairsIn (now (pairs .entry))) ⌝ }
@@ -35,7 +34,7 @@ fn firsts_recorded(names: usize, pairs: &[u8], s: usize, e: usize) -> bool
     ok
 }
 
-// The state after an event in a state, or no arrow.
+// The state after event e in state s, or no arrow.
 pub fn arrow(names: usize, pairs: &[u8], s: usize, e: usize) -> usize
     requires { ⌜ ValidPairs (now pairs) names × (s < statesOf (now pairs)) × (e < events) ⌝ }
     ensures { λ r. ⌜ (r ≡ arrowOf (now (pairs .entry)) s e) × (r < 256) ⌝ }

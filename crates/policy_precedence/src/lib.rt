@@ -1,4 +1,4 @@
-// Request 11, 'This before that': makes a policy from pairs of events.
+// Request 11, 'This before that': makes a policy from pairs of events, in which the first must come before the second.
 pub mod arrows;
 pub mod unreachable;
 
@@ -36,14 +36,14 @@ fn events_known(pairs: &[u8]) -> bool
     ok
 }
 
-// The map of one event; of no event if it is above 15.
+// The set of one event, or the empty set if it is above 15.
 fn event_bit(e: usize) -> usize
     ensures { λ r. ⌜ r ≡ mapWhere (eqb e) events ⌝ }
 {
     if e < EVENTS { 1 << e } else { 0 }
 }
 
-// The map of the events that the pairs name.
+// The set of events that the pairs name.
 fn named_events(pairs: &[u8]) -> usize
     ensures { λ r. ⌜ r ≡ mapWhere (isNamed (now (pairs .entry))) events ⌝ }
 {
@@ -56,7 +56,7 @@ fn named_events(pairs: &[u8]) -> usize
     map
 }
 
-// The table of as many bytes as the states have entries, from the table's start.
+// Writes the first `bytes` entries of the table.
 fn fill(names: usize, pairs: &[u8], table: &mut [u8], bytes: usize)
     requires { ⌜ ValidPairs (now pairs) names × (bytes ≡ tableBytes (now pairs)) × (bytes ≤ length (now table)) ⌝ }
     ensures { λ _. ⌜ now (table .exit) ≡ build (byteOf (now (pairs .entry))) bytes ++ drop bytes (now (table .entry)) ⌝ }
@@ -68,7 +68,7 @@ fn fill(names: usize, pairs: &[u8], table: &mut [u8], bytes: usize)
     }
 }
 
-// Whether the pairs are not refused with 17 (bad pair).
+// Whether the pairs are right. If not, they are refused as bad pair (17).
 fn pairs_right(names: usize, pairs: &[u8]) -> bool
     requires { ⌜ names ≡ mapWhere (isNamed (now pairs)) events ⌝ }
     ensures { λ r. ⌜ r ≡ pairsRight (now (pairs .entry)) ⌝ }
@@ -78,7 +78,7 @@ fn pairs_right(names: usize, pairs: &[u8]) -> bool
         & (usize::count_ones(names) as usize <= MOST_NAMED)
 }
 
-// How many maps of the named events there are.
+// The number of states: one for each set of named events.
 fn states(names: usize) -> usize
     requires { ⌜ ones names ≤ mostNamed ⌝ }
     ensures { λ r. ⌜ r ≡ 2 ^ ones names ⌝ }
@@ -114,8 +114,8 @@ fn taken(names: usize, pairs: &[u8], states: usize, bytes: usize) -> Made
     }
 }
 
-// Makes the policy of pairs of events, each first before its second, which stand in turn: its table from the start of the one lent,
-// its state count and start, and the map of the events that it never allows.
+// Makes the policy: writes its table to the start of `table`, and answers its numbers and the set of events that it never allows.
+// `pairs` has the first and the second event of each pair in turn.
 pub fn make(pairs: &[u8], table: &mut [u8]) -> Made
     ensures made { λ r. ⌜ r ≡ makeOf (now (pairs .entry)) (length (now (table .entry))) ⌝ }
     ensures table { λ _. ⌜ now (table .exit) ≡ makeTable (now (pairs .entry)) (now (table .entry)) ⌝ }

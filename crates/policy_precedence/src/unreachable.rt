@@ -1,4 +1,4 @@
-// The events that the policy never allows: those still blocked when no more events can be enabled.
+// Finds the events that the policy never allows: those still disabled when no more events can be enabled.
 use crate::arrows::arrow;
 use policy_spec::precedence::EVENTS;
 use policy_spec::precedence::MOST_NAMED;
@@ -10,7 +10,7 @@ ghost use Rattle.types.specs.Names.{events};
 ghost use Rattle.policy_spec.specs.maps.Maps.{mapWhere};
 ghost use Rattle.policy_spec.specs.precedence.Precedence.{ValidPairs, statesOf, blocked, advanceOf, fixpointOf};
 
-// One step towards the fixpoint: the state after an event, if it has an arrow.
+// One step towards the fixpoint: the state after event e if it has an arrow, else the same state.
 fn advance(names: usize, pairs: &[u8], s: usize, e: usize) -> usize
     requires { ⌜ ValidPairs (now pairs) names × (s < statesOf (now pairs)) × (e < events) ⌝ }
     ensures { λ r. ⌜ r ≡ advanceOf (now (pairs .entry)) s e ⌝ }
@@ -19,7 +19,7 @@ fn advance(names: usize, pairs: &[u8], s: usize, e: usize) -> usize
     if next == NO_ARROW { s } else { next }
 }
 
-// The fixpoint: the state in which every event is recorded that ever can be: a pass over all events for each that may be named.
+// The state in which every event is recorded that can be. One pass over all events for each event that may be named is enough.
 pub fn fixpoint(names: usize, pairs: &[u8]) -> usize
     requires { ⌜ ValidPairs (now pairs) names ⌝ }
     ensures { λ r. ⌜ (r ≡ fixpointOf (now (pairs .entry))) × (r < statesOf (now (pairs .entry))) ⌝ }
@@ -33,7 +33,7 @@ pub fn fixpoint(names: usize, pairs: &[u8]) -> usize
     s
 }
 
-// The map of one event if it has no arrow in a state.
+// The set of event e if it has no arrow in state s, else the empty set.
 fn blocked_bit(names: usize, pairs: &[u8], s: usize, e: usize) -> usize
     requires { ⌜ ValidPairs (now pairs) names × (s < statesOf (now pairs)) × (e < events) ⌝ }
     ensures { λ r. ⌜ r ≡ cond (blocked (now (pairs .entry)) s e) (2 ^ e) 0 ⌝ }
@@ -45,7 +45,7 @@ fn blocked_bit(names: usize, pairs: &[u8], s: usize, e: usize) -> usize
     }
 }
 
-// The map of the events that have no arrow in a state.
+// The set of events that have no arrow in state s.
 pub fn blocked_events(names: usize, pairs: &[u8], s: usize) -> usize
     requires { ⌜ ValidPairs (now pairs) names × (s < statesOf (now pairs)) ⌝ }
     ensures { λ r. ⌜ r ≡ mapWhere (blocked (now (pairs .entry)) s) events ⌝ }

@@ -1,4 +1,4 @@
-// A work list of the nodes that events reach; the caller's loop takes the next arrow and says where it leads.
+// A work list of the nodes that events lead to. The caller's loop takes the next arrow and says where it leads.
 pub mod writing;
 
 use policy_spec::reachability::ARROWS;
@@ -14,7 +14,7 @@ ghost use Rattle.types.specs.Names.{events, mostStates};
 ghost use Rattle.policy_spec.specs.reachability.Reach.{indexOf as placeOf};
 ghost use Rattle.policy_spec.specs.reachability.Worklists.{WorklistSized, initialWorklist, insertTarget, hasPending};
 
-// The initial work list: the start alone.
+// The first work list has the start node only.
 pub fn begin(start: u16) -> Worklist
     ensures { λ r. ⌜ r ≡ initialWorklist start ⌝ }
 {
@@ -27,7 +27,7 @@ pub fn begin(start: u16) -> Worklist
     }
 }
 
-// Whether arrow k is one of a node that was found, and these are not too many.
+// Whether arrow k still has to be followed: its node was found, and there are not too many nodes.
 pub fn has_pending(f: Worklist, k: usize) -> bool
     requires { ⌜ WorklistSized f ⌝ }
     ensures { λ r. ⌜ r ≡ hasPending f k ⌝ }
@@ -35,7 +35,7 @@ pub fn has_pending(f: Worklist, k: usize) -> bool
     (k < EVENTS * f.count) & (f.count <= MOST)
 }
 
-// The node of arrow k.
+// The node that arrow k starts from.
 pub fn node(f: Worklist, k: usize) -> u16
     requires { ⌜ k < events * mostStates ⌝ }
     ensures { λ r. ⌜ r ≡ getD (f .nodes) (k / events) 0 ⌝ }
@@ -44,7 +44,7 @@ pub fn node(f: Worklist, k: usize) -> u16
     nodes[k / EVENTS]
 }
 
-// The place of a node among the first n; n if it is not among them.
+// The index of node x among the first n, or n if it is not there.
 fn index_of_node(nodes: &[u16; NODES], n: usize, x: u16) -> usize
     requires { ⌜ (n ≤ mostStates + 1) × (n ≤ length (now nodes)) ⌝ }
     ensures { λ r. ⌜ (r ≡ placeOf (take n (now (nodes .entry))) x) × (r ≤ n) ⌝ }
@@ -59,7 +59,7 @@ fn index_of_node(nodes: &[u16; NODES], n: usize, x: u16) -> usize
     n
 }
 
-// The worklist after arrow k, which leads to x.
+// The work list after arrow k, which leads to node x.
 pub fn step(f: Worklist, k: usize, x: u16) -> Worklist
     requires { ⌜ WorklistSized f × (f .count ≤ mostStates) × (k < events * mostStates) ⌝ }
     ensures { λ r. ⌜ r ≡ insertTarget f k x ⌝ }

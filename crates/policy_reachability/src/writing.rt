@@ -1,4 +1,4 @@
-// Writes the policy of the nodes reached, or refuses it.
+// Writes the policy of the nodes that were found, or refuses it.
 use policy_spec::reachability::ARROWS;
 use policy_spec::reachability::EVENTS;
 use policy_spec::reachability::MOST;
@@ -15,7 +15,7 @@ ghost use Rattle.types.specs.Names.{events, mostStates, answer};
 ghost use Rattle.policy_spec.specs.reachability.Reach.{madeWith};
 ghost use Rattle.policy_spec.specs.reachability.Worklists.{WorklistSized, writtenOf, writtenTable};
 
-// A refusal: all else is 0.
+// A refusal: all other numbers are 0.
 pub fn refused(number: u8) -> Made
     ensures { λ r. ⌜ r ≡ madeWith (answer number 0) 0 ⌝ }
 {
@@ -28,7 +28,6 @@ pub fn refused(number: u8) -> Made
     }
 }
 
-// The first n bytes over the start of the others.
 fn copy(from: &[u8; ARROWS], to: &mut [u8], n: usize)
     requires { ⌜ (n ≤ events * mostStates) × (n ≤ length (now from)) × (n ≤ length (now to)) ⌝ }
     ensures { λ _. ⌜ now (to .exit) ≡ take n (now (from .entry)) ++ drop n (now (to .entry)) ⌝ }
@@ -40,7 +39,7 @@ fn copy(from: &[u8; ARROWS], to: &mut [u8], n: usize)
     }
 }
 
-// Writes the policy of the nodes found: its table from the start of the one lent.
+// Writes the policy's table to the start of `table`, and answers its numbers.
 pub fn write(f: Worklist, table: &mut [u8]) -> Made
     requires { ⌜ WorklistSized f ⌝ }
     ensures made { λ r. ⌜ r ≡ writtenOf f (length (now (table .entry))) ⌝ }

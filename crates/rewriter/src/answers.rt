@@ -1,4 +1,4 @@
-// The answer of rewriting, decided before anything is written.
+// Decides the answer of rewriting before anything is written.
 use types::Answer;
 use types::Bundle;
 use types::Instr;
@@ -13,7 +13,7 @@ ghost use Prim.Native.Nat.{_≤_};
 ghost use Rattle.types.specs.Names.{mostInstructions};
 ghost use Rattle.spec.specs.Bundles.{baseRoomAnswer, rewriteAnswer};
 
-// The answer for n words that are right: the base, then the room for their commands.
+// The answer for n valid words: bad base (13), then small hopper (9), else success.
 pub fn base_room_answer(layout: Layout, n: usize, room: usize) -> Answer
     requires { ⌜ n ≤ mostInstructions ⌝ }
     ensures { λ r. ⌜ r ≡ baseRoomAnswer layout n room ⌝ }

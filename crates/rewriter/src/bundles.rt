@@ -1,4 +1,4 @@
-// The four command words of an instruction's bundle.
+// Builds the four command words of an instruction's bundle.
 use types::Bundle;
 use types::Command;
 use types::Instr;
@@ -9,12 +9,11 @@ ghost use mathlib.Core.Path.{_≡_};
 ghost use Rattle.spec.specs.Bundles.{bundleOf};
 ghost use Rattle.words.specs.Packing.{Packable};
 
-// The hidden register.
 const HIDDEN: u64 = Machine::HIDDEN as u64;
 
 const NOP: u64 = Command::NOP_WORD;
 
-// The four words of an instruction's bundle, among n.
+// The bundle of an instruction in a list of n bundles.
 pub fn bundle(l: Layout, n: usize, i: Instr) -> Bundle
     requires { ⌜ Packable l n i ⌝ }
     ensures { λ r. ⌜ r ≡ bundleOf l n i ⌝ }

@@ -1,4 +1,4 @@
-// Rewrites a routine's words into bundles of four commands: one pass validates, one writes the bundles in place of the words.
+// Rewrites a routine's words into bundles of four commands. One pass validates, one writes the bundles over a copy of the words.
 pub mod answers;
 pub mod bundles;
 
@@ -23,7 +23,7 @@ ghost use Rattle.spec.specs.Bundles.{bundleOf, bundlesFrom, rewriteAnswer, rewr
 ghost use Rattle.words.specs.Packing.{Packable};
 ghost use Rattle.rewriter.specs.Rewriting.{BundlesFit};
 
-// Instruction h of a routine; those past its words are HALT.
+// Instruction h of a routine. After the last word follow HALTs.
 fn instruction_at(words: &[u64], h: usize) -> Instr
     ensures { λ r. ⌜ r ≡ routine (now (words .entry)) h ⌝ }
 {
@@ -43,7 +43,7 @@ fn write_words(commands: &mut [u64], at: usize, w: u64, x: u64, y: u64, z: u64)
     commands[at + 3] = z;
 }
 
-// Bundle h of n, of an instruction.
+// Writes the bundle of instruction i as bundle h of n.
 fn write_bundle(layout: Layout, n: usize, i: Instr, h: usize, commands: &mut [u64])
     requires { ⌜ Packable layout n i × (h < n) × (bundleLength * n ≤ length (now commands)) ⌝ }
     ensures { λ _. ⌜ now (commands .exit) ≡ sets (now (commands .entry)) (bundleLength * h) (bundleOf layout n i .words) ⌝ }
@@ -60,8 +60,7 @@ fn write_bundle(layout: Layout, n: usize, i: Instr, h: usize, commands: &mut [u6
     );
 }
 
-// The bundles of the k words at the start of a list, in place of them. The last goes first: bundle h lies from 4h on, so
-// that it covers no word before word h.
+// Replaces the k words at the start of `commands` by their bundles. It starts with the last: bundle h begins at 4h, so it overwrites no word before h.
 pub fn expand(layout: Layout, n: usize, k: usize, commands: &mut [u64])
     requires { ⌜ BundlesFit layout n (take k (now commands)) (length (now commands)) × (k ≤ length (now commands)) ⌝ }
     ensures { λ _. ⌜ now (commands .exit) ≡ sets (now (commands .entry)) 0 (bundlesFrom layout n (routine (take k (now (commands .entry)))) 0 n) ⌝ }

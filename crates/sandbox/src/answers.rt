@@ -1,4 +1,4 @@
-// The answer of reading and rewriting a routine's bytes, decided in one pass that keeps no word and writes nothing.
+// Decides in one pass what reading and rewriting a routine's bytes answers. It keeps no word and writes nothing.
 use codec_read::count;
 use codec_read::scan;
 use rewriter::answers::base_room_answer;
@@ -13,7 +13,7 @@ ghost use Rattle.types.specs.Names.{mostInstructions};
 ghost use Rattle.sandbox_spec.specs.Loading.{translateAnswer};
 ghost use Rattle.sandbox.specs.answers.Answers.{landingsAnswer};
 
-// What rewriting answers for n instructions that were read: layout, landings, base, room.
+// What rewriting answers for n instructions that were read: layout, landings, base, room. `past` is the first GOIF past the end, or n.
 fn landings_answer(layout: Layout, n: usize, past: usize, room: usize) -> Answer
     requires { ⌜ n ≤ mostInstructions ⌝ }
     ensures { λ r. ⌜ r ≡ landingsAnswer layout n past room ⌝ }
@@ -27,8 +27,7 @@ fn landings_answer(layout: Layout, n: usize, past: usize, room: usize) -> Answer
     base_room_answer(layout, n, room)
 }
 
-// What reading, rewriting and checking answer for a list of `room` commands. The checker refuses nothing that the rewriter
-// writes, so its answer needs no list.
+// What reading, rewriting and checking answer for `room` commands. The checker passes all that the rewriter writes, so it is not asked here.
 pub fn translate_answer(layout: Layout, bytes: &[u8], room: usize) -> Answer
     ensures { λ r. ⌜ r ≡ translateAnswer layout (now (bytes .entry)) room ⌝ }
 {

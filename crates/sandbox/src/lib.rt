@@ -1,4 +1,4 @@
-// The parts joined: loads a routine from its bytes to an installed machine, then runs or steps it.
+// Joins the parts: loads a routine's bytes into an installed machine, then runs or steps it.
 pub mod answers;
 pub mod loading;
 pub mod writing;

@@ -1,5 +1,5 @@
 // Loads a routine: reads, rewrites, checks and installs in one call.
-// All refusals are decided before anything is written, so a refusal leaves every lent slice as it was.
+// All refusals are decided before anything is written, so a refusal leaves every slice as it was.
 use crate::answers::translate_answer;
 use crate::writing::write_routine;
 use installer::install;
@@ -15,9 +15,8 @@ ghost use lib.ListN.{length};
 ghost use Rattle.spec.specs.Policies.{lentPolicy};
 ghost use Rattle.sandbox_spec.specs.Loading.{loadOf, loadCommands, loadMemory};
 
-// Loads a routine: its first refusal by reading, rewriting, checking or installing; or 0 and the
-// count of its commands, which then stand at the start of `commands`, and the machine's record. The
-// checker sees what was written before anything is installed; it is proved that it refuses none of it.
+// Answers the first refusal of the four parts. On success the place counts the commands, which are at the start of `commands`.
+// The commands are checked before the policy is installed, though it is proved that the checker passes them.
 pub fn load(
     layout: Layout,
     policy: PolicyNumbers,

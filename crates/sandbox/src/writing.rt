@@ -1,4 +1,4 @@
-// Writes the commands of a judged routine, straight from its bytes.
+// Writes the commands of a routine that was validated, directly from its bytes.
 use codec_read::count;
 use codec_read::scan;
 use rewriter::expand;
@@ -12,7 +12,7 @@ ghost use Rattle.spec.specs.Bytes.{wordsIn};
 ghost use Rattle.spec.specs.Bundles.{commandsOf};
 ghost use Rattle.sandbox_spec.specs.Loading.{translateAnswer};
 
-// The commands of a routine that is taken: its words at the start of the list, then their bundles in place of them.
+// Writes the words to the start of `commands`, then replaces them by their bundles.
 pub fn write_routine(layout: Layout, bytes: &[u8], commands: &mut [u64])
     requires { ⌜ translateAnswer layout (now bytes) (length (now commands)) .number ≡ 0 ⌝ }
     ensures { λ _. ⌜ now (commands .exit) ≡ sets (now (commands .entry)) 0 (commandsOf layout (wordsIn (now (bytes .entry)))) ⌝ }

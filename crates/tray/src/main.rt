@@ -1,4 +1,4 @@
-// Tries the cases of the sample tray that are no theorem, and damaged routines for each refusal of reading and rewriting.
+// Tries the paper's sample cases that are not theorems, and a damaged routine for each refusal of reading and rewriting.
 // Prints a line for each case: its name, the answer's number and its place.
 pub mod reading;
 
@@ -8,10 +8,9 @@ use types::Instr;
 use types::Layout;
 use types::PolicyNumbers;
 
-// Orders, each with its ceiling.
 const ORDERS: usize = PolicyNumbers::ORDERS as usize;
 
-// The base of document 01's layout.
+// The base in document 01's layout.
 const BASE: u32 = 4096;
 
 fn rewrites(name: &[u8], layout: Layout, words: &[u64]) {
@@ -19,7 +18,7 @@ fn rewrites(name: &[u8], layout: Layout, words: &[u64]) {
     print_case(name, rewriter::rewrite(layout, words, &mut commands));
 }
 
-// To seven commands, one less than two bundles.
+// The output has room for seven commands, one less than two bundles.
 fn rewrites_to_7(name: &[u8], layout: Layout, words: &[u64]) {
     let mut commands = [0u64; 7];
     print_case(name, rewriter::rewrite(layout, words, &mut commands));

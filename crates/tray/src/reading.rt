@@ -1,8 +1,8 @@
-// The cases of reading: routines of 1,023 and 1,024 instructions, and a damaged one for each refusal.
+// Tries reading: routines of 1,023 and 1,024 instructions, and a damaged one for each refusal.
 use lines::print_case;
 use types::Instr;
 
-// The bytes of a routine's count; a HALT has one.
+// The bytes of a routine's count. A HALT takes one byte.
 const COUNT: usize = Instr::COUNT_BYTES;
 
 fn reads(name: &[u8], bytes: &[u8]) {
@@ -10,13 +10,13 @@ fn reads(name: &[u8], bytes: &[u8]) {
     print_case(name, codec::read(bytes, &mut words));
 }
 
-// Into a single word.
+// The output has room for one word.
 fn reads_one(name: &[u8], bytes: &[u8]) {
     let mut words = [0u64; 1];
     print_case(name, codec::read(bytes, &mut words));
 }
 
-// A count, then 1,024 times HALT.
+// Reads a count followed by 1,024 HALTs.
 fn reads_many(name: &[u8], low: u8, high: u8) {
     let mut bytes = [0u8; COUNT + Instr::MOST + 1];
     bytes[0] = low;

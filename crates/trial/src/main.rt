@@ -1,5 +1,5 @@
-// Loads the routine on standard input, in document 01's layout and policy, and runs it once.
-// Prints the answer and, where that is 0, what the run records and how it ends.
+// Loads the routine on standard input, with document 01's layout and policy, and runs it once.
+// Prints the answer and, if it is 0, the events and how the run ended.
 use libc::STDIN_FILENO;
 use lines::print;
 use types::Bundle;
@@ -13,14 +13,14 @@ ghost use Prim.Native.Nat.{_*_, _≤_};
 ghost use lib.ListN.{length};
 ghost use Rattle.types.specs.Names.{pairCells};
 
-// The drum's cells, as a number and as a length, and its base.
+// Memory cells, as a number and as a length, and the base.
 const SIZE: u32 = 1024;
 
 const CELLS: usize = SIZE as usize;
 
 const BASE: u32 = 4096;
 
-// The mark of no arrow, as a byte of a table.
+// An event that is not allowed, as a byte of a table.
 const NO_ARROW: u8 = PolicyNumbers::NO_ARROW as u8;
 
 // The bytes of the longest routine: its count, and ten for each instruction.
@@ -37,7 +37,7 @@ fn print_event(event: u32, value: u32) {
     lines::end();
 }
 
-// The pairs at the start of a log, a line each.
+// Prints the pairs at the start of a log, a line each.
 fn print_events(log: &[u32], pairs: usize)
     requires { ⌜ pairCells * pairs ≤ length (now log) ⌝ }
 {
@@ -58,7 +58,7 @@ fn print_end(ending: u8, steps: u32, state: u32) {
     lines::end();
 }
 
-// One run of a loaded routine. The state cell is cell 0.
+// Runs a loaded routine once. The state cell is cell 0.
 fn run(layout: Layout, commands: &[u64], start: Machine, memory: &mut [u32; CELLS]) {
     let readings = [1800u32, 1950, 2100];
     let mut log = [0u32; 64];
@@ -69,7 +69,7 @@ fn run(layout: Layout, commands: &[u64], start: Machine, memory: &mut [u32; CELL
     print_end(machine_step::endings::ending_number(e), a.steps, memory[0]);
 }
 
-// Landings 0 to 1,023.
+// Every instruction is a landing.
 fn all_landings() -> [u32; Bundle::MOST] {
     let mut xs = [0u32; Bundle::MOST];
     let mut i: usize = 0;
@@ -83,7 +83,7 @@ fn all_landings() -> [u32; Bundle::MOST] {
 fn try_routine(bytes: &[u8]) {
     let ceilings = [Layout::NO_LIMIT; PolicyNumbers::ORDERS as usize];
     let layout = Layout::new(SIZE, 256, 511, 0, 16, 2, BASE, 64, ceilings);
-    // State 0 stays but for event 2, the door; in state 1 event 0, gas, has no arrow.
+    // In state 0 all is allowed, and event 2, the door, leads to state 1. In state 1 event 0, gas, is not allowed.
     let table = [
         0u8,
         0,
@@ -145,8 +145,7 @@ fn try_routine(bytes: &[u8]) {
     run(layout, &commands[..n], m, &mut memory);
 }
 
-// One byte more than the longest routine has, so that a longer input is refused as it would be
-// whole.
+// Reads one byte more than the longest routine has, so that a longer input is refused.
 fn main() {
     let mut input = [0u8; LONGEST + 1];
     let n = io::read_full(STDIN_FILENO, &mut input);

@@ -1,4 +1,4 @@
-// Tells whether a word is a command, and which.
+// Tells whether a 64-bit word is a command of the machine, and which one.
 use crate::fields::field;
 use crate::fields::fields;
 use crate::reserved;
@@ -10,7 +10,7 @@ ghost use Rattle.spec.specs.Words.{kindOf};
 ghost use Rattle.spec.specs.Commands.{limitsOf, isCommand, commandOf};
 ghost use Rattle.words.specs.fields.Strays.{strayOf};
 
-// The reserved bits of a kind: those of the fields that it lacks, and those above the bounds of c and v.
+// The reserved bits of a kind, 0 in each of its commands: fields that the kind lacks, and bits above the bounds of c and v.
 fn stray(k: u64) -> u64
     requires { ⌜ k < commandKinds ⌝ }
     ensures { λ r. ⌜ r ≡ strayOf (limitsOf k) ⌝ }
@@ -40,8 +40,7 @@ fn stray(k: u64) -> u64
     }
 }
 
-// Whether a word of a known kind is a command: none of the kind's stray bits. Where the kind is written at the call, its
-// mask is a constant there.
+// Whether a word of kind k is a command. If the caller passes k as a constant, so is its mask.
 pub fn is_of_kind(k: u64, w: u64) -> bool
     requires { ⌜ (k < commandKinds) × (kindOf w ≡ k) ⌝ }
     ensures { λ r. ⌜ r ≡ isCommand w ⌝ }
@@ -49,7 +48,7 @@ pub fn is_of_kind(k: u64, w: u64) -> bool
     w & stray(k) == 0
 }
 
-// Whether a word is a command: a known kind, and none of its stray bits. Each register field names a register.
+// Whether a word is a command: its kind is known, and it has no stray bit. Four bits always name one of the sixteen registers.
 pub fn is_command(w: u64) -> bool
     ensures { λ r. ⌜ r ≡ isCommand w ⌝ }
 {
@@ -60,7 +59,6 @@ pub fn is_command(w: u64) -> bool
     false
 }
 
-// The command that a word stands for.
 pub fn command(w: u64) -> Command
     ensures { λ r. ⌜ r ≡ commandOf w ⌝ }
 {

@@ -1,4 +1,4 @@
-// Unpacks the fields of a word, packs them, and gives the instruction that they stand for.
+// Unpacks a word into its fields, packs fields into a word, and turns fields into an instruction.
 pub mod field;
 
 use types::Fields;
@@ -21,7 +21,7 @@ pub fn fields(w: u64) -> Fields
     }
 }
 
-// The word of six fields, each cut to its width.
+// Packs six fields into a word. Each is cut to its width.
 pub fn word(kind: u64, d: u64, a: u64, b: u64, c: u64, v: u64) -> u64
     ensures { λ r. ⌜ r ≡ truncatedWord kind d a b c v ⌝ }
 {
@@ -42,7 +42,7 @@ pub fn pack(f: Fields) -> u64
 // The lowest bit of each register field.
 const LOWEST: u64 = (1 << field::AT_D) + (1 << field::AT_A) + (1 << field::AT_B);
 
-// Whether no register field of a word names the hidden register, all of whose four bits stand: one test for the three.
+// Whether no register field of a word names the hidden register, whose four bits are all 1. One test covers the three fields.
 pub fn only_guest_registers(w: u64) -> bool
     ensures { λ r. ⌜ r ≡ onlyGuestRegisters w ⌝ }
 {
@@ -50,7 +50,6 @@ pub fn only_guest_registers(w: u64) -> bool
     (pairs & (pairs >> 2)) & LOWEST == 0
 }
 
-// By its kind.
 pub fn instruction(w: u64) -> Instr
     ensures { λ r. ⌜ r ≡ instrOf w ⌝ }
 {

@@ -1,4 +1,4 @@
-// The first refusal of a guest word on its own.
+// Finds the first refusal of a guest word, looked at alone.
 use crate::fields::field;
 use crate::fields::fields;
 use crate::fields::only_guest_registers;
@@ -14,7 +14,7 @@ ghost use Rattle.types.specs.Names.{topKind};
 ghost use Rattle.spec.specs.Words.{guestLimits, wordRefusal};
 ghost use Rattle.words.specs.fields.Strays.{strayOf};
 
-// The bits that no instruction of a kind has: those of the fields that it lacks, and those above the bounds of c and v.
+// The bits that must be 0 in every instruction of a kind: fields that the kind lacks, and bits above the bounds of c and v.
 fn stray_bits(k: u64) -> u64
     requires { ⌜ k ≤ topKind ⌝ }
     ensures { λ r. ⌜ r ≡ strayOf (guestLimits k) ⌝ }
@@ -37,8 +37,7 @@ fn stray_bits(k: u64) -> u64
     }
 }
 
-// Whether a word is an instruction: one AND and its registers tell. A register field that the kind lacks is 0, and
-// passes.
+// Whether a word is an instruction: no stray bit, and no hidden register. A register field that the kind lacks is 0, so it passes.
 pub fn is_instruction(w: u64) -> bool
     ensures { λ r. ⌜ r ≡ eqb (wordRefusal w) 0 ⌝ }
 {
@@ -49,7 +48,7 @@ pub fn is_instruction(w: u64) -> bool
     (w & stray_bits(k) == 0) & only_guest_registers(w)
 }
 
-// The first refusal of a word by its fields, for callers that have tested `is_instruction`. A call, for it is seldom needed.
+// The first refusal of a word that is no instruction. It is a function of its own because it is seldom needed.
 pub fn refusal_by_fields(w: u64) -> u8
     ensures { λ r. ⌜ r ≡ wordRefusal w ⌝ }
 {

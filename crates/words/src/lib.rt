@@ -1,5 +1,5 @@
-// Guest words and command words: their fields, and what refuses one.
-// It re-exports the modules of `layout` and `arith` on which rewriter and checker stand.
+// Guest words and command words: their fields, and why a word is refused.
+// It re-exports the modules of `layout` and `arith` that rewriter and checker need.
 pub mod command;
 pub mod fields;
 pub mod guest;

@@ -1,4 +1,4 @@
-// The first refusal of an instruction, from its fields.
+// Finds the first refusal of an instruction from its fields.
 use types::Fields;
 use types::Instr;
 use types::Limits;
@@ -10,14 +10,14 @@ ghost use Prim.Native.Nat.{_≤_};
 ghost use Rattle.types.specs.Names.{topKind};
 ghost use Rattle.spec.specs.Words.{limitOf, guestLimits, hasStray, hasHigh, fieldsRefusal};
 
-// The greatest kind, the greatest guest register and the greatest condition.
+// The largest kind, guest register and condition.
 pub const TOP_KIND: u64 = Instr::KIND_EVENT;
 
 const TOP_GUEST: u64 = Machine::HIDDEN as u64 - 1;
 
 pub const TOP_CONDITION: u64 = 3;
 
-// The greatest shift, event and 32-bit number.
+// The largest shift, event and 32-bit number.
 pub const TOP_SHIFT: u64 = 31;
 
 pub const TOP_EVENT: u64 = PolicyNumbers::EVENTS as u64 - 1;
@@ -53,7 +53,7 @@ fn limits_of(k: u64) -> Limits
     }
 }
 
-// A field that stands and is not the kind's.
+// Whether a field is nonzero that the kind lacks.
 fn stray(l: Limits, f: Fields) -> bool
     ensures { λ r. ⌜ r ≡ hasStray l f ⌝ }
 {
@@ -64,14 +64,14 @@ fn stray(l: Limits, f: Fields) -> bool
         | (l.v == 0) & (0 < f.v)
 }
 
-// A field above its limit.
+// Whether a field is above its limit.
 fn high(l: Limits, f: Fields) -> bool
     ensures { λ r. ⌜ r ≡ hasHigh l f ⌝ }
 {
     (l.d < f.d) | (l.a < f.a) | (l.b < f.b) | (l.c < f.c) | (l.v < f.v)
 }
 
-// An instruction's first refusal, 3, 2 or 4, or 0; `foreign` where its form has foreign matter of its own.
+// The first refusal: unknown variety (3), foreign matter (2) or off grade (4); else 0. `foreign` says whether the caller has found foreign matter.
 pub fn fields_refusal(foreign: bool, f: Fields) -> u8
     ensures { λ r. ⌜ r ≡ fieldsRefusal foreign f ⌝ }
 {

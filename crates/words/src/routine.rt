@@ -1,4 +1,4 @@
-// The first refusal in a routine: of a word among n, and among all its words.
+// Finds the first refusal among the words of a routine.
 use crate::fields::field;
 use crate::guest::is_instruction;
 use crate::guest::refusal_by_fields;
@@ -9,14 +9,14 @@ ghost use mathlib.Core.Path.{_≡_};
 ghost use lib.ListN.{length};
 ghost use Rattle.spec.specs.Words.{badLanding, refusalAt, firstRefused};
 
-// Whether a word is a GOIF that leads past n instructions.
+// Whether a word is a GOIF that jumps past n instructions.
 pub fn bad_landing(n: usize, w: u64) -> bool
     ensures { λ r. ⌜ r ≡ badLanding n w ⌝ }
 {
     (field::kind(w) == Instr::KIND_GOIF) & ((n as u64) < field::v(w))
 }
 
-// The first refusal of a word among n instructions, 3, 2, 4 or 8, or 0.
+// The first refusal of a word among n instructions: those of the word alone, then bad landing (8); else 0.
 pub fn refusal_at(n: usize, w: u64) -> u8
     ensures { λ r. ⌜ r ≡ refusalAt n w ⌝ }
 {
@@ -34,7 +34,7 @@ pub fn refusal_at(n: usize, w: u64) -> u8
     Refusal::TAKEN
 }
 
-// The first refusal among the words, or what is answered where there is none.
+// The first refusal among the words, or `taken` if there is none.
 pub fn first_refusal(words: &[u64], taken: Answer) -> Answer
     ensures { λ r. ⌜ r ≡ firstRefused (refusalAt (length (now (words .entry)))) (now (words .entry)) 0 taken ⌝ }
 {

@@ -1,9 +1,9 @@
-// One field of a word at a time: kind in bits 0 to 7, d from 8, a from 12, b from 16, c from 20, zero bits from 24, v from 32.
+// Extracts one field of a word: kind in bits 0 to 7, d from 8, a from 12, b from 16, c from 20, zero bits from 24, v from 32.
 ghost use mathlib.Core.Path.{_≡_};
 ghost use Prim.Native.Nat.{_/_, _%_, _^_, _<_};
 ghost use Rattle.spec.specs.Words.{kindOf, dOf, aOf, bOf, cOf, zeroOf, vOf};
 
-// Where each field above the kind begins.
+// The lowest bit of each field above the kind.
 pub const AT_D: u64 = 8;
 
 pub const AT_A: u64 = 12;
@@ -16,14 +16,14 @@ const AT_ZERO: u64 = 24;
 
 pub const AT_V: u64 = 32;
 
-// One more than what a field can hold: kind and zero bits, a register or condition, v.
+// One more than the largest value of a field: of the kind or the zero bits, of a register or the condition, of v.
 pub const BYTE: u64 = 0x100;
 
 pub const FOUR_BITS: u64 = 0x10;
 
 pub const NUMBER: u64 = 0x1_0000_0000;
 
-// The four bits of a word from a place on.
+// The four bits of a word from bit `at` on.
 fn four_bits(w: u64, at: u64) -> u64
     requires { ⌜ at < 64 ⌝ }
     ensures { λ r. ⌜ r ≡ w / 2 ^ at % 2 ^ 4 ⌝ }
