@@ -1,10 +1,10 @@
--- The byte form of a routine: what reading and writing answer and leave.
+-- The byte form of a routine, and what reading and writing answer and leave.
 use Rattle.spec.specs.Prelude.{ℕ, zero, suc, _+_, _*_, _/_, _%_, min, not, cond, List, [], _∷_, _++_, length, getD, drop, ltb, eqb}
 use Rattle.spec.specs.Types.{Fields, Answer, Decoded, Word, RefusedWith, Taken, Short, Foreign, Oversize, Trailing, SmallOutput}
 use Rattle.types.specs.Names.{mostInstructions, countBytes, numberOf, answer, refusal, outputOf, roomFor, first}
 use Rattle.spec.specs.Words.{fieldsRefusal, wordRefusal, firstRefused, fieldsOf, packFields}
 
--- 1 of a number that is not 0
+-- 1 if a number is not 0, else 0
 abbrev pub bitOf : ℕ → ℕ
 bitOf x = min x 1
 
@@ -12,13 +12,13 @@ bitOf x = min x 1
 abbrev pub mapOf : Fields → ℕ
 mapOf f = bitOf (f .kind) + 2 * bitOf (f .d) + 4 * bitOf (f .a) + 8 * bitOf (f .b) + 16 * bitOf (f .c) + 32 * bitOf (f .v)
 
--- how many bytes an instruction of the map m takes: the map, one for each field, four for v
+-- how many bytes an instruction with map m takes: the map, one for each field, four for v
 abbrev pub sizeOf : ℕ → ℕ
 sizeOf m = 1 + m % 2 + m / 2 % 2 + m / 2 / 2 % 2 + m / 2 / 2 / 2 % 2 + m / 2 / 2 / 2 / 2 % 2 + 4 * (m / 2 / 2 / 2 / 2 / 2)
 
 -- ---- reading
 
--- a field of one byte, and v in four, low first; 'An absent field is 0'
+-- a field of one byte, and v in four bytes, low first; 'An absent field is 0'
 unfoldable pub byteAt : ℕ → List ℕ → ℕ → ℕ
 byteAt bit s at = cond (eqb bit 0) 0 (getD s at 0)
 
@@ -39,35 +39,35 @@ fieldsAt m s =
       v = quadAt (m / 2 / 2 / 2 / 2 / 2) s (1 + m % 2 + m / 2 % 2 + m / 2 / 2 % 2 + m / 2 / 2 / 2 % 2 + m / 2 / 2 / 2 / 2 % 2);
     }
 
--- an instruction, or its refusal x
+-- an instruction, or its refusal x if that is not 0
 abbrev pub orRefused : ℕ → Decoded → Decoded
 orRefused x o = cond (eqb x 0) o (RefusedWith x)
 
--- 3, 2, 4; a present field that is 0, which is foreign, makes the map another than the fields'
+-- refuses fields as unknown variety (3), foreign matter (2) or off grade (4); a present field that is 0 is foreign: the map marks exactly the nonzero fields
 unfoldable pub decodeFields : ℕ → Fields → Decoded
 decodeFields m f = orRefused (fieldsRefusal (not (eqb m (mapOf f))) f) (Word (packFields f) (sizeOf m))
 
--- map 2, then 1
+-- refuses a map of 64 or more as foreign matter (2), then missing bytes as short weight (1)
 unfoldable pub decodeMap : ℕ → List ℕ → Decoded
 decodeMap m s =
     cond (ltb 63 m) (RefusedWith (numberOf Foreign))
     (cond (ltb (length s) (sizeOf m)) (RefusedWith (numberOf Short)) (decodeFields m (fieldsAt m s)))
 
--- the instruction at the front of s; a missing map byte is 1
+-- the instruction at the front of s; a missing map byte is refused as short weight (1)
 unfoldable pub decodeOne : List ℕ → Decoded
 decodeOne s = cond (eqb (length s) 0) (RefusedWith (numberOf Short)) (decodeMap (getD s 0 0) s)
 
--- the answer for what follows an instruction's bytes, or the instruction's own refusal at place i
+-- the answer of what follows an instruction, or the instruction's own refusal at place i
 abbrev pub thenAnswer : Decoded → ℕ → (ℕ → Answer) → Answer
 thenAnswer (Word w u) i go = go u
 thenAnswer (RefusedWith x) i go = answer x i
 
--- n instructions from s on, the first of them at place i, then 6
+-- what reading n instructions from s answers, the first at place i; bytes left over are refused as overweight (6)
 unfoldable pub scanOf : ℕ → ℕ → List ℕ → Answer
 scanOf zero i s = cond (eqb (length s) 0) (answer (numberOf Taken) i) (refusal Trailing 0)
 scanOf (suc n) i s = thenAnswer (decodeOne s) i (λ u. scanOf n (i + 1) (drop u s))
 
--- an instruction's word and the words of what follows its bytes, or none where it is refused
+-- an instruction's word and the words that follow, or none if it is refused
 abbrev pub thenWords : Decoded → (ℕ → List ℕ) → List ℕ
 thenWords (Word w u) go = w ∷ go u
 thenWords (RefusedWith x) go = []
@@ -95,7 +95,7 @@ readAnswer s room =
     ∷ [])
     (scanOf (countOf s) 0 (drop countBytes s))
 
--- what the output holds after reading
+-- the output after reading
 unfoldable pub readOutput : List ℕ → List ℕ → List ℕ
 readOutput s out = outputOf (readAnswer s (length out)) (wordsIn s) out
 
@@ -121,7 +121,7 @@ unfoldable pub bytesOf : List ℕ → List ℕ
 bytesOf [] = []
 bytesOf (w ∷ ws) = encodeOne w ++ bytesOf ws
 
--- the bytes of a routine: 'n in two bytes, low first, then n instructions'
+-- a routine's bytes: 'n in two bytes, low first, then n instructions'
 unfoldable pub routineOf : List ℕ → List ℕ
 routineOf ws = length ws % 256 ∷ length ws / 256 ∷ bytesOf ws
 
@@ -130,6 +130,6 @@ unfoldable pub writeAnswer : List ℕ → ℕ → Answer
 writeAnswer ws room =
     cond (ltb mostInstructions (length ws)) (refusal Oversize 0) (firstRefused wordRefusal ws 0 (roomFor room (length (routineOf ws))))
 
--- what the output holds after writing
+-- the output after writing
 unfoldable pub writeOutput : List ℕ → List ℕ → List ℕ
 writeOutput ws out = outputOf (writeAnswer ws (length out)) (routineOf ws) out

@@ -1,4 +1,4 @@
--- Claims about the definitions. Each is a type; its proof has its name in small letters, in proofs/.
+-- Claims about the definitions. Each is a type; its proof, in proofs/, has the same name in small letters.
 use Rattle.spec.specs.Prelude.{ℕ, suc, _+_, _-_, _*_, _/_, _%_, _^_, _<_, _≤_, _≡_, true, false, _⊎_, List, [], _∷_, _++_, length, getD, take, drop, ones, pos, sucℤ, _*ℤ_, _≤ℤ_, _<ℤ_, ltb}
 use Rattle.spec.specs.Types.{Layout, Instr, HALT, EVENT, Machine, Outcome, Status, Running, Ended, Stopped, Faulted, Strayed, Ending, Done, NoArrow, Fault, LogFull, Silent, Spent, NoLanding, Refused, BadLayout}
 use Rattle.types.specs.Names.{events, orders, noArrow, mostInstructions, mostBundles, bundleLength, pairCells, bundleShift, landingCells, cellBits, guestRegisters, numberOf, answer, endingNumber}
@@ -17,8 +17,8 @@ use Rattle.spec.specs.Runs.{begins, begunFrom, RunInput, Every, Pairwise
 
 -- ---- masks and sizes
 
--- 'On a right layout it lies in SL..SH and leaves an address already there as it is'; the sandbox has 2 to the mask's width cells;
--- the three commands before GOXR reach B + 4 × (rd modulo N)
+-- 'On a right layout it lies in SL..SH and leaves an address already there as it is'; the sandbox has 2^width cells;
+-- the three commands before GOXR compute B + 4 × (rd modulo N)
 pub record MaskLaws (lay : Layout) : Type 0 where
   pub inside : (e : ℕ) → inBox lay (maskOf (lay .low) (lay .high) e) ≡ true
   pub fixed : (e : ℕ) → inBox lay e ≡ true → maskOf (lay .low) (lay .high) e ≡ e
@@ -55,8 +55,8 @@ Sizes = (n : ℕ) → n ≤ mostInstructions → SizeLaws n
 
 -- ---- two's complement
 
--- 'ra as two's complement, divided by 2^v, rounded down': q × 2^v ≤ x < (q + 1) × 2^v of the integers, q a 32-bit pattern;
--- 'less than': in the order of the patterns, the sign bit of each turned over
+-- 'ra as two's complement, divided by 2^v, rounded down': the quotient q has q × 2^v ≤ x < (q + 1) × 2^v as integers, and fits 32 bits;
+-- 'less than' is the unsigned order after the sign bit of each is flipped
 pub record SignLaws (x y v : ℕ) : Type 0 where
   pub fits : sarOf x v < 2 ^ 32
   pub down : (twos (sarOf x v) *ℤ pos (2 ^ v)) ≤ℤ twos x
@@ -87,7 +87,7 @@ BytesRoundTrip =
 
 -- ---- rewriter and checker
 
--- the commands that rewriting leaves are the first of its output
+-- the output of rewriting begins with the routine's commands
 abbrev pub RewriteLeaves : Type 0
 RewriteLeaves =
     (lay : Layout) (code out : List ℕ) →
@@ -99,7 +99,7 @@ abbrev pub RewrittenPasses : Type 0
 RewrittenPasses =
     (lay : Layout) (code : List ℕ) (room : ℕ) → rewriteAnswer lay code room .number ≡ 0 → checkAnswer lay (commandsOf lay code) ≡ answer 0 0
 
--- a list that passes is one that the rewriter writes, of some routine
+-- a list that passes is what the rewriter writes for some routine
 pub record Rewrites (lay : Layout) (ws : List ℕ) : Type 0 where
   pub code : List ℕ
   pub takes : rewriteAnswer lay code (length ws) ≡ answer 0 (length ws)
@@ -114,8 +114,7 @@ pub record Shaped (lay : Layout) (N : ℕ) (words : List ℕ) : Type 0 where
   pub fields : valid N instr ≡ true
   pub same : bundleOf lay N instr .words ≡ words
 
--- four words are the bundle of the instruction that is read off them exactly if they are the bundle of some valid instruction:
--- how it is read off need not be believed
+-- `decodeBundle` misses nothing: four words are the bundle of some valid instruction exactly if they are the bundle of the one that it finds
 pub record ShapeLaws (lay : Layout) (N w x y z : ℕ) : Type 0 where
   pub shaped : isBundle lay N (decodeBundle lay w y z) w x y z ≡ true → Shaped lay N (w ∷ x ∷ y ∷ z ∷ [])
   pub found : Shaped lay N (w ∷ x ∷ y ∷ z ∷ []) → isBundle lay N (decodeBundle lay w y z) w x y z ≡ true
@@ -123,7 +122,7 @@ pub record ShapeLaws (lay : Layout) (N w x y z : ℕ) : Type 0 where
 abbrev pub Shapes : Type 0
 Shapes = (lay : Layout) (N w x y z : ℕ) → ShapeLaws lay N w x y z
 
--- what 7, 12 and 13 ask of a list of N bundles, under a right layout: 'a list of 4N commands, N a power of two from 1 to 1,024'; B is a multiple of 4N
+-- bad layout (7), bad count (12) and bad base (13) do not apply: 'a list of 4N commands, N a power of two from 1 to 1,024', and B is a multiple of 4N
 pub record Placed (lay : Layout) (ws : List ℕ) (N : ℕ) : Type 0 where
   pub layout : rightLayout lay ≡ true
   pub count : countRight (length ws) ≡ true
@@ -135,7 +134,7 @@ pub record AllShaped (lay : Layout) (ws : List ℕ) (N : ℕ) : Type 0 where
   pub each : (h : ℕ) → h < N → Shaped lay N (take bundleLength (drop (bundleLength * h) ws))
   pub last : take bundleLength (drop (bundleLength * (N - 1)) ws) ≡ bundleOf lay N HALT .words
 
--- the checker passes exactly these
+-- the checker passes exactly the lists that are placed and shaped
 pub record CheckLaws (lay : Layout) (ws : List ℕ) (N : ℕ) : Type 0 where
   pub passed : checkAnswer lay ws .number ≡ 0 → AllShaped lay ws N
   pub passes : AllShaped lay ws N → checkAnswer lay ws ≡ answer 0 0
@@ -143,7 +142,7 @@ pub record CheckLaws (lay : Layout) (ws : List ℕ) (N : ℕ) : Type 0 where
 abbrev pub Checks : Type 0
 Checks = (lay : Layout) (ws : List ℕ) → CheckLaws lay ws (length ws / bundleLength)
 
--- every word of a passed list is a command: the one that its bundle's shape names
+-- every word of a passed list is the command that its bundle's shape names
 abbrev pub PassedDecodes : Type 0
 PassedDecodes =
     (lay : Layout) (ws : List ℕ) → checkAnswer lay ws .number ≡ 0 →
@@ -152,7 +151,7 @@ PassedDecodes =
 
 -- ---- endings
 
--- the status that an ending of a run that is not refused leaves
+-- the machine's status after a run with this ending
 abbrev pub statusAfter : Ending → Status
 statusAfter Done = Ended
 statusAfter NoArrow = Stopped
@@ -163,8 +162,8 @@ statusAfter Spent = Running
 statusAfter NoLanding = Strayed
 statusAfter Refused = Running
 
--- a run answers 7 exactly where the layout is not right or the lent memory's length not U, and then leaves all as it was;
--- any other answers 20, 21, 22 or 26 exactly where its record has ended, stopped, faulted or strayed
+-- a run answers bad layout (7) exactly if the layout is not right or the memory's length is not U, and then changes nothing;
+-- any other run answers the ending that belongs to the status it leaves
 pub record EndingLaws (lay : Layout) (m : Machine) (mem log : List ℕ) (r : RunResult) : Type 0 where
   pub refused : endingNumber (r .outcome .answer .ending) ≡ numberOf BadLayout → fits lay mem ≡ false
   pub refuses : fits lay mem ≡ false → r ≡ runResultOf (outcomeOf m Refused 0 0 0) mem log
@@ -177,7 +176,7 @@ EndingStatus =
 
 -- ---- every moment
 
--- a run with a budget above j comes to where the run with budget j ends, and goes on from there as a run does; so do the bundles begun
+-- runs compose: a run with a budget above j passes the point where budget j ends, and continues from there; the count of bundles begun composes too
 pub record ComposeLaws (lay : Layout) (ws reads : List ℕ) (j l k b : ℕ) (s : State) : Type 0 where
   pub run :
       let r = runFrom lay ws reads j k s in
@@ -189,11 +188,11 @@ pub record ComposeLaws (lay : Layout) (ws reads : List ℕ) (j l k b : ℕ) (s :
 abbrev pub RunsCompose : Type 0
 RunsCompose = (lay : Layout) (ws reads : List ℕ) (j l k b : ℕ) (s : State) → ComposeLaws lay ws reads j l k b s
 
--- a run's input, with another budget
+-- a run's input with another budget
 abbrev pub withBudget : RunInput → ℕ → RunInput
 withBudget g j = record { memory = g .memory; budget = j; readings = g .readings; log = g .log }
 
--- a list of runs cut off within a run is on the premise too
+-- the premise still holds if a list of runs is cut off within a run
 abbrev pub PrefixClosed : Type 0
 PrefixClosed =
     (lay : Layout) (pol : Policy) (ws mem : List ℕ) (xs ys : List RunInput) (g : RunInput) (j : ℕ) →
@@ -201,12 +200,12 @@ PrefixClosed =
 
 -- ---- the guest rule
 
--- at a boundary: on the first command of a bundle, or no longer running
+-- at a boundary: on the first command of a bundle, or not running
 abbrev pub AtBoundary : Layout → Machine → Type 0
 AtBoundary lay m = (positionOf lay (m .pc) ≡ 0) ⊎ (m .status ≡ Running → ⊥)
 
--- 'on ending, r0 to' r14 (since request 6), 'sandbox, state cell, records and readings used'; and on the instruction to come, in whose bundle pc is at position p.
--- The ending is the record's status: by EndingStatus a run answers 20, 21 or 26 exactly where it has ended, stopped or strayed
+-- machine and guest agree: 'on ending, r0 to' r14 (since request 6), 'sandbox, state cell, records and readings used',
+-- and on the next instruction: pc is at position p of its bundle. The ending is the record's status, by EndingStatus
 pub record SimulatesAt (lay : Layout) (p : ℕ) (g : Guest) (c : Session) : Type 0 where
   pub ending : c .machine .status ≡ g .status
   pub regs : take guestRegisters (c .machine .regs) ≡ g .regs
@@ -219,20 +218,20 @@ pub record SimulatesAt (lay : Layout) (p : ℕ) (g : Guest) (c : Session) : Type
 abbrev pub Simulates : Layout → Guest → Session → Type 0
 Simulates lay g c = SimulatesAt lay 0 g c
 
--- the guest after k instructions of a routine, 'from instruction 0, registers 0', given the readings that the runs used
+-- the guest after k instructions, 'from instruction 0, registers 0', with the readings that the runs used
 abbrev pub guestFor : Layout → Policy → List ℕ → List ℕ → Session → ℕ → Guest
 guestFor lay pol code mem c k = guestAfter lay pol (bundlesFor (length code)) (routine code) (c .consumed) (guestStart lay pol (installMemory lay pol mem)) k
 
--- 'Guest rule (from instruction 0, registers 0) and machine are compared from installation on, on demand 3's premise, at each first command of a bundle and at every end or stop':
--- after as many instructions as the runs began bundles. A list of runs may end anywhere and budgets are any
+-- simulation: 'Guest rule (from instruction 0, registers 0) and machine are compared from installation on, on demand 3's premise,
+-- at each first command of a bundle and at every end or stop'. The guest has executed as many instructions as the runs began bundles
 abbrev pub GuestRule : Type 0
 GuestRule =
     (lay : Layout) (pol : Policy) (code mem : List ℕ) (room : ℕ) (gs : List RunInput) → rewriteAnswer lay code room .number ≡ 0 →
     let c = after lay pol (commandsOf lay code) mem gs in
     HostPremise lay pol (commandsOf lay code) mem gs → AtBoundary lay (c .machine) → Simulates lay (guestFor lay pol code mem c (c .begun)) c
 
--- every moment: a run cut off after any j of its steps. The whole run comes to where the cut one ends, and goes on from there (`comes`).
--- There, on the first command of a bundle or over, machine and guest rule agree (`agreement`)
+-- every moment within a run, after any j of its steps. The whole run passes that moment and continues from there (`comes`).
+-- If the moment is at a boundary, machine and guest agree (`agreement`)
 pub record MomentLaws (lay : Layout) (pol : Policy) (code mem : List ℕ) (c : Session) (g : RunInput) (j : ℕ) : Type 0 where
   pub comes :
       let ws = commandsOf lay code in
@@ -247,23 +246,22 @@ EveryMoment =
     (lay : Layout) (pol : Policy) (code mem : List ℕ) (room : ℕ) (xs ys : List RunInput) (g : RunInput) (j : ℕ) → rewriteAnswer lay code room .number ≡ 0 →
     HostPremise lay pol (commandsOf lay code) mem (xs ++ (g ∷ ys)) → MomentLaws lay pol code mem (after lay pol (commandsOf lay code) mem xs) g j
 
--- ---- progress: a machine that can go on reaches the next place of comparison in at most four steps
+-- ---- progress: a running machine reaches the next boundary within four steps
 
--- after a run of at most four steps the machine is at a boundary again, with b bundles begun
+-- after at most four steps the machine is at a boundary, and b bundles have been begun
 pub record ReachesBoundary (lay : Layout) (ws : List ℕ) (c : Session) (g : RunInput) (b : ℕ) : Type 0 where
   pub budget : ℕ
   pub few : budget ≤ bundleLength
   pub boundary : AtBoundary lay (afterRun lay ws c (withBudget g budget) .machine)
   pub begun : afterRun lay ws c (withBudget g budget) .begun ≡ b
 
--- a run that is lent its memory, a free pair of the log and a reading
+-- a run's input with memory of the right length, a free pair in the log and a reading
 pub record Resumable (lay : Layout) (g : RunInput) : Type 0 where
   pub memory : length (g .memory) ≡ lay .size
   pub log : pairCells ≤ length (g .log)
   pub readings : 1 ≤ length (g .readings)
 
--- a machine that runs, wherever in a bundle it is, as after a pause, and is lent enough comes to the next
--- place of comparison; no bundle is begun on the way but the one on whose first command it is
+-- a running machine with such an input reaches the next boundary within four steps, also after a pause. It begins at most one bundle
 abbrev pub Resumes : Type 0
 Resumes =
     (lay : Layout) (pol : Policy) (ws mem : List ℕ) (gs : List RunInput) → HostPremise lay pol ws mem gs →
@@ -271,7 +269,7 @@ Resumes =
     c .machine .status ≡ Running → (g : RunInput) → MemoryPreserved lay (c .memory) g → Resumable lay g →
     ReachesBoundary lay ws c g (c .begun + begins lay (c .machine .pc))
 
--- so one at a boundary comes one bundle on
+-- from a boundary, a running machine executes one whole bundle
 abbrev pub Progress : Type 0
 Progress =
     (lay : Layout) (pol : Policy) (ws mem : List ℕ) (gs : List RunInput) → HostPremise lay pol ws mem gs →
@@ -281,23 +279,23 @@ Progress =
 
 -- ---- isolation
 
--- the pairs carried from run to run are those that the runs' answers count: whichever of the two a claim names, it is the same record
+-- the pairs in a session are those that the runs' answers count, so claims may name either
 abbrev pub Recorded : Type 0
 Recorded = (lay : Layout) (pol : Policy) (ws mem : List ℕ) (gs : List RunInput) → after lay pol ws mem gs .records ≡ recordedIn (allRuns lay pol ws mem gs)
 
--- request 2: an order's pair is at most its ceiling; of every list of runs of any commands, from any record
+-- request 2: no order records more than its ceiling, in any list of runs of any commands from any record
 abbrev pub Limited : Layout → Pair → Type 0
 Limited lay p = p .event < orders → p .value ≤ getD (lay .ceilings) (p .event) 0
 
 abbrev pub Ceilings : Type 0
 Ceilings = (lay : Layout) (ws : List ℕ) (c : Session) (gs : List RunInput) → Every (Limited lay) (recordedIn (eachRun (runAs lay ws) (afterRun lay ws) c gs))
 
--- a run does not answer 22, fault
+-- a run does not answer fault (22)
 abbrev pub Faultless : {O : Type 0} → Run O → Type 0
 Faultless r = r .number ≡ endingNumber Fault → ⊥
 
--- the frame condition: a run leaves its memory's length and every cell outside the sandbox but the state cell as it found them; the pairs that it counts
--- are in its log, the readings among those it was given; beyond the counted pairs a log is as it was found
+-- the frame condition: a run keeps its memory's length and every cell outside the sandbox except the state cell.
+-- The pairs that it counts are in its log, and the rest of the log is as before. Its readings are among those given
 pub record FrameCondition {O : Type 0} (lay : Layout) (r : Run O) : Type 0 where
   pub size : length (r .result .mem) ≡ length (r .input .memory)
   pub cells : (i : ℕ) → inBox lay i ≡ false → (i ≡ lay .cell → ⊥) → getD (r .result .mem) i 0 ≡ getD (r .input .memory) i 0
@@ -306,14 +304,14 @@ pub record FrameCondition {O : Type 0} (lay : Layout) (r : Run O) : Type 0 where
   pub logSize : length (r .result .log) ≡ length (r .input .log)
   pub logRest : (i : ℕ) → pairCells * r .pairs ≤ i → getD (r .result .log) i 0 ≡ getD (r .input .log) i 0
 
--- two runs given the same readings and budget, and logs and memories of the same lengths
+-- two runs with the same readings and budget, and with logs and memories of the same lengths
 pub record SameInputs (g g′ : RunInput) : Type 0 where
   pub readings : g .readings ≡ g′ .readings
   pub budget : g .budget ≡ g′ .budget
   pub log : length (g .log) ≡ length (g′ .log)
   pub memory : length (g .memory) ≡ length (g′ .memory)
 
--- two runs with the same answer and record, the same logged pairs, and after them the same state cell and sandbox
+-- two runs with the same answer and record, the same recorded pairs, and the same state cell and sandbox after them
 pub record SameObservations {O : Type 0} (lay : Layout) (r r′ : Run O) : Type 0 where
   pub outcome : r .result .outcome ≡ r′ .result .outcome
   pub logged : pairsOf (r .result .log) (r .pairs) ≡ pairsOf (r′ .result .log) (r′ .pairs)
@@ -321,11 +319,11 @@ pub record SameObservations {O : Type 0} (lay : Layout) (r r′ : Run O) : Type 
   pub box : (i : ℕ) → inBox lay i ≡ true → getD (r .memory) i 0 ≡ getD (r′ .memory) i 0
 
 -- what holds of a whole list of runs:
--- (a) no run faults; (b) each leaves every cell outside the sandbox but the state cell as it found it, and its log beyond the counted pairs,
---     so that in the end table and landing cells are as installing left them;
--- (c) the events of all counted pairs, log after log, are a list that the policy allows;
--- (d) noninterference: a second list, from a low-equivalent installation, its runs given the same inputs, shows the same run by run:
---     free memory and what logs held before have no influence
+-- (a) no run faults;
+-- (b) each run changes only the sandbox, the state cell and the log's counted pairs, so table and landing cells stay as installed;
+-- (c) the policy allows the list of all recorded events, log after log;
+-- (d) noninterference: two lists of runs with the same inputs, whose memories differ only in free cells, give the same observations run by run.
+-- So neither free memory nor the old content of logs has any influence
 pub record Isolated (lay : Layout) (pol : Policy) (ws mem : List ℕ) (gs : List RunInput) : Type 0 where
   pub faultless : Every Faultless (allRuns lay pol ws mem gs)
   pub frame : Every (FrameCondition lay) (allRuns lay pol ws mem gs)
@@ -336,40 +334,40 @@ pub record Isolated (lay : Layout) (pol : Policy) (ws mem : List ℕ) (gs : List
       LowEqual lay (installMemory lay pol mem) (installMemory lay pol′ mem′) → Pairwise SameInputs gs gs′ →
       Pairwise (SameObservations lay) (allRuns lay pol ws mem gs) (allRuns lay pol′ ws mem′ gs′)
 
--- demand 3
+-- demand 3, isolation
 abbrev pub Isolation : Type 0
 Isolation = (lay : Layout) (pol : Policy) (ws mem : List ℕ) (gs : List RunInput) → HostPremise lay pol ws mem gs → Isolated lay pol ws mem gs
 
 -- ---- the pc
 
--- 'The pc wraps at 2^32, which a passed routine, on demand 3's premise, never does': it stays in the list, which ends at 2^32 or before it,
--- and where one more step goes on by one, that is no wrap
+-- 'The pc wraps at 2^32, which a passed routine, on demand 3's premise, never does': pc stays in the list, which ends at or before 2^32,
+-- and adding 1 to it does not wrap
 pub record PcLaws (lay : Layout) (ws : List ℕ) (c : Session) : Type 0 where
   pub from : lay .base ≤ c .machine .pc
   pub within : c .machine .pc < lay .base + length ws
   pub top : lay .base + length ws ≤ 2 ^ 32
   pub nextPc : (g : RunInput) → MemoryPreserved lay (c .memory) g → afterRun lay ws c (withBudget g 1) .machine .pc ≡ nextPc (c .machine .pc) → c .machine .pc + 1 < 2 ^ 32
 
--- at every moment: a list of runs may end anywhere
+-- at every moment, since a list of runs may end anywhere
 abbrev pub NoWrap : Type 0
 NoWrap = (lay : Layout) (pol : Policy) (ws mem : List ℕ) (gs : List RunInput) → HostPremise lay pol ws mem gs → PcLaws lay ws (after lay pol ws mem gs)
 
 -- ---- the state cell
 
 -- 'the state cell is the policy's state over the recorded events … but for one point. With pc on the fourth command of an event bundle …
--- it is behind by that one event': it is the state over `kept`, the recorded events without that one, which is the last
+-- it is behind by that one event'. `kept` are the recorded events without that last one
 pub record CellLaws (lay : Layout) (pol : Policy) (ws : List ℕ) (c : Session) : Type 0 where
   pub kept : List ℕ
   pub recorded : eventsOf (c .records) ≡ kept ++ pendingAt lay ws (c .machine)
   pub state : getD (c .memory) (lay .cell) 0 ≡ stateOver pol kept
   pub arrows : allowed pol (eventsOf (c .records)) ≡ true
 
--- 'which only a spent budget can show': a run that leaves pc there answers 25; a refused one leaves pc where it was
+-- 'which only a spent budget can show': a run that leaves pc there answers spent (25); a refused run leaves pc where it was
 abbrev pub OnlySpent : Layout → List ℕ → Run Outcome → Type 0
 OnlySpent lay ws r =
     (r .result .outcome .answer .ending ≡ Refused → ⊥) → (pendingAt lay ws (r .result .outcome .machine) ≡ [] → ⊥) → r .number ≡ endingNumber Spent
 
--- at every moment, those of pauses too: a list of runs may end anywhere
+-- at every moment, pauses included, since a list of runs may end anywhere
 abbrev pub StateCell : Type 0
 StateCell =
     (lay : Layout) (pol : Policy) (ws mem : List ℕ) (gs : List RunInput) → HostPremise lay pol ws mem gs →
@@ -377,7 +375,7 @@ StateCell =
 
 -- ---- pauses for log or probe
 
--- a run answers 23 or 24
+-- a run answers log full (23) or probe silent (24)
 abbrev pub Paused : Ending → Type 0
 Paused e = (e ≡ LogFull) ⊎ (e ≡ Silent)
 
@@ -392,7 +390,7 @@ PausedWaits =
     (lay : Layout) (pol : Policy) (ws mem : List ℕ) (gs : List RunInput) → HostPremise lay pol ws mem gs →
     Every (λ r. Paused (r .result .outcome .answer .ending) → Waiting lay ws (r .result .outcome .machine)) (allRuns lay pol ws mem gs)
 
--- there the guest stands before an event that has its arrow: of the bundles begun this one is not done, and all agrees, the state cell too
+-- at a pause the guest is before an event that the policy allows. The event's bundle has begun but is not done; all else agrees, the state cell too
 pub record WaitsFor (lay : Layout) (pol : Policy) (code : List ℕ) (e : ℕ) (g : Guest) (c : Session) : Type 0 where
   pub begun : 1 ≤ c .begun
   pub event : routine code (g .at) ≡ EVENT e

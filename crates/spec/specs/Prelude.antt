@@ -1,8 +1,8 @@
--- Re-exports all that the definitions take from the kit, so that each file beside this one needs one line. Numbers are natural and without bound:
--- x - y is 0 where y is greater, x / 0 is 0 and x % 0 is x; eqb, leb and ltb are the tests of ≡, ≤ and <. Element i of a list is
--- `getD xs i d`, or d past its end, where `set xs i x` and `sets xs i ys` (ys written from i on) change nothing; of bits, `ones` counts those set,
--- `leadingZeros k` and `trailingZeros k` the zeros above and below them in k, all k of 0. Of integers `pos n` is n and `negsuc n` is −(n + 1);
--- `shrZ z m` is z divided by m, rounded down.
+-- Re-exports what the definitions use from the kit, so that each file here needs one line for it. Its conventions:
+-- - numbers are natural numbers without bound; x - y is 0 if y is greater; x / 0 is 0; x % 0 is x; eqb, leb and ltb test ≡, ≤ and <
+-- - `getD xs i d` is element i of a list, or d past its end; `set xs i x` replaces element i, `sets xs i ys` several from i on; past the end both do nothing
+-- - `ones` counts the bits that are 1; `leadingZeros k` and `trailingZeros k` count the zeros above and below them in k bits, and give k for 0
+-- - of integers, `pos n` is n, `negsuc n` is −(n + 1), and `shrZ z m` is z divided by m, rounded down
 pub use Prim.Native.Nat.{ℕ, zero, suc, _+_, _-_, _*_, _/_, _%_, _^_, min, _<_, _≤_}
 pub use mathlib.Core.Path.{_≡_}
 pub use mathlib.Core.Bool.{Bool, true, false, not, _&&_, _||_, cond}

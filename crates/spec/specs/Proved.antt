@@ -1,4 +1,4 @@
--- Every claim of this crate, a field each: its one term is `proved`, in proofs/Proved.antt.
+-- All claims of this crate, one field each. Their proof is `proved` in proofs/Proved.antt.
 use Rattle.spec.specs.Endings.{MachineOrder, OverStays, EndsOnlyWhen}
 use Rattle.spec.specs.Claims.{Masks, LandingBits, Installs, Sizes, Signs, WordsRoundTrip, BytesRoundTrip, RewriteLeaves, RewrittenPasses, PassedRewrites, Shapes, Checks, PassedDecodes, EndingStatus, RunsCompose, PrefixClosed, GuestRule, EveryMoment, Resumes, Progress, Recorded, Ceilings, Isolation, NoWrap, StateCell, PausedWaits, PauseRule}
 

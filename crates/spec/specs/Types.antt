@@ -1,4 +1,4 @@
--- Re-exports the types of `types` and their cases, so that each file beside this one needs one line.
+-- Re-exports the types of `types` and their cases, so that each file here needs one line for them.
 pub use Rattle.types.specs.declared.Layout.{Layout}
 pub use Rattle.types.specs.declared.PolicyNumbers.{PolicyNumbers}
 pub use Rattle.types.specs.declared.Fields.{Fields}

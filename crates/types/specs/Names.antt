@@ -1,4 +1,4 @@
--- The numbers of document 01 and of the change requests, each named once, with refusals, endings and answers.
+-- Names each number of document 01 and of the change requests once, with the refusals, endings and answers.
 use Prim.Native.Nat.{ℕ, _+_, _-_, _*_, _^_}
 use mathlib.Core.Bool.{Bool, cond}
 use mathlib.Core.List.{List, [], _∷_, _++_}
@@ -10,7 +10,7 @@ use Rattle.types.specs.declared.Ending.{Ending}
 use Rattle.types.specs.declared.Ending.the-variants.{Done, NoArrow, Fault, LogFull, Silent, Spent, NoLanding, Refused}
 use Rattle.types.specs.declared.Answer.{Answer}
 
--- U is from 1 to 4,096, S from 1 to 16, B has 32 bits
+-- bounds of a layout: U is from 1 to 4,096, S from 1 to 16, and B has 32 bits
 abbrev pub mostCells : ℕ
 mostCells = 4096
 
@@ -20,7 +20,7 @@ mostStates = 16
 abbrev pub baseBound : ℕ
 baseBound = 2 ^ 32
 
--- a policy's row has an entry for each of 16 events, of which the first 8 are orders; 255 is no arrow
+-- a policy's row has an entry for each of 16 events; the first 8 are orders; 255 is no arrow
 abbrev pub events : ℕ
 events = 16
 
@@ -30,7 +30,7 @@ orders = 8
 abbrev pub noArrow : ℕ
 noArrow = 255
 
--- a routine has at most 1,023 instructions, a list at most 1,024 bundles of 4 commands
+-- a routine has at most 1,023 instructions, and a list at most 1,024 bundles of 4 commands
 abbrev pub mostInstructions : ℕ
 mostInstructions = 1023
 
@@ -58,11 +58,11 @@ landingCells = 32
 abbrev pub cellBits : ℕ
 cellBits = 32
 
--- a bundle number shifted by it is times 4: 4 is 2 ^ 2
+-- shifting a bundle's number by this multiplies it by 4
 abbrev pub bundleShift : ℕ
 bundleShift = 2
 
--- the guest's registers are 0 to 14; register 15 is hidden; the machine has sixteen
+-- the guest has registers 0 to 14; register 15 is hidden; the machine has sixteen
 abbrev pub guestRegisters : ℕ
 guestRegisters = 15
 
@@ -72,7 +72,7 @@ hidden = guestRegisters
 abbrev pub registers : ℕ
 registers = hidden + 1
 
--- the greatest register of a guest field and of a command's, the greatest condition, shift and event, and the greatest 32-bit number
+-- the largest values: a guest's register, a command's register, condition, shift, event, 32-bit number
 abbrev pub topGuest : ℕ
 topGuest = guestRegisters - 1
 
@@ -91,25 +91,25 @@ topEvent = events - 1
 abbrev pub topWord : ℕ
 topWord = 4294967295
 
--- the guest's kinds, and the greatest
+-- the guest's kinds, and the largest
 abbrev pub guest : record { halt : ℕ; set : ℕ; move : ℕ; add : ℕ; sub : ℕ; and : ℕ; or : ℕ; sar : ℕ; load : ℕ; store : ℕ; goif : ℕ; gox : ℕ; event : ℕ }
 guest = record { halt = 0; set = 1; move = 2; add = 3; sub = 4; and = 5; or = 6; sar = 7; load = 8; store = 9; goif = 10; gox = 11; event = 12 }
 
 abbrev pub topKind : ℕ
 topKind = guest .event
 
--- the command kinds, and their count
+-- the command kinds, and how many there are
 abbrev pub command : record { nop : ℕ; halt : ℕ; set : ℕ; move : ℕ; add : ℕ; sub : ℕ; and : ℕ; or : ℕ; sar : ℕ; andi : ℕ; ori : ℕ; shl : ℕ; load : ℕ; store : ℕ; goif : ℕ; goxr : ℕ; look : ℕ; stopif : ℕ; keep : ℕ; event : ℕ }
 command = record { nop = 0; halt = 1; set = 2; move = 3; add = 4; sub = 5; and = 6; or = 7; sar = 8; andi = 9; ori = 10; shl = 11; load = 12; store = 13; goif = 14; goxr = 15; look = 16; stopif = 17; keep = 18; event = 19 }
 
 abbrev pub commandKinds : ℕ
 commandKinds = command .event + 1
 
--- the plain kinds, SET to SAR, are that much higher as commands
+-- a plain kind, SET to SAR, has this much added as a command
 abbrev pub plainStep : ℕ
 plainStep = command .set - guest .set
 
--- the table 'Rejects', with its words
+-- the paper's table 'Rejects'
 abbrev pub numberOf : Refusal → ℕ
 numberOf Taken = 0  -- taken
 numberOf Short = 1  -- short weight
@@ -131,7 +131,7 @@ numberOf BadDrawing = 16  -- bad drawing
 numberOf BadPair = 17  -- bad pair
 numberOf NotForward = 18  -- not forward
 
--- the table of endings, with its words; a refused run answers 7 (bad layout)
+-- the paper's table of endings; a refused run answers bad layout (7)
 abbrev pub endingNumber : Ending → ℕ
 endingNumber Done = 20  -- ended
 endingNumber NoArrow = 21  -- no arrow
@@ -142,15 +142,15 @@ endingNumber Spent = 25  -- spent
 endingNumber NoLanding = 26  -- no landing
 endingNumber Refused = numberOf BadLayout
 
--- a number with its place
+-- an answer from its number and its place
 abbrev pub answer : ℕ → ℕ → Answer
 answer x p = record { number = x; place = p }
 
--- a refusal with its place
+-- an answer from a refusal and its place
 abbrev pub refusal : Refusal → ℕ → Answer
 refusal x p = answer (numberOf x) p
 
--- the first where an answer refuses nothing, else the second
+-- x if the answer is no refusal, else y
 abbrev pub ifTaken : {A : Type 0} → Answer → A → A → A
 ifTaken a x y = cond (eqb (a .number) 0) x y
 
@@ -158,15 +158,15 @@ ifTaken a x y = cond (eqb (a .number) 0) x y
 abbrev pub orElse : Answer → Answer → Answer
 orElse a b = ifTaken a b a
 
--- an output to the start of which xs are written: 'A refusal leaves all lent memory and records untouched; success leaves output past the result untouched'
+-- an output after xs were written to its start: 'A refusal leaves all lent memory and records untouched; success leaves output past the result untouched'
 abbrev pub outputOf : Answer → List ℕ → List ℕ → List ℕ
 outputOf a xs out = ifTaken a (xs ++ drop (length xs) out) out
 
--- 9 where an output of length room is too short for k; else k, 'as place, the words, bytes or commands written'
+-- small hopper (9) if k elements do not fit into `room`; else success with k, 'as place, the words, bytes or commands written'
 abbrev pub roomFor : ℕ → ℕ → Answer
 roomFor room k = cond (ltb room k) (refusal SmallOutput 0) (answer (numberOf Taken) k)
 
--- the value beside the first test that passes
+-- the value beside the first test that holds
 abbrev pub first : {A : Type 0} → List (Bool × A) → A → A
 first [] d = d
 first ((b, x) ∷ r) d = cond b x (first r d)
