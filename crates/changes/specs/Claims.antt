@@ -1,4 +1,4 @@
--- Claims about what each change request altered: the rule before it, and how answers differ.
+-- What each change request altered: the rule before it, and which answers differ since.
 use Prim.Native.Nat.{ℕ, _+_, _-_, _*_, _/_, _<_, _≤_}
 use mathlib.Core.Path.{_≡_}
 use mathlib.Core.Bool.{Bool, true, false, _&&_, cond}
@@ -24,7 +24,7 @@ use Rattle.spec.specs.Claims.{Placed}
 
 -- ---- [4]: which pause comes first
 
--- what EVENT v did before, by the free log cells and the readings left: a full log was reported first
+-- EVENT v before the request, by free log cells and readings left: log full (23) came first
 abbrev pub eventBefore : ℕ → ℕ → ℕ → Effect
 eventBefore v free left = ifRoom free (cond (ltb v orders) (Order v) (cond (eqb left 0) (Wait Silent) (Probe v)))
 
@@ -41,7 +41,7 @@ pub record PauseLaws (v : ℕ) (s : View) : Type 0 where
 abbrev pub SilentFirst : Type 0
 SilentFirst = (v : ℕ) (s : View) → PauseLaws v s
 
--- what each command did before: EVENT as above, any other what it does
+-- every command before the request: EVENT as above, the others as today
 abbrev pub effectBefore : Command → View → Effect
 effectBefore Nop s = effectOf Nop s
 effectBefore Halt s = effectOf Halt s
@@ -62,7 +62,7 @@ nextBefore lay ws reads s = effectBefore (fetchOf ws (lay .base) (s .pc)) (viewA
 abbrev pub stepBefore : Layout → List ℕ → List ℕ → State → State
 stepBefore lay ws reads s = applyOf (lay .ceilings) reads (nextBefore lay ws reads s) s
 
--- a run as it was before, in all else that of today (`runFrom`, `runOf`)
+-- a run before the request; all else is as in `runFrom` and `runOf`
 abbrev pub runFromBefore : Layout → List ℕ → List ℕ → ℕ → ℕ → State → RunResult
 runFromBefore lay ws reads n k s = loopFrom (nextBefore lay ws reads) (stepBefore lay ws reads) (λ s k. k + 1) resultIn n k s
 
@@ -70,25 +70,25 @@ unfoldable pub runBefore : Layout → List ℕ → Machine → List ℕ → ℕ 
 runBefore lay ws m mem budget reads log =
     cond (fits lay mem) (runFromBefore lay ws reads budget 0 (startOf m mem log)) (runResultOf (outcomeOf m Refused 0 0 0) mem log)
 
--- it answered 23, and left the machine on 'a reading event with no readings left and fewer than two free log cells'
+-- the run answered log full (23) at 'a reading event with no readings left and fewer than two free log cells'
 pub record PausedBoth (lay : Layout) (ws reads : List ℕ) (r : RunResult) : Type 0 where
   pub full : r .outcome .answer .ending ≡ LogFull
   pub event : ℕ
   pub command : fetchOf ws (lay .base) (r .outcome .machine .pc) ≡ Event event
   pub both : BothPause event (viewAt lay reads (finalState r))
 
--- the same run with answer 24: record, steps, pairs, readings used, memory and log are as they were
+-- the same result with ending probe silent (24)
 abbrev pub silentInstead : RunResult → RunResult
 silentInstead r =
     let a = r .outcome .answer in
     runResultOf (outcomeOf (r .outcome .machine) Silent (a .steps) (a .pairs) (a .used)) (r .mem) (r .log)
 
--- of a run of today, `now`, and the same run before: 'The one old answer that changes .. gave 23 and gives 24'
+-- a run today, `now`, and before, `old`: 'The one old answer that changes .. gave 23 and gives 24'
 pub record RunLaws (lay : Layout) (ws reads : List ℕ) (now old : RunResult) : Type 0 where
   pub gives : PausedBoth lay ws reads old → now ≡ silentInstead old
   pub same : (PausedBoth lay ws reads old → ⊥) → now ≡ old
 
--- of every run: any layout, commands, record, memory, budget, readings and log
+-- holds of every run: any layout, commands, record, memory, budget, readings and log
 abbrev pub SilentRuns : Type 0
 SilentRuns =
     (lay : Layout) (ws : List ℕ) (m : Machine) (mem : List ℕ) (budget : ℕ) (reads log : List ℕ) →
@@ -99,7 +99,7 @@ SilentRuns =
 abbrev pub hiddenBefore : ℕ
 hiddenBefore = 8
 
--- LOAD, STORE, GOX and EVENT: their shapes name the hidden register
+-- LOAD, STORE, GOX and EVENT: their bundles name the hidden register
 abbrev pub namesHidden : Instr → Bool
 namesHidden HALT = false
 namesHidden (PLAIN k d a b v) = false
@@ -109,7 +109,7 @@ namesHidden (GOIF a b c v) = false
 namesHidden (GOX d a b c) = true
 namesHidden (EVENT e) = true
 
--- every register field of an instruction is below r
+-- whether every register field of an instruction is below r
 abbrev pub fieldsBelow : ℕ → Instr → Bool
 fieldsBelow r HALT = true
 fieldsBelow r (PLAIN k d a b v) = ltb d r && ltb a r && ltb b r
@@ -119,18 +119,17 @@ fieldsBelow r (GOIF a b c v) = ltb a r && ltb b r
 fieldsBelow r (GOX d a b c) = ltb d r && ltb a r && ltb b r
 fieldsBelow r (EVENT e) = true
 
--- what the checker passes where r is the hidden register and the guest's are those below it, events in today's order: `is` are the
--- instructions of the bundles
+-- what the checker would pass if r were the hidden register and the guest had those below it; `is` are the bundles' instructions
 pub record PassesWith (r : ℕ) (lay : Layout) (ws : List ℕ) (N : ℕ) (is : ℕ → Instr) : Type 0 where
   pub placed : Placed lay ws N
   pub fields : (h : ℕ) → h < N → (valid N (is h) && fieldsBelow r (is h)) ≡ true
   pub words : (h p : ℕ) → h < N → p < bundleLength → getD ws (bundleLength * h + p) 0 ≡ wordOf (shapeWith r lay N (is h) p)
   pub last : is (N - 1) ≡ HALT
 
--- `passes` and `passed`: the checker is that of register 15;
--- `refused`: 'the checker refuses lists written before, with 11, whenever they hold a LOAD, STORE, GOX or EVENT bundle', unless 7, 12 or 13 comes first:
---     for all fields and at every place; the bundle's first command is enough;
--- `kept` and `before`: a list without one passes exactly where it passed before, if its register fields are below 8
+-- `passes` and `passed`: today's checker is this one for register 15;
+-- `refused`: 'the checker refuses lists written before, with 11, whenever they hold a LOAD, STORE, GOX or EVENT bundle',
+--     unless bad layout (7), bad count (12) or bad base (13) comes first; this holds for all fields and places, and the bundle's first command is enough;
+-- `kept` and `before`: a list without such a bundle, and with register fields below 8, passes exactly if it passed before
 pub record BeforeLaws (lay : Layout) (ws : List ℕ) (N : ℕ) : Type 0 where
   pub passes : (is : ℕ → Instr) → PassesWith hidden lay ws N is → checkAnswer lay ws ≡ answer 0 0
   pub passed : checkAnswer lay ws .number ≡ 0 → PassesWith hidden lay ws N (bundleAt lay ws)
@@ -147,14 +146,14 @@ pub record BeforeLaws (lay : Layout) (ws : List ℕ) (N : ℕ) : Type 0 where
 abbrev pub ListsBefore : Type 0
 ListsBefore = (lay : Layout) (ws : List ℕ) → BeforeLaws lay ws (length ws / bundleLength)
 
--- ---- [12]: lists whose events stand in the old order
+-- ---- [12]: lists whose event bundles have the old order
 
--- the words of an event's bundle in the order that [12] gave up, LOOK, STOPIF, KEEP, EVENT, with register r for the hidden one
+-- an event bundle's words in the order before [12], LOOK, STOPIF, KEEP, EVENT, with hidden register r
 abbrev pub oldEvent : ℕ → ℕ → List ℕ
 oldEvent r e = wordOf (Look r e) ∷ wordOf (StopIf r) ∷ wordOf (Keep r) ∷ wordOf (Event e) ∷ []
 
--- 'Lists in the old order that contain an event are refused with 11', wherever it stands and whichever it is, if not with 7, 12 or 13;
--- no later bundle is named
+-- 'Lists in the old order that contain an event are refused with 11', whatever the event and its place, unless bad layout (7), bad count (12)
+-- or bad base (13) comes first; the place is at most that bundle
 abbrev pub OldRefused : Type 0
 OldRefused =
     (lay : Layout) (ws : List ℕ) (h r e : ℕ) →

@@ -1,4 +1,4 @@
--- Request 13, 'Routines that always finish': the class of forward routines, and what its two checks answer.
+-- Request 13, 'Routines that always finish': which routines are forward, and what the two checks answer.
 use Prim.Native.Nat.{ℕ, zero, suc, _+_, _-_, _/_}
 use mathlib.Core.Bool.{Bool, true, false, not, cond}
 use mathlib.Core.List.{List, [], _∷_}
@@ -13,7 +13,7 @@ use Rattle.types.specs.Names.{mostInstructions, bundleLength, numberOf, answer,
 use Rattle.spec.specs.Words.{kindOf, vOf, refusalAt, firstRefused, routine}
 use Rattle.spec.specs.Bundles.{bundleAt, checkAnswer}
 
--- 'no GOX and .. every GOIF going to a higher instruction than its own': of instruction h
+-- whether instruction h is forward: 'no GOX and .. every GOIF going to a higher instruction than its own'
 unfoldable pub forwardAt : ℕ → Instr → Bool
 forwardAt h HALT = true
 forwardAt h (PLAIN k d a b v) = true
@@ -23,21 +23,21 @@ forwardAt h (GOIF a b c v) = ltb h v
 forwardAt h (GOX d a b c) = false
 forwardAt h (EVENT e) = true
 
--- 'the lowest instruction or bundle that breaks the class is its place': among those from h to h + m − 1
+-- 'the lowest instruction or bundle that breaks the class is its place', among those from h to h + m − 1
 unfoldable pub forwardFrom : (ℕ → Instr) → ℕ → ℕ → Answer
 forwardFrom is h zero = answer (numberOf Taken) 0
 forwardFrom is h (suc m) = cond (forwardAt h (is h)) (forwardFrom is (h + 1) m) (refusal NotForward h)
 
--- the check of guest words: 18 'comes last, whatever the places: after 5, 3, 2, 4, 8'
+-- the check of guest words: not forward (18) 'comes last, whatever the places: after 5, 3, 2, 4, 8'
 unfoldable pub forwardAnswer : List ℕ → Answer
 forwardAnswer ws =
     first ((ltb mostInstructions (length ws), refusal Oversize 0) ∷ [])
     (orElse (firstRefused (refusalAt (length ws)) ws 0 (answer (numberOf Taken) 0)) (forwardFrom (routine ws) 0 (length ws)))
 
--- the check of command lists: 'after all the checker's refusals'
+-- the check of command lists: not forward (18) comes 'after all the checker's refusals'
 unfoldable pub checkForwardAnswer : Layout → List ℕ → Answer
 checkForwardAnswer lay ws = orElse (checkAnswer lay ws) (forwardFrom (bundleAt lay ws) 0 (length ws / bundleLength))
 
--- a bundle's first word shows whether it is forward: GOIF to an address, or the SHL with which a GOX begins
+-- whether bundle h is forward, by its first word: a GOIF's address, or the SHL with which only a GOX begins
 unfoldable pub forwardWord : Layout → ℕ → ℕ → Bool
 forwardWord lay h w = cond (eqb (kindOf w) (command .goif)) (ltb h ((vOf w - lay .base) / bundleLength)) (not (eqb (kindOf w) (command .shl)))

@@ -1,4 +1,4 @@
--- Every claim of this crate, a field each: its one term is `proved`, in proofs/Proved.antt.
+-- All claims of this crate, one field each. Their proof is `proved` in proofs/Proved.antt.
 use Rattle.forward_spec.specs.Claims.{ChecksAgree, ForwardWritten, ForwardRead, Bounded, TakesStep, Finishes, FinishesIn, FinishesAtOnce, AlwaysFinish, FinishesResumed, RewrittenFinishesIn}
 use Rattle.forward_spec.specs.Sample.{Answers, SampleReaches, Stepwise}
 

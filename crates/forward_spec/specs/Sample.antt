@@ -18,7 +18,7 @@ use Rattle.spec.specs.Claims.{Resumable}
 use Rattle.forward_spec.specs.Forward.{forwardAnswer, checkForwardAnswer}
 use Rattle.forward_spec.specs.Claims.{mostSteps, stepsIn, ResumedAfter, stepsCharged}
 
--- SET r0, 70; always to instruction v; GOX on r0; order v
+-- SET r0, 70; a GOIF that always goes to v; GOX on r0; order v
 abbrev pub plain : ℕ
 plain = packOf 1 0 0 0 0 70
 
@@ -34,8 +34,8 @@ order v = packOf 12 0 0 0 0 v
 abbrev pub layout : Layout
 layout = layoutOf 64 8 15 0 16 1 16 32 noLimits
 
--- words: none; a jump to n; to itself; back; back, where nothing leads; GOX; and what comes before 18, at higher places
--- lists: of words of the class; a jump to its own bundle; the lowest of two; and what comes before 18
+-- words: none; a jump to n, to itself, back, back from where nothing leads; GOX; and refusals that come before not forward (18), at higher places.
+-- Lists: of forward words; a jump to its own bundle; the first of two such; and refusals that come before not forward (18)
 pub record Answers : Type 0 where
   pub none : forwardAnswer [] ≡ answer 0 0
   pub end : forwardAnswer (goto 1 ∷ []) ≡ answer 0 0
@@ -54,7 +54,7 @@ pub record Answers : Type 0 where
   pub listBase : checkForwardAnswer layout (commandsOf layout (gox ∷ plain ∷ plain ∷ plain ∷ [])) ≡ answer 13 0
   pub listShape : checkForwardAnswer layout (set (commandsOf layout (gox ∷ [])) 7 1) ≡ answer 11 1
 
--- two orders and a SET: N is 4
+-- two orders and a SET, so N is 4
 abbrev pub code : List ℕ
 code = order 0 ∷ order 2 ∷ plain ∷ []
 
@@ -89,14 +89,14 @@ pub record SampleReaches : Type 0 where
   pub answers : map (λ r. r .result .outcome .answer) (allRuns layout policy commands memory runs) ≡ runAnswer LogFull 6 1 0 ∷ runAnswer Done 7 1 0 ∷ []
   pub reached : stepsIn (allRuns layout policy commands memory runs) ≡ mostSteps 4
 
--- one order: N is 2, and five steps are the most
+-- one order, so N is 2, and it takes at most five steps
 abbrev pub short : List ℕ
 short = order 0 ∷ []
 
 abbrev pub shortCommands : List ℕ
 shortCommands = commandsOf layout short
 
--- runs with budgets of one, lent the memory that the last one left; where `true` stands with a free pair and a reading, else with none
+-- a run with budget 1 in the memory that the last run left; `true` gives it a free pair and a reading, `false` none
 abbrev pub oneStep : List ℕ → Bool → RunInput
 oneStep mem b = record { memory = mem; budget = 1; readings = cond b (1800 ∷ []) []; log = cond b (0 ∷ 0 ∷ []) [] }
 
@@ -104,14 +104,14 @@ abbrev pub oneStepEach : Session → List Bool → List RunInput
 oneStepEach c [] = []
 oneStepEach c (b ∷ bs) = oneStep (c .memory) b ∷ oneStepEach (afterRun layout shortCommands c (oneStep (c .memory) b)) bs
 
--- the third pauses and the fourth resumes it; the sixth ends, and four more come after it
+-- the third run pauses and the fourth resumes it; the sixth ends, and four more follow
 abbrev pub fourthAlone : List Bool
 fourthAlone = false ∷ false ∷ false ∷ true ∷ replicate 6 false
 
 abbrev pub stepwise : List RunInput
 stepwise = oneStepEach (initialSession layout policy memory) fourthAlone
 
--- the premises of FinishesResumed
+-- these runs satisfy the premises of FinishesResumed
 pub record Stepwise : Type 0 where
   pub premise : HostPremise layout policy shortCommands memory stepwise
   pub rewritten : rewriteAnswer layout short 8 ≡ answer 0 8

@@ -1,5 +1,5 @@
--- A sample that satisfies the claims' premises: the routine of document 01's trial in two runs with a refused one between,
--- and a second list that differs only in free cells and in what the logs held.
+-- Shows that the claims' premises can be met: document 01's sample routine in two runs with a refused one between,
+-- and a second list of runs that differs only in free cells and in old log contents.
 use Prim.Native.Nat.{ℕ}
 use mathlib.Core.Path.{_≡_}
 use mathlib.Core.List.{List, [], _∷_, _++_, map}
@@ -22,7 +22,7 @@ use Rattle.samples.specs.Tray.{noLimits}
 abbrev pub layout : Layout
 layout = layoutOf 1024 256 511 0 16 2 4096 64 noLimits
 
--- the door's event 2 goes to state 1, which has no arrow for event 0, gas; instructions 3 and 40 are landings
+-- event 2, the door, leads to state 1, which has no arrow for event 0, gas; instructions 3 and 40 are landings
 abbrev pub policy : Policy
 policy = policyOf 2 0 (0 ∷ 0 ∷ 1 ∷ replicate 13 0 ++ 255 ∷ replicate 15 1) (3 ∷ 40 ∷ [])
 
@@ -41,11 +41,11 @@ probing = commandsOf layout (packOf (guest .event) 0 0 0 0 9 ∷ [])
 abbrev pub memory : ℕ → List ℕ
 memory x = set (replicate 1024 0) 700 x
 
--- a lent memory, a budget, and what the log held
+-- a run's input from a memory, a budget and what the log held
 abbrev pub runInput : List ℕ → ℕ → ℕ → RunInput
 runInput mem budget old = record { memory = mem; budget = budget; readings = 1800 ∷ 1950 ∷ 2100 ∷ []; log = replicate 64 old }
 
--- six steps, before which the host wrote x to the free cell 650; a memory too short; a thousand steps, before which it wrote x to the free cell 600
+-- three runs: six steps after the host wrote x to free cell 650; a memory too short; a thousand steps after it wrote x to free cell 600
 abbrev pub firstRun : ℕ → RunInput
 firstRun x = runInput (set (installMemory layout policy (memory x)) 650 x) 6 x
 
@@ -58,7 +58,7 @@ lastRun x = runInput (set (left x) 600 x) 1000 x
 abbrev pub runs : ℕ → List RunInput
 runs x = firstRun x ∷ runInput [] 6 x ∷ lastRun x ∷ []
 
--- a run without a log, and one of eleven steps, which ends between EVENT and KEEP of the door's event
+-- a run without a log; and one of eleven steps, which ends between EVENT and KEEP of the door's event
 abbrev pub pausedRun : ℕ → RunInput
 pausedRun x = record { memory = installMemory layout policy (memory x); budget = 1000; readings = []; log = [] }
 
@@ -68,9 +68,9 @@ lateRun x = runInput (installMemory layout policy (memory x)) 11 x
 abbrev pub answersIn : List (Run Outcome) → List RunAnswer
 answersIn rs = map (λ r. r .result .outcome .answer) rs
 
--- whatever x and y free cells and logs held, the runs are on the premises of Isolation and of its (d);
--- fourteen steps in all, and the last run stops where gas has no arrow, after four bundles, with the guest's records.
--- Without a log the first event is waited for; after eleven steps the door's is recorded, and the state cell is behind by it
+-- for all x and y in free cells and logs, the runs satisfy the premises of Isolation and of its part (d).
+-- They take fourteen steps; the last run stops where gas has no arrow, after four bundles, with the guest's records.
+-- Without a log the machine waits at the first event; after eleven steps the door's event is recorded, and the state cell is behind by it
 pub record SampleHolds : Type 0 where
   pub premise : (x : ℕ) → HostPremise layout policy commands (memory x) (runs x)
   pub matches : (x y : ℕ) → LowEqual layout (installMemory layout policy (memory x)) (installMemory layout policy (memory y))

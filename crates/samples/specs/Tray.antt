@@ -1,4 +1,4 @@
--- Document 01's sample tray: its cases marked *, as [1] leaves them, and [6]'s r14 and r15 in bytes, as rows of one table.
+-- The cases marked * of document 01's sample tray, as request [1] left them, and r14 and r15 in bytes from request [6], as rows of one table.
 use Prim.Native.Nat.{ℕ, _+_, _-_, _^_}
 use mathlib.Core.Path.{_≡_}
 use mathlib.Core.Bool.{Bool, true, false, _&&_, Bool·beq}
@@ -48,11 +48,11 @@ noLimits = replicate orders topWord
 abbrev pub smallLayout : ℕ → Layout
 smallLayout b = layoutOf 64 8 15 0 16 1 b 32 noLimits
 
--- GOX r0, always; then HALTs to seven instructions
+-- GOX r0, always; then HALTs, up to seven instructions
 abbrev pub goxRoutine : List ℕ
 goxRoutine = packOf (guest .gox) 0 0 0 0 0 ∷ replicate 6 0
 
--- on the memory that installing leaves, with landing 3 alone
+-- after the GOX bundle, in the memory that installing leaves, with landing 3 only
 abbrev pub reached : Layout → ℕ → Outcome
 reached l x =
     runOf l (commandsOf l goxRoutine) (machineOf (set (replicate registers 0) 0 x) (l .base) Running)

@@ -1,4 +1,4 @@
--- Document 01's trial on its sample input, as a theorem of the rules. The program `trial` is tried, not claimed.
+-- Document 01's `trial` on its sample input, as a theorem about the rules. The program `trial` itself is only tested.
 use Prim.Native.Nat.{ℕ, zero, suc}
 use mathlib.Core.Path.{_≡_}
 use mathlib.Core.List.{List, [], _∷_}
@@ -12,7 +12,7 @@ use Rattle.sandbox_spec.specs.Loading.{loadAnswer, loadCommands, loadMemory}
 use Rattle.sandbox_spec.specs.Claims.{loadedAt}
 use Rattle.samples.specs.Sample.{layout, policy as samplePolicy}
 
--- the numbers from x on, n of them
+-- n numbers from x on
 abbrev pub upFrom : ℕ → ℕ → List ℕ
 upFrom x zero = []
 upFrom x (suc n) = x ∷ upFrom (suc x) n
@@ -30,7 +30,7 @@ input =
 abbrev pub memory : List ℕ
 memory = replicate 1024 0
 
--- what loading leaves of a list that has room for the most commands
+-- the commands that loading leaves in a list with room for the most commands
 abbrev pub commands : List ℕ
 commands =
     take (loadAnswer layout policy input mostCommands memory .place) (loadCommands layout policy input (replicate mostCommands 0) memory)
@@ -48,7 +48,7 @@ runInput =
 abbrev pub runResult : RunResult
 runResult = runOn layout commands (loadedAt layout policy input mostCommands memory) runInput
 
--- what is printed of it: 'answer 0; event 0 70; event 2 70; end 21 steps 14 state 1'; and the run is on the premises of Loads
+-- what `trial` prints: 'answer 0; event 0 70; event 2 70; end 21 steps 14 state 1'; the run satisfies the premises of Loads
 pub record TrialHolds : Type 0 where
   pub answers : loadAnswer layout policy input mostCommands memory ≡ answer 0 32
   pub events : pairsOf (runResult .log) (runResult .outcome .answer .pairs) ≡ pairOf 0 70 ∷ pairOf 2 70 ∷ []

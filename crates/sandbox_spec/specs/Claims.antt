@@ -1,4 +1,4 @@
--- The claim about loading: from a load's 0 to isolation.
+-- The claim about loading: a routine that was loaded is isolated.
 use Prim.Native.Nat.{ℕ}
 use mathlib.Core.Path.{_≡_}
 use mathlib.Core.List.{List, []}
@@ -12,13 +12,13 @@ use Rattle.spec.specs.Runs.{RunInput, Session, sessionOf, initialSession, Memor
 use Rattle.spec.specs.Claims.{Isolated}
 use Rattle.sandbox_spec.specs.Loading.{loadAnswer, loadCommands, loadMemory, loadMachine}
 
--- the session before the first run after a load
+-- the session after a load, before its first run
 abbrev pub loadedAt : Layout → Policy → List ℕ → ℕ → List ℕ → Session
 loadedAt lay pol bytes room mem = sessionOf (loadMachine lay pol bytes room mem) (loadMemory lay pol bytes room mem) [] [] 0
 
--- what a load that answers 0 leaves is on demand 3's premise: its commands, the first that the answer counts, are those that the rewriter gives
--- and the checker passes; record and memory are an installation's. So every list of runs from there is isolated, if each is lent, but for free cells,
--- what the load or the last run left
+-- a load that is taken (0) satisfies demand 3's premise: its commands are those that the rewriter writes and the checker passes,
+-- and record and memory are those of an installation. So every list of runs from there is isolated.
+-- Each run must be lent the memory that the load or the last run left, except in free cells
 pub record Loaded (lay : Layout) (pol : Policy) (bytes out mem ws : List ℕ) : Type 0 where
   pub rewritten : rewriteAnswer lay (wordsIn bytes) (length out) .number ≡ 0
   pub commands : ws ≡ commandsOf lay (wordsIn bytes)

@@ -13,14 +13,14 @@ use Rattle.spec.specs.Bundles.{commandsOf, commandCount, rewriteAnswer, checkAn
 use Rattle.spec.specs.Machines.{installAnswer, installMemory, installMachine}
 use Rattle.types.specs.Records.{machineRefused}
 
--- reading, rewriting to a list of length room, and checking; on success the place is the commands written
+-- reading, then rewriting into `room` commands, then checking; on success the place counts the commands
 unfoldable pub translateAnswer : Layout → List ℕ → ℕ → Answer
 translateAnswer lay s room =
     orElse (readAnswer s mostInstructions)
     (orElse (rewriteAnswer lay (wordsIn s) room)
     (orElse (checkAnswer lay (commandsOf lay (wordsIn s))) (answer 0 (commandCount (length (wordsIn s))))))
 
--- 'the first reject of reading, rewriting, checking, installing, or 0', which has translating's place
+-- 'the first reject of reading, rewriting, checking, installing, or 0'; on success the place counts the commands
 unfoldable pub loadAnswer : Layout → Policy → List ℕ → ℕ → List ℕ → Answer
 loadAnswer lay pol s room mem = let a = translateAnswer lay s room in orElse a (orElse (installAnswer lay pol mem) a)
 

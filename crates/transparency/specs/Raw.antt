@@ -1,4 +1,4 @@
--- A raw run: raw addresses, raw jump targets, no policy; and when a routine is well-behaved.
+-- A raw run of a routine: no masks, no landings and no policy. Also defines when a routine behaves well.
 use Prim.Native.Nat.{ℕ, zero, suc, _+_, _<_}
 use mathlib.Core.Path.{_≡_}
 use mathlib.Core.Bool.{true, cond}
@@ -22,7 +22,7 @@ use Rattle.spec.specs.Runs.{eventsOf}
 
 -- ---- the raw run
 
--- r0 to the last guest register, the next instruction, a memory of its own, the pairs recorded, how many readings are used, and the status
+-- the raw run's state: guest registers, next instruction, its own memory, recorded pairs, how many readings are used, status
 pub record Raw : Type 0 where
   pub regs : List ℕ
   pub at : ℕ
@@ -37,18 +37,18 @@ rawOf regs at mem rec u t = record { regs = regs; at = at; mem = mem; records = 
 abbrev pub rawReg : Raw → ℕ → ℕ
 rawReg r i = getD (r .regs) i 0
 
--- on to an instruction, with these registers and memory
+-- the raw run at another instruction, with these registers and memory
 abbrev pub rawGoto : Raw → List ℕ → List ℕ → ℕ → Raw
 rawGoto r regs mem at = rawOf regs at mem (r .records) (r .used) Running
 
--- an event, which nothing forbids: 'Ceilings apply to both'
+-- an event, always allowed: 'Ceilings apply to both'
 unfoldable pub rawEvent : Layout → List ℕ → ℕ → Raw → Raw
 rawEvent lay reads e r =
     cond (ltb e orders)
     (rawOf (r .regs) (r .at + 1) (r .mem) (snoc (r .records) (pairOf e (limited (lay .ceilings) e (rawReg r 0)))) (r .used) Running)
     (rawOf (set (r .regs) 0 (getD reads (r .used) 0)) (r .at + 1) (r .mem) (snoc (r .records) (pairOf e (getD reads (r .used) 0))) (r .used + 1) Running)
 
--- the table of instructions, 'with raw addresses and raw jump targets and no policy'
+-- what each instruction does, 'with raw addresses and raw jump targets and no policy'
 unfoldable pub rawExec : Layout → List ℕ → Instr → Raw → Raw
 rawExec lay reads HALT r = rawOf (r .regs) (r .at) (r .mem) (r .records) (r .used) Ended
 rawExec lay reads (PLAIN k d a b v) r = rawGoto r (set (r .regs) d (plainOf (k + plainStep) (rawReg r a) (rawReg r b) v)) (r .mem) (r .at + 1)
@@ -58,7 +58,7 @@ rawExec lay reads (GOIF a b c v) r = rawGoto r (r .regs) (r .mem) (cond (holdsOf
 rawExec lay reads (GOX d a b c) r = rawGoto r (r .regs) (r .mem) (cond (holdsOf c (rawReg r a) (rawReg r b)) (rawReg r d) (r .at + 1))
 rawExec lay reads (EVENT e) r = rawEvent lay reads e r
 
--- one instruction of those that `is` lists, and k of them
+-- the raw run after one instruction of `is`, and after k
 unfoldable pub rawStep : Layout → (ℕ → Instr) → List ℕ → Raw → Raw
 rawStep lay is reads r = unlessOver (r .status) r (rawExec lay reads (is (r .at)) r)
 
@@ -66,7 +66,7 @@ unfoldable pub rawAfter : Layout → (ℕ → Instr) → List ℕ → Raw → �
 rawAfter lay is reads r zero = r
 rawAfter lay is reads r (suc k) = rawStep lay is reads (rawAfter lay is reads r k)
 
--- from instruction 0, registers 0, on a memory of its own
+-- the start: instruction 0, registers 0, and its own memory
 abbrev pub rawStart : List ℕ → Raw
 rawStart mem = rawOf (replicate guestRegisters 0) 0 mem [] 0 Running
 
@@ -76,7 +76,7 @@ rawRun lay code raw reads k = rawAfter lay (routine code) reads (rawStart raw) k
 
 -- ---- good behaviour
 
--- what an instruction may do: 'uses only addresses in SL..SH, takes a GOX only to an instruction below N that is a listed landing,
+-- an instruction behaves well if it 'uses only addresses in SL..SH, takes a GOX only to an instruction below N that is a listed landing,
 -- and sends only events for which the policy has an arrow after those recorded before'
 abbrev pub Behaves : Layout → Policy → ℕ → Instr → Raw → Type 0
 Behaves lay pol N HALT r = Unit {0}
@@ -87,7 +87,7 @@ Behaves lay pol N (GOIF a b c v) r = Unit {0}
 Behaves lay pol N (GOX d a b c) r = holdsOf c (rawReg r a) (rawReg r b) ≡ true → (rawReg r d < N) × (listed (pol .landings) (rawReg r d) ≡ true)
 Behaves lay pol N (EVENT e) r = arrow pol (stateOver pol (eventsOf (r .records))) e ≡ noArrow → ⊥
 
--- each of the first k instructions behaves, where the raw run is not over before it
+-- each of the first k instructions behaves well, unless the raw run has ended before it
 abbrev pub BehavesFor : Layout → Policy → ℕ → (ℕ → Instr) → List ℕ → Raw → ℕ → Type 0
 BehavesFor lay pol N is reads r k =
     (j : ℕ) → j < k →

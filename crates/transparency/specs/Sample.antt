@@ -1,4 +1,4 @@
--- A sample that satisfies the premises: a well-behaved routine with STORE, LOAD, GOX, an order and a reading.
+-- Shows that the premises can be met: a well-behaved routine with STORE, LOAD, GOX, an order and a reading.
 use Prim.Native.Nat.{ℕ}
 use mathlib.Core.Path.{_≡_}
 use mathlib.Core.List.{List, [], _∷_, _++_}
@@ -16,7 +16,7 @@ use Rattle.engine_spec.specs.Claims.{HostPremise as EnginePremise, after as eng
 use Rattle.transparency.specs.Raw.{Raw, rawRun}
 use Rattle.transparency.specs.Claims.{Behaved, Sandboxed, ResumableAsRaw}
 
--- the policy of `samples`, with instruction 6 as the one landing
+-- the policy of `samples`, with instruction 6 as its only landing
 abbrev pub policy : Policy
 policy = policyOf 2 0 (0 ∷ 0 ∷ 1 ∷ replicate 13 0 ++ 255 ∷ replicate 15 1) (6 ∷ [])
 
@@ -42,16 +42,16 @@ run = record { memory = installMemory layout policy memory; budget = 1000; readi
 abbrev pub rawAt : ℕ → Raw
 rawAt k = rawRun layout code memory readings k
 
--- with a log of one pair the second event is waited for
+-- with a log of one pair the machine waits at the second event
 abbrev pub pausedRun : RunInput
 pausedRun = record { memory = installMemory layout policy memory; budget = 1000; readings = readings; log = replicate 2 0 }
 
--- and it can go on
+-- and this run resumes it
 abbrev pub resumedRun : RunInput
 resumedRun = record { memory = after layout policy commands memory (pausedRun ∷ []) .memory; budget = 1000; readings = readings; log = replicate 2 0 }
 
--- the premises of Transparent can be met: the sandboxed run comes to its end after eight bundles, and the raw one after eight instructions;
--- so can those of TransparentPaused and TransparentResumed, with the seventh bundle begun, and of EngineTransparent
+-- the premises of Transparent are met: the sandboxed run ends after eight bundles, the raw run after eight instructions.
+-- So are those of TransparentPaused and TransparentResumed, with the seventh bundle begun, and those of EngineTransparent
 pub record SampleHolds : Type 0 where
   pub sandboxed : Sandboxed layout policy code memory memory readings 64 (run ∷ []) 8
   pub begun : after layout policy commands memory (run ∷ []) .begun ≡ 8

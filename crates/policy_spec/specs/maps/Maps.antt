@@ -1,15 +1,15 @@
--- Natural numbers as bit maps, and tests, counts and lists over the numbers below n.
+-- Natural numbers as sets of bits, and tests, counts and lists over the numbers below n.
 use Prim.Native.Nat.{ℕ, zero, suc, _+_, _^_}
 use mathlib.Core.Bool.{Bool, true, false, _&&_, _||_, cond}
 use mathlib.Core.List.{List, [], _∷_, _++_}
 use Rattle.spec.specs.Landings.{bitAt}
 
--- every number below n passes
+-- whether every number below n passes
 unfoldable pub every : (ℕ → Bool) → ℕ → Bool
 every p zero = true
 every p (suc n) = every p n && p n
 
--- some number below n passes
+-- whether some number below n passes
 unfoldable pub some : (ℕ → Bool) → ℕ → Bool
 some p zero = false
 some p (suc n) = some p n || p n
@@ -19,16 +19,16 @@ unfoldable pub count : (ℕ → Bool) → ℕ → ℕ
 count p zero = 0
 count p (suc n) = count p n + cond (p n) 1 0
 
--- the map of the numbers below n that pass: bit k stands for k
+-- the set of the numbers below n that pass: bit k stands for k
 unfoldable pub mapWhere : (ℕ → Bool) → ℕ → ℕ
 mapWhere p zero = 0
 mapWhere p (suc n) = mapWhere p n + cond (p n) (2 ^ n) 0
 
--- bit k of a map is set: bitAt of the rules, kept shut
+-- whether bit k is set; `bitAt` of the rules, but opaque to proofs
 unfoldable pub bit : ℕ → ℕ → Bool
 bit m k = bitAt m k
 
--- the list of f 0 to f (n - 1)
+-- the list f 0, ..., f (n - 1)
 unfoldable pub build : (ℕ → ℕ) → ℕ → List ℕ
 build f zero = []
 build f (suc n) = build f n ++ (f n ∷ [])

@@ -17,7 +17,7 @@ use Rattle.policy_spec.specs.declared.precedence.Made.{Made}
 abbrev pub mostNamed : ℕ
 mostNamed = 4
 
--- 'a list of pairs of event numbers', flat: of pair i, the first and the second
+-- 'a list of pairs of event numbers': the list has the first and the second event of each pair in turn
 abbrev pub pairsIn : List ℕ → ℕ
 pairsIn ps = length ps / 2
 
@@ -27,7 +27,7 @@ firstAt ps i = getD ps (2 * i) 0
 abbrev pub secondAt : List ℕ → ℕ → ℕ
 secondAt ps i = getD ps (2 * i + 1) 0
 
--- an event is named among the first n numbers of a list, and in all of it
+-- whether an event is among the first n numbers of a list, and in all of it
 unfoldable pub namedIn : List ℕ → ℕ → ℕ → Bool
 namedIn ps n e = some (λ j. eqb (getD ps j 0) e) n
 
@@ -45,17 +45,17 @@ knownIn ps n = every (λ j. ltb (getD ps j 0) events) n
 abbrev pub known : List ℕ → Bool
 known ps = knownIn ps (length ps)
 
--- what is not refused with 17 (bad pair): 'an event above 15 or without its partner, or more than four named events'
+-- whether pairs are right; if not, refused as bad pair (17): 'an event above 15 or without its partner, or more than four named events'
 unfoldable pub pairsRight : List ℕ → Bool
 pairsRight ps = known ps && eqb (length ps % 2) 0 && leb (namedCount ps) mostNamed
 
--- what a list has that is not refused with 17 (bad pair), with the map of the events that it names
+-- pairs that are right, with the set m of the events that they name
 pub record ValidPairs (ps : List ℕ) (m : ℕ) : Type 0 where
   pub below : known ps ≡ true
   pub few : namedCount ps ≤ mostNamed
   pub map : m ≡ mapWhere (isNamed ps) events
 
--- 'bit k stands for the k-th smallest named event, counted from 0': as many named events are smaller
+-- 'bit k stands for the k-th smallest named event, counted from 0': k named events are smaller
 abbrev pub bitIndex : List ℕ → ℕ → ℕ
 bitIndex ps e = count (isNamed ps) e
 
@@ -63,7 +63,7 @@ bitIndex ps e = count (isNamed ps) e
 abbrev pub statesOf : List ℕ → ℕ
 statesOf ps = 2 ^ namedCount ps
 
--- 'all its firsts are recorded': of the first n pairs, each whose second is e has its first recorded in state s
+-- 'all its firsts are recorded': among the first n pairs, each whose second is e has its first recorded in state s
 unfoldable pub firstsIn : List ℕ → ℕ → ℕ → ℕ → Bool
 firstsIn ps s e n = every (λ i. not (eqb (secondAt ps i) e) || bit s (bitIndex ps (firstAt ps i))) n
 
@@ -71,7 +71,7 @@ firstsIn ps s e n = every (λ i. not (eqb (secondAt ps i) e) || bit s (bitIndex 
 unfoldable pub arrowOf : List ℕ → ℕ → ℕ → ℕ
 arrowOf ps s e = cond (isNamed ps e) (cond (firstsIn ps s e (pairsIn ps)) (bitOr s (2 ^ bitIndex ps e)) noArrow) s
 
--- byte 16 × s + e of the table
+-- byte 16 × s + e of the table, by its index
 abbrev pub byteOf : List ℕ → ℕ → ℕ
 byteOf ps i = arrowOf ps (i / events) (i % events)
 
@@ -85,24 +85,24 @@ tableOf ps = build (byteOf ps) (tableBytes ps)
 abbrev pub madePolicy : List ℕ → Policy
 madePolicy ps = policyOf (statesOf ps) 0 (tableOf ps) []
 
--- an event has no arrow in a state
+-- whether an event has no arrow in a state
 abbrev pub blocked : List ℕ → ℕ → ℕ → Bool
 blocked ps s e = eqb (arrowOf ps s e) noArrow
 
--- one step towards the fixpoint: the state after an event, if it has an arrow
+-- one step towards the fixpoint: the state after an event if it has an arrow, else the same
 abbrev pub advanceOf : List ℕ → ℕ → ℕ → ℕ
 advanceOf ps s e = cond (blocked ps s e) s (arrowOf ps s e)
 
--- n steps towards the fixpoint: the state after n events, taken in turn from 0 to 15 and again, where they have an arrow
+-- n steps towards the fixpoint: events 0 to 15, again and again, each recorded if it has an arrow
 unfoldable pub iterate : List ℕ → ℕ → ℕ
 iterate ps zero = 0
 iterate ps (suc n) = advanceOf ps (iterate ps n) (n % events)
 
--- the fixpoint: a pass over all events for each that can be named leaves none that could still be recorded
+-- the fixpoint: one pass over all events for each event that may be named; then no more can be recorded
 abbrev pub fixpointOf : List ℕ → ℕ
 fixpointOf ps = iterate ps (mostNamed * events)
 
--- 'a 16-bit map of the events that no allowed word holds': those without an arrow even then
+-- 'a 16-bit map of the events that no allowed word holds': those still without an arrow at the fixpoint
 abbrev pub unreachableEvents : List ℕ → ℕ
 unreachableEvents ps = mapWhere (blocked ps (fixpointOf ps)) events
 
@@ -114,10 +114,10 @@ makeAnswer ps room = first ((not (pairsRight ps), refusal BadPair 0) ∷ []) (ro
 abbrev pub madeWith : Answer → ℕ → ℕ → Made
 madeWith a s m = record { answer = a; policy = record { states = s; start = 0 }; unreachable = m }
 
--- what making answers: with its answer, the policy's numbers and the map
+-- the result of making a policy: its answer, its numbers, and the set of events that it never allows
 unfoldable pub makeOf : List ℕ → ℕ → Made
 makeOf ps room = let a = makeAnswer ps room in ifTaken a (madeWith a (statesOf ps) (unreachableEvents ps)) (madeWith a 0 0)
 
--- the table is written from its start
+-- the output after the table was written to its start
 unfoldable pub makeTable : List ℕ → List ℕ → List ℕ
 makeTable ps table = outputOf (makeAnswer ps (length table)) (tableOf ps) table

@@ -1,4 +1,4 @@
--- Every claim of this module, a field each: its one term is `proved`, in proofs/precedence/Proved.antt.
+-- All claims of this module, one field each. Their proof is `proved` in proofs/precedence/Proved.antt.
 use Rattle.policy_spec.specs.precedence.Claims.{TakenMakes, MadeRight, AllowedInOrder, StatesAreMaps, UnreachableExact, WorkedExamples}
 
 pub record Proved : Type 0 where

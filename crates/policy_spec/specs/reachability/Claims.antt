@@ -1,4 +1,4 @@
--- Claims about the nodes reached and their policy, for every `next` with no arrow out of 0 and for events 0 to 15 only.
+-- Claims about the nodes reached and their policy. They hold for every `next` that has no arrow from 0, and only for events 0 to 15.
 use Prim.Native.Nat.{ℕ, _+_, _*_, _<_, _≤_}
 use mathlib.Core.Path.{_≡_}
 use mathlib.Core.Bool.{true, false, _&&_, not}
@@ -15,7 +15,7 @@ pub record Arrows (next : ℕ → ℕ → ℕ) (q : ℕ) : Type 0 where
   pub above : (x e : ℕ) → events ≤ e → next x e ≡ 0
   pub start : q ≡ 0 → ⊥
 
--- some list of events leads to a node
+-- some list of events leads from q to x
 pub record Reached (next : ℕ → ℕ → ℕ) (q x : ℕ) : Type 0 where
   pub by : List ℕ
   pub leads : nodeAfter next q by ≡ x
@@ -26,13 +26,13 @@ pub record Numbered (ns : List ℕ) (x : ℕ) : Type 0 where
   pub below : number < length ns
   pub is : getD ns number 0 ≡ x
 
--- more than n nodes are reached
+-- more than n nodes can be reached
 pub record MoreThan (n : ℕ) (next : ℕ → ℕ → ℕ) (q : ℕ) : Type 0 where
   pub node : ℕ → ℕ
   pub reached : (i : ℕ) → i ≤ n → Reached next q (node i)
   pub apart : (i j : ℕ) → i ≤ n → j ≤ n → node i ≡ node j → i ≡ j
 
--- the nodes are reached, none has two numbers, and all that are reached have one unless refused with 15 (too many states)
+-- every node listed can be reached, none is listed twice, and none is missing unless refused as too many states (15)
 pub record Exactly (next : ℕ → ℕ → ℕ) (q : ℕ) : Type 0 where
   pub reached : (i : ℕ) → i < statesOf next q → Reached next q (getD (nodes next q) i 0)
   pub once : (i j : ℕ) → i < statesOf next q → j < statesOf next q → getD (nodes next q) i 0 ≡ getD (nodes next q) j 0 → i ≡ j
@@ -40,13 +40,13 @@ pub record Exactly (next : ℕ → ℕ → ℕ) (q : ℕ) : Type 0 where
   -- '15 (.. more than 16 ..)' is given exactly then
   pub many : nodesFit next q ≡ false → MoreThan mostStates next q
   pub not-many : nodesFit next q ≡ true → MoreThan mostStates next q → ⊥
-  -- further arrows would meet no other
+  -- following more arrows would find no other node
   pub enough : nodesFit next q ≡ true → (more : ℕ) → reachedBy next q (events * mostStates + more) ≡ nodes next q
 
 abbrev pub NodesExact : Type 0
 NodesExact = (next : ℕ → ℕ → ℕ) (q : ℕ) → Arrows next q → Exactly next q
 
--- what is handed back and left with answer 0 is that policy
+-- if the answer is taken (0), what was answered and written is `policyFrom`
 pub record Makes (next : ℕ → ℕ → ℕ) (q : ℕ) (table : List ℕ) : Type 0 where
   pub few : nodesFit next q ≡ true
   pub states : reachOf next q (length table) .policy .states ≡ policyFrom next q .states
@@ -56,7 +56,7 @@ pub record Makes (next : ℕ → ℕ → ℕ) (q : ℕ) (table : List ℕ) : Typ
 abbrev pub TakenReaches : Type 0
 TakenReaches = (next : ℕ → ℕ → ℕ) (q : ℕ) (table : List ℕ) → reachOf next q (length table) .answer .number ≡ 0 → Makes next q table
 
--- the policy is right under every layout with as many states
+-- the policy can be installed under every layout with as many states
 abbrev pub ReachRight : Type 0
 ReachRight = (next : ℕ → ℕ → ℕ) (q : ℕ) (lay : Layout) → Arrows next q → nodesFit next q ≡ true → lay .states ≡ statesOf next q → rightPolicy lay (policyFrom next q) ≡ true
 
@@ -64,7 +64,7 @@ ReachRight = (next : ℕ → ℕ → ℕ) (q : ℕ) (lay : Layout) → Arrows ne
 abbrev pub AllowedReaches : Type 0
 AllowedReaches = (next : ℕ → ℕ → ℕ) (q : ℕ) (es : List ℕ) → Arrows next q → nodesFit next q ≡ true → allowed (policyFrom next q) es ≡ not (eqb (nodeAfter next q es) 0)
 
--- a worked sample: node 1 meets two new ones, 5 by event 0 and 3 by event 1; 5 meets 7, and 3 leads back to 1
+-- an example: node 1 leads to 5 by event 0 and to 3 by event 1; 5 leads to 7, and 3 back to 1
 abbrev pub sample : ℕ → ℕ → ℕ
 sample x e = first ((eqb x 1 && eqb e 0, 5) ∷ (eqb x 1 && eqb e 1, 3) ∷ (eqb x 5 && eqb e 0, 7) ∷ (eqb x 3 && eqb e 0, 1) ∷ []) 0
 

@@ -1,4 +1,4 @@
--- Every claim of this module, a field each: its one term is `proved`, in proofs/reachability/Proved.antt.
+-- All claims of this module, one field each. Their proof is `proved` in proofs/reachability/Proved.antt.
 use Rattle.policy_spec.specs.reachability.Claims.{NodesExact, TakenReaches, ReachRight, AllowedReaches, WorkedExamples}
 
 pub record Proved : Type 0 where

@@ -1,4 +1,4 @@
--- The work list of the search as the code keeps it: the nodes in an array with room for one too many, and the arrows' numbers.
+-- The work list of the search as the code keeps it: arrays of the nodes found, with room for one too many, and of the arrows' targets.
 use Prim.Native.Nat.{ℕ, _+_, _*_, _≤_}
 use mathlib.Core.Path.{_≡_}
 use mathlib.Core.Bool.{Bool, false, _&&_, _||_, not, cond}
@@ -17,7 +17,7 @@ use Rattle.policy_spec.specs.reachability.Reach.{known, nodeState, byteO
 abbrev pub capacity : ℕ
 capacity = mostStates + 1
 
--- the initial worklist: the start alone
+-- the first work list: only the start
 abbrev pub initialWorklist : ℕ → Worklist
 initialWorklist q = record { nodes = set (replicate capacity 0) 0 q; count = 1; arrows = replicate (events * mostStates) 0 }
 
@@ -25,17 +25,17 @@ initialWorklist q = record { nodes = set (replicate capacity 0) 0 q; count = 1; 
 abbrev pub nodesOf : Worklist → List ℕ
 nodesOf f = take (f .count) (f .nodes)
 
--- its arrays have their lengths, and not more nodes are found than there is room for
+-- the arrays have their lengths, and the nodes found fit
 pub record WorklistSized (f : Worklist) : Type 0 where
   pub most : f .count ≤ capacity
   pub nodes : length (f .nodes) ≡ capacity
   pub arrows : length (f .arrows) ≡ events * mostStates
 
--- arrow k is one of the nodes found, and these are not too many
+-- whether arrow k belongs to a node found, and there are not too many nodes
 abbrev pub hasPending : Worklist → ℕ → Bool
 hasPending f k = ltb k (events * f .count) && leb (f .count) mostStates
 
--- arrow k leads to x: it gets its number, and a node that is new its place
+-- after arrow k, which leads to x: its target is stored, and x is added if it is new
 unfoldable pub insertTarget : Worklist → ℕ → ℕ → Worklist
 insertTarget f k x =
     let old = eqb x 0 || known (nodesOf f) x in
@@ -45,7 +45,7 @@ insertTarget f k x =
       arrows = set (f .arrows) k (nodeState (nodesOf f) x);
     }
 
--- with the first k arrows taken
+-- invariant: the first k arrows have been followed
 pub record WorklistInvariant (next : ℕ → ℕ → ℕ) (q : ℕ) (f : Worklist) (k : ℕ) : Type 0 where
   pub sized : WorklistSized f
   pub count : f .count ≡ length (reachedBy next q k)
@@ -54,13 +54,13 @@ pub record WorklistInvariant (next : ℕ → ℕ → ℕ) (q : ℕ) (f : Worklis
   pub taken : k ≤ events * f .count
   pub few : k ≤ events * mostStates
 
--- all arrows of the nodes are taken, or the nodes are too many
+-- all arrows of the nodes have been followed, or there are too many nodes
 pub record Explored (next : ℕ → ℕ → ℕ) (q : ℕ) (f : Worklist) : Type 0 where
   pub arrows : ℕ
   pub holds : WorklistInvariant next q f arrows
   pub all : hasPending f arrows ≡ false
 
--- what is answered of the nodes found, and what is left in a table: 15, then 9
+-- the answer for the nodes found, and the table after it: too many states (15), then small hopper (9)
 unfoldable pub worklistAnswer : Worklist → ℕ → Answer
 worklistAnswer f room = first ((not (leb (f .count) mostStates), refusal TooManyStates 0) ∷ []) (roomFor room (events * f .count))
 

@@ -1,4 +1,4 @@
--- Every claim of this module, a field each: its one term is `proved`, in proofs/engine/Proved.antt.
+-- All claims of this module, one field each. Their proof is `proved` in proofs/engine/Proved.antt.
 use Rattle.samples.specs.engine.Sample.{SampleHolds}
 
 pub record Proved : Type 0 where

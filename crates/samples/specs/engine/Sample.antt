@@ -1,4 +1,4 @@
--- A sample that satisfies the engine's premises: the routine of document 01's trial, in two runs with a refused one between.
+-- Shows that the premises of the engine's claims can be met: document 01's sample routine in two runs with a refused one between.
 use Prim.Native.Nat.{ℕ, _+_}
 use mathlib.Core.Path.{_≡_}
 use mathlib.Core.List.{List, [], _∷_, map}
@@ -16,7 +16,7 @@ use Rattle.engine_spec.specs.declared.EngineOutcome.{EngineOutcome}
 use Rattle.engine_spec.specs.Engines.{refusalOf}
 use Rattle.engine_spec.specs.Claims.{initialSession, runOn, afterRun, after, HostPremise, PairedRuns, PausedBy, allRuns}
 
--- two instructions, before which the host wrote x to the free cell 650; a memory too short; a thousand, before which it wrote x to the free cell 600
+-- three runs: two instructions after the host wrote x to free cell 650; a memory too short; a thousand after it wrote x to free cell 600
 abbrev pub firstRun : ℕ → RunInput
 firstRun x = runInput (set (installMemory layout policy (memory x)) 650 x) 2 x
 
@@ -39,8 +39,8 @@ answersIn rs = map (λ r. r .result .outcome .answer) rs
 abbrev pub countsIn : List (Run EngineOutcome) → List ℕ
 countsIn rs = map (λ r. r .result .outcome .steps) rs
 
--- whatever x free cells and logs held, the runs are on the premise, and whatever y, beside the machine's runs of the same routine;
--- four instructions in all, and the last run stops where gas has no arrow
+-- for all x and y in free cells and logs, the runs satisfy the premise, also beside the machine's runs of the same routine.
+-- They take four instructions, and the last run stops where gas has no arrow
 pub record SampleHolds : Type 0 where
   pub premise : (x : ℕ) → HostPremise layout policy code (memory x) (runs x)
   pub paired : (x y : ℕ) → PairedRuns layout policy code (memory x) 32 (machineRuns x) (runs y)
@@ -48,17 +48,17 @@ pub record SampleHolds : Type 0 where
   pub counted : (x : ℕ) → countsIn (allRuns layout policy code (memory x) (runs x)) ≡ 2 ∷ 0 ∷ 2 ∷ []
   pub recorded : (x : ℕ) → recordedIn (allRuns layout policy code (memory x) (runs x)) ≡ pairOf 0 70 ∷ pairOf 2 70 ∷ []
   pub state : (x : ℕ) → getD (after layout policy code (memory x) (runs x) .memory) (layout .cell) 0 ≡ 1
-  -- given no log both wait for the first event: the machine on the third command of its bundle, the engine before it, which is behind by that bundle
+  -- without a log both wait at the first event: the machine on the third command of its bundle, so one bundle ahead of the engine
   pub waits : (x : ℕ) → PairedRuns layout policy code (memory x) 32 (pausedRun x ∷ []) (pausedRun x ∷ [])
   pub third : (x : ℕ) → Waiting layout commands (machineAfter layout policy commands (memory x) (pausedRun x ∷ []) .machine)
   pub behind : (x : ℕ) → machineAfter layout policy commands (memory x) (pausedRun x ∷ []) .begun ≡ after layout policy code (memory x) (pausedRun x ∷ []) .counted + 1
   pub paused : (x : ℕ) → answersIn (allRuns layout policy code (memory x) (pausedRun x ∷ [])) ≡ answer 23 0 ∷ []
-  -- after SET both are before the first event; given no log the engine pauses there
+  -- after SET both are before the first event; without a log the engine pauses there
   pub level : (x : ℕ) → PairedRuns layout policy code (memory x) 32 (machineOne x ∷ []) (engineOne x ∷ [])
   pub boundary : (x : ℕ) → AtBoundary layout (machineAfter layout policy commands (memory x) (machineOne x ∷ []) .machine)
   pub running : (x : ℕ) → machineAfter layout policy commands (memory x) (machineOne x ∷ []) .machine .status ≡ Running
   pub even : (x : ℕ) → machineAfter layout policy commands (memory x) (machineOne x ∷ []) .begun ≡ after layout policy code (memory x) (engineOne x ∷ []) .counted
   pub pauses : (x : ℕ) → PausedBy (runOn layout code (after layout policy code (memory x) (engineOne x ∷ [])) (withBudget (pausedRun x) 1) .outcome .answer .number)
-  -- a kind above 12 in the second word, and a landing beyond
+  -- refused: a kind above 12 in the second word, and a GOIF past the end
   pub unknown : refusalOf layout (packOf 1 0 0 0 0 70 ∷ packOf 13 0 0 0 0 0 ∷ []) (memory 0) ≡ answer 3 1
   pub landing : refusalOf layout (packOf 10 0 0 0 0 2 ∷ []) (memory 0) ≡ answer 8 0
