@@ -1,4 +1,4 @@
--- Claims about C calls: a record survives the round trip through numbers, and calls are isolated.
+-- Claims about C calls: a record survives the round trip through numbers, and lists of calls are isolated.
 use Prim.Native.Nat.{ℕ, _+_}
 use mathlib.Core.Path.{_≡_}
 use mathlib.Core.Bool.{true}
@@ -13,31 +13,31 @@ use Rattle.spec.specs.Claims.{SameInputs, Isolated}
 use Rattle.capi_spec.specs.Numbers.{layoutFrom, trailer, statusKnown, numbersAfter, machineFrom, machineTo}
 use Rattle.capi_spec.specs.Hosts.{checkFor, installFor, HostLoaded, loadFor, HostResult, resultTo, runFor}
 
--- ---- a record, in numbers and back
+-- ---- a record as numbers, and back
 
--- a record of n registers, which `from` makes of its numbers and `to` puts into numbers, comes back as it was
+-- a record of n registers survives the round trip: `from` makes it from numbers, `to` turns it into numbers
 pub record RoundTrips {R : Type 0} (n : ℕ) (regs : R → List ℕ) (from : List ℕ → R) (to : R → List ℕ) : Type 0 where
-  -- numbers whose status is one, made into a record, are again these numbers
+  -- numbers whose status is valid become a record and the same numbers again
   pub fromNumbers : (xs : List ℕ) → length xs ≡ n + trailer → statusKnown n xs ≡ true → to (from xs) ≡ xs
-  -- a record of n registers, put into numbers, is again this record
+  -- a record of n registers becomes numbers and the same record again
   pub fromRecord : (m : R) → length (regs m) ≡ n → from (to m) ≡ m
-  -- and its status number is a status
+  -- and its status number is valid
   pub known : (m : R) → length (regs m) ≡ n → statusKnown n (to m) ≡ true
-  -- so a run that leaves the record as it was, as a refused one does, leaves its numbers, those too whose status is none
+  -- a run that leaves the record as it was, as a refused one does, leaves its numbers too, even with an invalid status
   pub untouched : (xs : List ℕ) (left : R) → length xs ≡ n + trailer → left ≡ from xs → numbersAfter n xs (to left) ≡ xs
 
--- the machine's, of sixteen registers
+-- the machine's record, of sixteen registers
 abbrev pub MachineRoundTrips : Type 0
 MachineRoundTrips = RoundTrips registers (λ m. m .regs) machineFrom machineTo
 
 -- ---- a list of calls
 
--- what calls leave, the first given these numbers of a record, each other as the last call left them
+-- the results of a list of calls: the first gets these numbers of a record, each other what the last call left
 unfoldable pub callsOf : {G : Type 0} → (List ℕ → G → HostResult) → List ℕ → List G → List HostResult
 callsOf call xs [] = []
 callsOf call xs (g ∷ gs) = call xs g ∷ callsOf call (call xs g .after) gs
 
--- a call of hemdroas_run
+-- one call of hemdroas_run
 abbrev pub runCall : List ℕ → List ℕ → List ℕ → RunInput → HostResult
 runCall lay ws xs g = runFor lay ws xs (g .memory) (g .budget) (g .readings) (g .log)
 
@@ -45,24 +45,24 @@ runCall lay ws xs g = runFor lay ws xs (g .memory) (g .budget) (g .readings) (g 
 abbrev pub number : List ℕ → ℕ
 number a = getD a 0 0
 
--- of the commands those that a load's answer counts
+-- the commands that a load's answer counts
 abbrev pub counted : HostLoaded → List ℕ
 counted r = take (getD (r .answer) 1 0) (r .commands)
 
--- commands, record and memory that stand ready for a first run: a list that hemdroas_check passes with 0, and what hemdroas_install leaves that
--- answers 0, whatever memory held before, as another policy's cells; or what hemdroas_load leaves that answers 0
+-- commands, record and memory ready for a first run: either hemdroas_check and hemdroas_install both answered taken (0), or hemdroas_load did.
+-- Memory may have held anything before, such as another policy
 pub data Prepared (lay : List ℕ) (pol : Policy) (mem : List ℕ) : List ℕ → List ℕ → List ℕ → Type 0 where
   installed : (ws : List ℕ) → number (checkFor lay ws) ≡ 0 → number (installFor lay pol mem .answer) ≡ 0
       → Prepared lay pol mem ws (installFor lay pol mem .machine) (installFor lay pol mem .memory)
   loaded : (bytes out : List ℕ) → number (loadFor lay pol bytes out mem .answer) ≡ 0
       → Prepared lay pol mem (counted (loadFor lay pol bytes out mem)) (loadFor lay pol bytes out mem .machine) (loadFor lay pol bytes out mem .memory)
 
--- from there calls of hemdroas_run, each with the layout's numbers, these commands, the record's numbers as the last call left them and a memory
--- that is, but for free cells, what the last call left
+-- calls of hemdroas_run from there, with the same layout and commands. Each gets the record's numbers that the last call left,
+-- and the memory that it left, except in free cells
 abbrev pub CallsPreserved : List ℕ → List ℕ → List ℕ → List ℕ → List RunInput → Type 0
 CallsPreserved lay ws xs left gs = MemoriesPreserved (layoutFrom lay) ws (sessionOf (machineFrom xs) left [] [] 0) gs
 
--- the calls are the runs of which demand 3 speaks, they are on its premise, and it holds of them
+-- these calls are runs that satisfy demand 3's premise, so isolation holds of them
 pub record CallsIsolated (lay : List ℕ) (pol : Policy) (ws xs mem : List ℕ) (gs : List RunInput) : Type 0 where
   pub calls : callsOf (runCall lay ws) xs gs ≡ map (λ r. resultTo (r .result)) (allRuns (layoutFrom lay) pol ws mem gs)
   pub premise : HostPremise (layoutFrom lay) pol ws mem gs
@@ -76,7 +76,7 @@ HostIsolation =
 -- ---- two lists of calls
 
 -- two calls with the same answer and record, the same pairs in their logs and, in memories of U cells, the same state cell and sandbox;
--- the answer counts its pairs at place p
+-- p is the index of the pairs in an answer
 pub record SameCalls (p : ℕ) (lay : Layout) (r r′ : HostResult) : Type 0 where
   pub answer : r .answer ≡ r′ .answer
   pub after : r .after ≡ r′ .after
@@ -84,12 +84,12 @@ pub record SameCalls (p : ℕ) (lay : Layout) (r r′ : HostResult) : Type 0 whe
   pub cell : length (r .memory) ≡ lay .size → getD (r .memory) (lay .cell) 0 ≡ getD (r′ .memory) (lay .cell) 0
   pub box : length (r .memory) ≡ lay .size → (i : ℕ) → inBox lay i ≡ true → getD (r .memory) i 0 ≡ getD (r′ .memory) i 0
 
--- a run's answer has its pairs third
+-- the index of the pairs in a run's answer
 abbrev pub pairsPlace : ℕ
 pairsPlace = 2
 
--- demand 3's noninterference, of two lists of calls with the same commands: both prepared, the memories low-equivalent then, each call of the one
--- given the inputs of the other's. Free cells and what logs held before have no influence
+-- noninterference of two lists of calls with the same commands and inputs, whose memories at first differ only in free cells.
+-- So neither free cells nor the old content of logs has any influence
 abbrev pub HostNoninterference : Type 0
 HostNoninterference =
     (lay : List ℕ) (pol pol′ : Policy) (mem mem′ ws xs xs′ left left′ : List ℕ) (gs gs′ : List RunInput) →

@@ -1,4 +1,4 @@
--- What each C function answers and leaves, in numbers.
+-- What each C function answers and leaves, as numbers.
 use Prim.Native.Nat.{ℕ}
 use mathlib.Core.List.{List}
 use lib.ListN.{length}
@@ -9,11 +9,11 @@ use Rattle.spec.specs.Machines.{installAnswer, installMachine, installMemory, R
 use Rattle.sandbox_spec.specs.Loading.{loadAnswer, loadMachine, loadCommands, loadMemory}
 use Rattle.capi_spec.specs.Numbers.{layoutFrom, numbersAfter, machineFrom, machineTo, answerTo, runAnswerTo}
 
--- hemdroas_check: the answer
+-- what hemdroas_check answers
 unfoldable pub checkFor : List ℕ → List ℕ → List ℕ
 checkFor lay ws = answerTo (checkAnswer (layoutFrom lay) ws)
 
--- hemdroas_install: the answer, the record, memory
+-- what hemdroas_install leaves: answer, record, memory
 pub record HostInstalled : Type 0 where
   pub answer : List ℕ
   pub machine : List ℕ
@@ -27,7 +27,7 @@ installFor lay pol mem =
     let l = layoutFrom lay in
     hostInstalled (answerTo (installAnswer l pol mem)) (machineTo (installMachine l pol mem)) (installMemory l pol mem)
 
--- hemdroas_load: the answer, the record, the commands, memory
+-- what hemdroas_load leaves: answer, record, commands, memory
 pub record HostLoaded : Type 0 where
   pub answer : List ℕ
   pub machine : List ℕ
@@ -43,7 +43,7 @@ loadFor lay pol bytes out mem =
     let room = length out in
     hostLoaded (answerTo (loadAnswer l pol bytes room mem)) (machineTo (loadMachine l pol bytes room mem)) (loadCommands l pol bytes out mem) (loadMemory l pol bytes room mem)
 
--- hemdroas_run, hemdroas_engine_run and hemdroas_engine_continue: the answer, the record after it, memory, the log
+-- what hemdroas_run, hemdroas_engine_run and hemdroas_engine_continue leave: answer, record, memory, log
 pub record HostResult : Type 0 where
   pub answer : List ℕ
   pub after : List ℕ
@@ -53,19 +53,19 @@ pub record HostResult : Type 0 where
 abbrev pub hostResult : List ℕ → List ℕ → List ℕ → List ℕ → HostResult
 hostResult a x mem log = record { answer = a; after = x; memory = mem; log = log }
 
--- what a call leaves of a run's numbers: a record of n registers whose status number is no status is as it was
+-- what a call leaves of a run's result: a record of n registers whose status number is invalid stays as it was
 abbrev pub hostAfter : ℕ → List ℕ → HostResult → HostResult
 hostAfter n xs r = hostResult (r .answer) (numbersAfter n xs (r .after)) (r .memory) (r .log)
 
--- what a run answers and leaves, in numbers
+-- a run's result as numbers
 abbrev pub resultTo : RunResult → HostResult
 resultTo r = hostResult (runAnswerTo (r .outcome .answer)) (machineTo (r .outcome .machine)) (r .mem) (r .log)
 
--- hemdroas_run
+-- what hemdroas_run leaves
 unfoldable pub runFor : List ℕ → List ℕ → List ℕ → List ℕ → ℕ → List ℕ → List ℕ → HostResult
 runFor lay ws xs mem budget rd log = hostAfter registers xs (resultTo (runOf (layoutFrom lay) ws (machineFrom xs) mem budget rd log))
 
--- hemdroas_preview: the answer, the record, the memory (in `work`) and the log that hemdroas_run would leave; record and memory, as they were
+-- what hemdroas_preview leaves: answer, record, memory (in `work`) and log of the run; and the caller's record and memory, unchanged
 pub record HostPreviewed : Type 0 where
   pub answer : List ℕ
   pub after : List ℕ

@@ -1,4 +1,4 @@
--- Layouts, records and answers as a C host's arrays of numbers.
+-- Layouts, records and answers as the arrays of numbers that a C host sees.
 use Prim.Native.Nat.{ℕ, zero, suc, _+_}
 use mathlib.Core.Bool.{Bool, cond}
 use mathlib.Core.List.{List, [], _∷_, _++_}
@@ -13,12 +13,12 @@ use Rattle.types.specs.declared.Status.the-variants.{Running, Ended, Stopped, F
 use Rattle.types.specs.Names.{orders, registers, endingNumber, first}
 use Rattle.types.specs.Records.{layoutOf, machineOf}
 
--- n numbers from place i on
+-- n numbers from index i on
 abbrev pub numbersFrom : ℕ → ℕ → List ℕ → List ℕ
 numbersFrom zero i xs = []
 numbersFrom (suc n) i xs = getD xs i 0 ∷ numbersFrom n (suc i) xs
 
--- a layout as U, SL, SH, M, P, S, B, Q and the ceilings of events 0 to 7
+-- a layout from U, SL, SH, M, P, S, B, Q and the ceilings of orders 0 to 7
 unfoldable pub layoutFrom : List ℕ → Layout
 layoutFrom xs =
     layoutOf (getD xs 0 0) (getD xs 1 0) (getD xs 2 0) (getD xs 3 0) (getD xs 4 0) (getD xs 5 0) (getD xs 6 0) (getD xs 7 0)
@@ -32,53 +32,53 @@ statusNumber Stopped = 2
 statusNumber Faulted = 3
 statusNumber Strayed = 4
 
--- how many there are
+-- how many statuses there are
 abbrev pub statuses : ℕ
 statuses = statusNumber Strayed + 1
 
--- the status of a number; one that is no status counts as faulted
+-- the status of a number; an invalid one counts as faulted
 abbrev pub statusFrom : ℕ → Status
 statusFrom x =
     first
     ((eqb x (statusNumber Running), Running) ∷ (eqb x (statusNumber Ended), Ended) ∷ (eqb x (statusNumber Stopped), Stopped)
     ∷ (eqb x (statusNumber Strayed), Strayed) ∷ []) Faulted
 
--- a record, a machine's or an engine's: its registers, and behind them two numbers, pc or index and status
+-- a machine's or engine's record: its registers, then two numbers, pc or index and the status
 abbrev pub trailer : ℕ
 trailer = 2
 
 abbrev pub recordTo : List ℕ → ℕ → Status → List ℕ
 recordTo regs at t = regs ++ (at ∷ statusNumber t ∷ [])
 
--- of one with n registers its status number, and the record that its maker makes of it
+-- the status number of a record with n registers, and the record that `make` builds from its numbers
 abbrev pub statusIn : ℕ → List ℕ → ℕ
 statusIn n xs = getD xs (n + 1) 0
 
 abbrev pub recordFrom : {R : Type 0} → (List ℕ → ℕ → Status → R) → ℕ → List ℕ → R
 recordFrom make n xs = make (take n xs) (getD xs n 0) (statusFrom (statusIn n xs))
 
--- whether its status number is a status
+-- whether its status number is valid
 abbrev pub statusKnown : ℕ → List ℕ → Bool
 statusKnown n xs = ltb (statusIn n xs) statuses
 
--- its numbers after a run that leaves it as `left`; one whose status number is no status comes back as it was
+-- its numbers after a run that leaves `left`; if its status number is invalid, they stay as they were
 abbrev pub numbersAfter : ℕ → List ℕ → List ℕ → List ℕ
 numbersAfter n xs left = cond (statusKnown n xs) left xs
 
--- the machine's
+-- the machine's record
 abbrev pub machineFrom : List ℕ → Machine
 machineFrom xs = recordFrom machineOf registers xs
 
 abbrev pub machineTo : Machine → List ℕ
 machineTo m = recordTo (m .regs) (m .pc) (m .status)
 
--- an answer as number and place; a run's as ending, steps, pairs and readings used
+-- an answer as number and place; a run's answer as ending, steps, pairs and readings
 abbrev pub answerTo : Answer → List ℕ
 answerTo a = a .number ∷ a .place ∷ []
 
 abbrev pub runAnswerTo : RunAnswer → List ℕ
 runAnswerTo a = endingNumber (a .ending) ∷ a .steps ∷ a .pairs ∷ a .used ∷ []
 
--- a made policy as its answer, its states and one number more
+-- a made policy as its answer, its state count and one more number
 abbrev pub madeTo : Answer → ℕ → ℕ → List ℕ
 madeTo a states more = a .number ∷ a .place ∷ states ∷ more ∷ []

@@ -1,4 +1,4 @@
--- Every claim of this crate, a field each: its one term is `proved`, in proofs/Proved.antt.
+-- All claims of this crate, one field each. Their proof is `proved` in proofs/Proved.antt.
 use Rattle.capi_spec.specs.Claims.{MachineRoundTrips, HostIsolation, HostNoninterference}
 use Rattle.capi_spec.specs.Sample.{SampleHolds}
 

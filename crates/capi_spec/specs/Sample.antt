@@ -1,5 +1,5 @@
--- A sample that satisfies the premises of HostIsolation and HostNoninterference: document 01's routine is loaded on a small drum, run in
--- two calls with a refused one between, and run again under another policy.
+-- Shows that the premises of HostIsolation and HostNoninterference can be met: document 01's sample routine is loaded on a small drum,
+-- run in two calls with a refused one between, and run again under another policy.
 use Prim.Native.Nat.{ℕ}
 use mathlib.Core.Path.{_≡_}
 use mathlib.Core.List.{List, [], _∷_, _++_, map}
@@ -16,7 +16,7 @@ use Rattle.capi_spec.specs.Claims.{callsOf, runCall, counted, Prepared, 
 abbrev pub layout : List ℕ
 layout = 128 ∷ 96 ∷ 127 ∷ 0 ∷ 16 ∷ 2 ∷ 32 ∷ 64 ∷ replicate orders topWord
 
--- the door's event 2 goes to state 1, which has no arrow for event 0, gas; and a policy that allows everything
+-- event 2, the door, leads to state 1, which has no arrow for event 0, gas; and a policy that allows everything
 abbrev pub policy : Policy
 policy = policyOf 2 0 (0 ∷ 0 ∷ 1 ∷ replicate 13 0 ++ 255 ∷ replicate 15 1) []
 
@@ -33,8 +33,8 @@ lot = loadFor layout policy bytes (replicate 40 0) (replicate 128 0)
 abbrev pub runInput : List ℕ → ℕ → RunInput
 runInput mem budget = record { memory = mem; budget = budget; readings = []; log = replicate 8 0 }
 
--- the session before the first call; six steps, before which the host wrote x to the free cell 9; a memory too short; a thousand steps, before which
--- it wrote x to the free cell 8
+-- the session before the first call; then three calls: six steps after the host wrote x to free cell 9; a memory too short;
+-- a thousand steps after it wrote x to free cell 8
 abbrev pub firstSession : Session
 firstSession = sessionOf (machineFrom (lot .machine)) (lot .memory) [] [] 0
 
@@ -47,11 +47,11 @@ left x = afterRun (layoutFrom layout) (counted lot) firstSession (firstCall x) .
 abbrev pub calls : ℕ → List RunInput
 calls x = firstCall x ∷ runInput [] 6 ∷ runInput (set (left x) 8 x) 1000 ∷ []
 
--- the next lot: the other policy installed in what the first call left
+-- the next lot: the other policy, installed in the memory that the first call left
 abbrev pub next : ℕ → HostInstalled
 next x = installFor layout other (left x)
 
--- whatever x the host writes; so two lists with x and y are on the premise of HostNoninterference
+-- for every x; so two lists with x and y satisfy the premise of HostNoninterference
 pub record SampleHolds : Type 0 where
   pub loaded : lot .answer ≡ 0 ∷ 32 ∷ []
   pub ready : Prepared layout policy (replicate 128 0) (counted lot) (lot .machine) (lot .memory)

@@ -1,4 +1,4 @@
--- Claims about the policy made from a drawing. Each is a type; its proof has its name in small letters, in proofs/.
+-- Claims about the policy made from a drawing. Each is a type; its proof, in proofs/, has the same name in small letters.
 use Prim.Native.Nat.{ℕ}
 use mathlib.Core.Path.{_≡_}
 use mathlib.Core.Bool.{true}
@@ -12,7 +12,7 @@ use Rattle.policy_spec.specs.reachability.Reach.{statesOf, nodesFit, madeWith, 
 use Rattle.policy_spec.specs.reachability.Claims.{Exactly}
 use Rattle.policy_determinise.specs.Drawings.{Drawing, drawingOf, successors, setAfter, drawingRight, madePolicy, determiniseOf, determiniseTable}
 
--- what is handed back and left with answer 0 is the policy of which the other claims speak
+-- if the answer is taken (0), what was answered and written is `madePolicy`, the policy of the other claims
 pub record Makes (d : Drawing) (table : List ℕ) : Type 0 where
   pub right : drawingRight d ≡ true
   pub few : nodesFit (setAfter d) (d .starts) ≡ true
@@ -27,12 +27,12 @@ TakenMakes = (d : Drawing) (table : List ℕ) → determiniseOf d (length table)
 abbrev pub MadeRight : Type 0
 MadeRight = (d : Drawing) (lay : Layout) → drawingRight d ≡ true → nodesFit (setAfter d) (d .starts) ≡ true → lay .states ≡ statesOf (setAfter d) (d .starts) → rightPolicy lay (madePolicy d) ≡ true
 
--- a way through the drawing from state s to state t that follows a list of events
+-- a path through the drawing from state s to state t that follows a list of events
 pub data DrawingPath (d : Drawing) : ℕ → List ℕ → ℕ → Type 0 where
   ends : {s : ℕ} → DrawingPath d s [] s
   goes : {s n t : ℕ} {es : List ℕ} (u : ℕ) → bit (successors (d .arrows) s n) u ≡ true → DrawingPath d u es t → DrawingPath d s (n ∷ es) t
 
--- a run that follows a list of events and ends in state t: a way from one of the starts
+-- a path that follows a list of events from one of the starts to state t
 pub record DrawnRun (d : Drawing) (es : List ℕ) (t : ℕ) : Type 0 where
   pub from : ℕ
   pub starts : bit (d .starts) from ≡ true
@@ -50,7 +50,7 @@ pub record FollowLaws (d : Drawing) (es : List ℕ) : Type 0 where
 abbrev pub AllowedRuns : Type 0
 AllowedRuns = (d : Drawing) (es : List ℕ) → drawingRight d ≡ true → nodesFit (setAfter d) (d .starts) ≡ true → FollowLaws d es
 
--- the set after a list of events holds the states in which its runs end
+-- the set after a list of events contains exactly the states in which its paths end
 pub record SetLaws (d : Drawing) (es : List ℕ) (t : ℕ) : Type 0 where
   pub ends : bit (nodeAfter (setAfter d) (d .starts) es) t ≡ true → DrawnRun d es t
   pub holds : DrawnRun d es t → bit (nodeAfter (setAfter d) (d .starts) es) t ≡ true
@@ -58,22 +58,22 @@ pub record SetLaws (d : Drawing) (es : List ℕ) (t : ℕ) : Type 0 where
 abbrev pub SetsAreEnds : Type 0
 SetsAreEnds = (d : Drawing) (es : List ℕ) (t : ℕ) → drawingRight d ≡ true → SetLaws d es t
 
--- the states are the sets that are reached, each once; refused with 15 (too many states) exactly if there are more than 16
+-- the states are exactly the sets that events lead to; refused as too many states (15) exactly if there are more than 16
 abbrev pub SetsExact : Type 0
 SetsExact = (d : Drawing) → drawingRight d ≡ true → Exactly (setAfter d) (d .starts)
 
--- a row of a drawing with arrows for events 0 and 1 only, and one of a table
+-- a row of a drawing with arrows for events 0 and 1 only, and such a row of a table
 abbrev pub drawn : ℕ → ℕ → List ℕ
 drawn a b = a ∷ b ∷ replicate 14 0
 
 abbrev pub row : ℕ → ℕ → List ℕ
 row a b = a ∷ b ∷ replicate 14 noArrow
 
--- two states: event 0 leads from 0 to both, event 1 from 1 to 0
+-- two states: event 0 leads from 0 to both, and event 1 from 1 to 0
 abbrev pub both : List ℕ
 both = drawn 3 0 ++ drawn 0 1
 
--- 'the fourth event from the end is 1': 16 sets of five states; 'the fifth', of six, has 32
+-- 'the fourth event from the end is 1': five states, 16 sets; 'the fifth': six states, 32 sets
 abbrev pub fourth : List ℕ
 fourth = drawn 1 3 ++ drawn 4 4 ++ drawn 8 8 ++ drawn 16 16 ++ drawn 0 0
 

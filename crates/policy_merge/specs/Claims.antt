@@ -1,4 +1,4 @@
--- Claims about the merged policy. Each is a type; its proof has its name in small letters, in proofs/.
+-- Claims about the merged policy. Each is a type; its proof, in proofs/, has the same name in small letters.
 use Prim.Native.Nat.{ℕ, _<_, min}
 use mathlib.Core.Path.{_≡_}
 use mathlib.Core.Bool.{true, _&&_, cond}
@@ -13,7 +13,7 @@ use Rattle.policy_spec.specs.reachability.Claims.{Exactly}
 use Rattle.policy_merge.specs.declared.Merged.{Merged}
 use Rattle.policy_merge.specs.Pairs.{pair, pairAfter, startPair, sideRight, mergedPolicy, smaller, mergeOf, mergeTable}
 
--- what is handed back and left with answer 0 is the policy of which the other claims speak
+-- if the answer is taken (0), what was answered and written is `mergedPolicy`, the policy of the other claims
 pub record Merges (a : Policy) (c : List ℕ) (b : Policy) (d table : List ℕ) : Type 0 where
   pub right : (sideRight a && sideRight b) ≡ true
   pub few : nodesFit (pairAfter a b) (startPair a b) ≡ true
@@ -25,7 +25,7 @@ pub record Merges (a : Policy) (c : List ℕ) (b : Policy) (d table : List ℕ) 
 abbrev pub TakenMerges : Type 0
 TakenMerges = (a : Policy) (c : List ℕ) (b : Policy) (d table : List ℕ) → mergeOf a c b d (length table) .answer .number ≡ 0 → Merges a c b d table
 
--- two inputs that are not refused with 10 (bad policy)
+-- two policies that are not refused as bad policy (10)
 abbrev pub BothRight : Policy → Policy → Type 0
 BothRight a b = (sideRight a && sideRight b) ≡ true
 
@@ -37,21 +37,21 @@ MergedRight = (a b : Policy) (lay : Layout) → BothRight a b → nodesFit (pair
 abbrev pub AllowedByBoth : Type 0
 AllowedByBoth = (a b : Policy) (es : List ℕ) → BothRight a b → nodesFit (pairAfter a b) (startPair a b) ≡ true → allowed (mergedPolicy a b) es ≡ (allowed a es && allowed b es)
 
--- the pair after a list of events is that of their states, if both allow it; else there is none
+-- the pair after a list of events has the state of each policy, if both allow the list; else there is none
 abbrev pub PairsAreStates : Type 0
 PairsAreStates =
     (a b : Policy) (es : List ℕ) → BothRight a b →
     nodeAfter (pairAfter a b) (startPair a b) es ≡ cond (allowed a es && allowed b es) (pair (stateOver a es) (stateOver b es)) 0
 
--- the states are the pairs that are reached, each once; refused with 15 (too many states) exactly if there are more than 16
+-- the states are exactly the pairs that events lead to; refused as too many states (15) exactly if there are more than 16
 abbrev pub PairsExact : Type 0
 PairsExact = (a b : Policy) → BothRight a b → Exactly (pairAfter a b) (startPair a b)
 
--- what an order records under the merged ceilings is what it would under one side's and then the other's
+-- the merged ceilings limit an order as one policy's ceilings and then the other's would
 abbrev pub CeilingsOfBoth : Type 0
 CeilingsOfBoth = (c d : List ℕ) (i v : ℕ) → i < orders → min v (getD (smaller c d) i 0) ≡ min (min v (getD c i 0)) (getD d i 0)
 
--- an input is refused with 10 (bad policy) as by installing under a layout with as many states
+-- merging refuses a policy as bad policy (10) exactly if installing would, under a layout with as many states
 abbrev pub SideInstalls : Type 0
 SideInstalls = (p : Policy) (lay : Layout) → lay .states ≡ p .states → sideRight p ≡ (statesRight (p .states) && rightPolicy lay p)
 
@@ -67,14 +67,14 @@ MergeCommutes = (a : Policy) (c : List ℕ) (b : Policy) (d table : List ℕ) �
 abbrev pub row : ℕ → ℕ → List ℕ
 row a b = a ∷ b ∷ replicate 14 noArrow
 
--- events 0 and 1 in turn, from 0; and event 1 never twice running
+-- events 0 and 1 in turn, from event 0; and event 1 never twice in a row
 abbrev pub turns : Policy
 turns = policyOf 2 0 (row 1 255 ++ row 255 0) []
 
 abbrev pub single : Policy
 single = policyOf 2 0 (row 0 1 ++ row 0 255) []
 
--- event 0 counted round five, and round four: 20 pairs; round four twice: 4
+-- event 0 counted modulo five, and modulo four: together 20 pairs; modulo four twice: 4 pairs
 abbrev pub five : Policy
 five = policyOf 5 0 (row 1 255 ++ row 2 255 ++ row 3 255 ++ row 4 255 ++ row 0 255) []
 

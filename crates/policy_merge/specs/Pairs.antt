@@ -1,4 +1,4 @@
--- Request 7, 'Two policies at once': the policy of the pairs of states that events reach.
+-- Request 7, 'Two policies at once': the policy whose states are pairs of states, one of each policy.
 use Prim.Native.Nat.{ℕ, _+_, _-_, _*_, _/_, _%_, min}
 use mathlib.Core.Bool.{Bool, _&&_, _||_, not, cond}
 use mathlib.Core.List.{List, [], _∷_}
@@ -14,14 +14,14 @@ use Rattle.policy_spec.specs.reachability.Reach.{policyFrom, madeWith, reachOf,
 use Rattle.policy_spec.specs.declared.reachability.Made.{Made}
 use Rattle.policy_merge.specs.declared.Merged.{Merged}
 
--- a lent table with its policy's numbers, and one with none, of which only the arrows are asked; merging knows no landings
+-- a policy from its numbers and its table, and one from its table alone, for its arrows; merging needs no landings
 abbrev pub sideOf : PolicyNumbers → List ℕ → Policy
 sideOf p t = lentPolicy p t []
 
 abbrev pub arrowsOf : List ℕ → Policy
 arrowsOf t = policyOf 0 0 t []
 
--- the node of a pair of states, above 0, and the two states of a node
+-- the number of a pair of states, above 0, and the two states of a pair
 abbrev pub pair : ℕ → ℕ → ℕ
 pair s t = mostStates * s + t + 1
 
@@ -31,7 +31,7 @@ left x = (x - 1) / mostStates
 abbrev pub right : ℕ → ℕ
 right x = (x - 1) % mostStates
 
--- the pair of two arrows; none unless both are
+-- the pair of two arrows, or none if one of them is missing
 unfoldable pub both : ℕ → ℕ → ℕ
 both s t = cond (eqb s noArrow || eqb t noArrow) 0 (pair s t)
 
@@ -43,7 +43,7 @@ pairAfter a b x n = cond (eqb x 0) 0 (both (arrow a (left x) n) (arrow b (right 
 abbrev pub startPair : Policy → Policy → ℕ
 startPair a b = pair (a .start) (b .start)
 
--- what is not refused of one input with 10 (bad policy): 'a state count outside 1 to 16 included'
+-- whether one policy is not refused as bad policy (10), 'a state count outside 1 to 16 included'
 abbrev pub sideRight : Policy → Bool
 sideRight p = tableRight p
 
@@ -55,17 +55,17 @@ mergedPolicy a b = policyFrom (pairAfter a b) (startPair a b)
 abbrev pub smaller : List ℕ → List ℕ → List ℕ
 smaller c d = build (λ i. min (getD c i 0) (getD d i 0)) orders
 
--- '10 for a bad input .. 15 .. follows it. 9 comes last': what is answered, with the policy's numbers
+-- '10 for a bad input .. 15 .. follows it. 9 comes last': the result, with the policy's numbers
 unfoldable pub mergeMade : Policy → Policy → ℕ → Made
 mergeMade a b room = first ((not (sideRight a && sideRight b), madeWith (refusal BadPolicy 0) 0) ∷ []) (reachOf (pairAfter a b) (startPair a b) room)
 
--- with the ceilings: 'After a reject all else handed back is 0'
+-- the result with the ceilings: 'After a reject all else handed back is 0'
 unfoldable pub withCeilings : Made → List ℕ → Merged
 withCeilings m c = record { answer = m .answer; policy = m .policy; ceilings = ifTaken (m .answer) c (replicate orders 0) }
 
 unfoldable pub mergeOf : Policy → List ℕ → Policy → List ℕ → ℕ → Merged
 mergeOf a c b d room = withCeilings (mergeMade a b room) (smaller c d)
 
--- and what is left in the table
+-- the output after the table was written
 unfoldable pub mergeTable : Policy → Policy → List ℕ → List ℕ
 mergeTable a b table = cond (sideRight a && sideRight b) (reachTable (pairAfter a b) (startPair a b) table) table

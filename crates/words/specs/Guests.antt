@@ -1,2 +1,2 @@
--- Re-exports the test of a word's guest registers.
+-- Re-exports the test that a word names only guest registers.
 pub use Rattle.words.specs.fields.Guests.{onlyGuestRegisters}

@@ -1,4 +1,4 @@
--- What `hemdroas_determinise` takes and answers, in numbers.
+-- What `hemdroas_determinise` takes and answers, as numbers.
 use Prim.Native.Nat.{ℕ, _^_}
 use mathlib.Core.Bool.{cond}
 use mathlib.Core.List.{List}
@@ -7,10 +7,10 @@ use Rattle.types.specs.Names.{mostStates}
 use Rattle.capi_spec.specs.Numbers.{madeTo}
 use Rattle.policy_spec.specs.declared.reachability.Made.{Made}
 
--- a map of starts that has a bit above 15 counts as none: both are refused with 16 (bad drawing)
+-- a start set with a bit above 15 becomes empty; both are refused as bad drawing (16)
 unfoldable pub startsFrom : ℕ → ℕ
 startsFrom q = cond (ltb q (2 ^ mostStates)) q 0
 
--- a made policy as number, place, states and start
+-- a made policy as four numbers: number, place, states, start
 abbrev pub policyTo : Made → List ℕ
 policyTo m = madeTo (m .answer) (m .policy .states) (m .policy .start)

@@ -1,4 +1,4 @@
--- What `hemdroas_merge` takes, answers and leaves, in numbers.
+-- What `hemdroas_merge` takes, answers and leaves, as numbers.
 use Prim.Native.Nat.{ℕ}
 use mathlib.Core.List.{List, [], _∷_}
 use lib.ListN.{length, getD}
@@ -9,7 +9,7 @@ use Rattle.policy_merge.specs.declared.Merged.{Merged}
 use Rattle.policy_merge.specs.declared.Side.{Side}
 use Rattle.policy_merge.specs.Pairs.{mergeOf, mergeTable}
 
--- one side of a merge from its state count, its start and the ceilings of the orders
+-- one of the two policies from its numbers: state count, start, ceilings
 abbrev pub ceilingsFrom : List ℕ → List ℕ
 ceilingsFrom xs = numbersFrom orders 2 xs
 
@@ -23,11 +23,11 @@ sideFrom xs = sideOf (getD xs 0 0) (getD xs 1 0) (ceilingsFrom xs)
 abbrev pub policyFrom : List ℕ → List ℕ → Policy
 policyFrom xs table = policyOf (getD xs 0 0) (getD xs 1 0) table []
 
--- what was merged as such numbers
+-- the merged policy as such numbers
 abbrev pub mergedTo : Merged → List ℕ
 mergedTo m = m .policy .states ∷ m .policy .start ∷ m .ceilings
 
--- hemdroas_merge: the answer, what was merged, the table
+-- what hemdroas_merge leaves: the answer, the merged policy, the table
 pub record HostMerged : Type 0 where
   pub answer : List ℕ
   pub merged : List ℕ

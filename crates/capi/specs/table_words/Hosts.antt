@@ -2,7 +2,7 @@
 use Prim.Native.Nat.{ℕ}
 use mathlib.Core.Bool.{Bool, true, false}
 
--- an answer of yes or no
+-- yes as 1, no as 0
 abbrev pub yesOrNo : Bool → ℕ
 yesOrNo true = 1
 yesOrNo false = 0

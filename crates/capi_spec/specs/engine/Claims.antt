@@ -1,4 +1,4 @@
--- Claims about calls of `hemdroas_engine_run` and `hemdroas_engine_continue`: the record survives the round trip through numbers, and calls are isolated.
+-- Claims about calls of `hemdroas_engine_run` and `hemdroas_engine_continue`: the record survives the round trip, and lists of calls are isolated.
 use Prim.Native.Nat.{ℕ, _+_}
 use mathlib.Core.Path.{_≡_}
 use mathlib.Core.List.{List, [], map}
@@ -15,7 +15,7 @@ use Rattle.engine_spec.specs.Claims.{sessionOf, MemoriesPreserved, HostPremise,
 use Rattle.capi_spec.specs.engine.Records.{engineFrom, engineTo, resultTo, engineFor, continueFor}
 use Rattle.engine_spec.specs.Continues.{Entry, judgesAll, judgesReached, Call, EntriesPreserved, inputsOf}
 
--- the engine's record, of fifteen registers, in numbers and back
+-- the engine's record, of fifteen registers, survives the round trip
 abbrev pub EngineRoundTrips : Type 0
 EngineRoundTrips = RoundTrips guestRegisters (λ m. m .regs) engineFrom engineTo
 
@@ -25,21 +25,21 @@ EngineRoundTrips = RoundTrips guestRegisters (λ m. m .regs) engineFrom engineTo
 abbrev pub zeros : List ℕ
 zeros = replicate (guestRegisters + trailer) 0
 
--- a call of hemdroas_engine_run
+-- one call of hemdroas_engine_run
 abbrev pub engineCall : List ℕ → List ℕ → List ℕ → RunInput → HostResult
 engineCall lay ws xs g = engineFor lay ws xs (g .memory) (g .budget) (g .readings) (g .log)
 
--- a memory that hemdroas_install or hemdroas_load left, which answered 0
+-- a memory left by hemdroas_install or hemdroas_load that answered taken (0)
 pub data InstalledMemory (lay : List ℕ) (pol : Policy) (mem : List ℕ) : List ℕ → Type 0 where
   installed : number (installFor lay pol mem .answer) ≡ 0 → InstalledMemory lay pol mem (installFor lay pol mem .memory)
   loaded : (bytes out : List ℕ) → number (loadFor lay pol bytes out mem .answer) ≡ 0 → InstalledMemory lay pol mem (loadFor lay pol bytes out mem .memory)
 
--- words that the engine takes, as all that hemdroas_rewrite takes (`EngineTakes`), and calls of hemdroas_engine_run from a record of zeros, each with the
--- record's numbers as the last call left them and a memory that is, but for free cells, what the last call left
+-- words that the engine takes, such as all that hemdroas_rewrite takes (`EngineTakes`), and calls of hemdroas_engine_run from a record of zeros.
+-- Each call gets the record's numbers and the memory that the last call left, except in free cells
 abbrev pub CallsPreserved : List ℕ → List ℕ → List ℕ → List RunInput → Type 0
 CallsPreserved lay ws left gs = MemoriesPreserved (layoutFrom lay) ws (sessionOf initialEngine left [] [] 0) gs
 
--- the calls are the runs of which `EngineIsolation` speaks, they are on its premise, and it holds of them
+-- these calls are runs that satisfy the premise of `EngineIsolation`, so isolation holds of them
 pub record CallsIsolated (lay : List ℕ) (pol : Policy) (ws mem : List ℕ) (gs : List RunInput) : Type 0 where
   pub calls : callsOf (engineCall lay ws) zeros gs ≡ map (λ r. resultTo (r .result)) (allRuns (layoutFrom lay) pol ws mem gs)
   pub premise : HostPremise (layoutFrom lay) pol ws mem gs
@@ -51,11 +51,11 @@ HostEngineIsolation =
     InstalledMemory lay pol mem left → refusalOf (layoutFrom lay) ws left .number ≡ 0 →
     CallsPreserved lay ws left gs → CallsIsolated lay pol ws mem gs
 
--- an answer of the engine has its pairs fourth
+-- the index of the pairs in the engine's answer
 abbrev pub pairsPlace : ℕ
 pairsPlace = 3
 
--- noninterference of two lists of calls of hemdroas_engine_run, as `HostNoninterference` has it of hemdroas_run
+-- noninterference of two lists of calls of hemdroas_engine_run, as in `HostNoninterference`
 abbrev pub HostEngineNoninterference : Type 0
 HostEngineNoninterference =
     (lay : List ℕ) (pol pol′ : Policy) (mem mem′ ws left left′ : List ℕ) (gs gs′ : List RunInput) →
@@ -64,7 +64,7 @@ HostEngineNoninterference =
     LowEqual (layoutFrom lay) left left′ → Pairwise SameInputs gs gs′ →
     Pairwise (SameCalls pairsPlace (layoutFrom lay)) (callsOf (engineCall lay ws) zeros gs) (callsOf (engineCall lay ws) zeros gs′)
 
--- ---- lists of calls of both functions
+-- ---- lists that mix calls of both functions
 
 -- a call of hemdroas_engine_run or hemdroas_engine_continue
 unfoldable pub entryFor : Entry → List ℕ → List ℕ → List ℕ → List ℕ → ℕ → List ℕ → List ℕ → HostResult
@@ -74,7 +74,7 @@ entryFor judgesReached lay ws xs mem budget rd log = continueFor lay ws xs mem b
 abbrev pub entryCall : List ℕ → List ℕ → List ℕ → Call → HostResult
 entryCall lay ws xs x = let g = x .input in entryFor (x .entry) lay ws xs (g .memory) (g .budget) (g .readings) (g .log)
 
--- the same of a list that mixes both, in any order: whichever function each call is of, the calls are the runs of which `EngineIsolation` speaks
+-- a list that mixes both functions in any order is isolated too: its calls are the same runs
 pub record MixedCallsIsolated (lay : List ℕ) (pol : Policy) (ws mem : List ℕ) (xs : List Call) : Type 0 where
   pub calls : callsOf (entryCall lay ws) zeros xs ≡ map (λ r. resultTo (r .result)) (allRuns (layoutFrom lay) pol ws mem (inputsOf xs))
   pub premise : HostPremise (layoutFrom lay) pol ws mem (inputsOf xs)

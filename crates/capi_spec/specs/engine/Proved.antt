@@ -1,4 +1,4 @@
--- Every claim of this module, a field each: its one term is `proved`, in proofs/engine/Proved.antt.
+-- All claims of this module, one field each. Their proof is `proved` in proofs/engine/Proved.antt.
 use Rattle.capi_spec.specs.engine.Claims.{EngineRoundTrips, HostEngineIsolation, HostEngineNoninterference, HostEntriesMix}
 use Rattle.capi_spec.specs.engine.Sample.{SampleHolds}
 

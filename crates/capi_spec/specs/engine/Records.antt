@@ -1,4 +1,4 @@
--- The engine's record and answer as arrays of numbers, and what a call answers and leaves.
+-- The engine's record and answer as arrays of numbers, and what its two C functions leave.
 use Prim.Native.Nat.{ℕ}
 use mathlib.Core.List.{List, [], _∷_}
 use Rattle.types.specs.Names.{guestRegisters}
@@ -16,18 +16,18 @@ engineFrom xs = recordFrom engineOf guestRegisters xs
 abbrev pub engineTo : Engine → List ℕ
 engineTo m = recordTo (m .regs) (m .at) (m .status)
 
--- an answer as ending or refusal, place, instructions, pairs and readings used
+-- an answer as ending or refusal, place, instructions, pairs and readings
 abbrev pub answerTo : EngineOutcome → List ℕ
 answerTo o = o .answer .number ∷ o .answer .place ∷ o .steps ∷ o .pairs ∷ o .used ∷ []
 
--- what a run answers and leaves, in numbers
+-- a run's result as numbers
 abbrev pub resultTo : RunResult → HostResult
 resultTo r = hostResult (answerTo (r .outcome)) (engineTo (r .outcome .engine)) (r .mem) (r .log)
 
--- hemdroas_engine_run: the answer, the record after it, memory, the log
+-- what hemdroas_engine_run leaves: answer, record, memory, log
 unfoldable pub engineFor : List ℕ → List ℕ → List ℕ → List ℕ → ℕ → List ℕ → List ℕ → HostResult
 engineFor lay ws xs mem budget rd log = hostAfter guestRegisters xs (resultTo (runOf (layoutFrom lay) ws (engineFrom xs) mem budget rd log))
 
--- hemdroas_engine_continue: the same by the second entry
+-- what hemdroas_engine_continue leaves
 unfoldable pub continueFor : List ℕ → List ℕ → List ℕ → List ℕ → ℕ → List ℕ → List ℕ → HostResult
 continueFor lay ws xs mem budget rd log = hostAfter guestRegisters xs (resultTo (continueOf (layoutFrom lay) ws (engineFrom xs) mem budget rd log))

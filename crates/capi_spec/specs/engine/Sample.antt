@@ -1,5 +1,5 @@
--- A sample that satisfies the premises of HostEngineIsolation and HostEngineNoninterference: the routine and drum of this crate's other
--- sample, loaded, then run by the engine in two calls with a refused one between.
+-- Shows that the premises of HostEngineIsolation and HostEngineNoninterference can be met: the routine and drum of this crate's other sample,
+-- loaded, then run by the engine in two calls with a refused one between.
 use Prim.Native.Nat.{ℕ}
 use mathlib.Core.Path.{_≡_}
 use mathlib.Core.List.{List, [], _∷_, map}
@@ -18,8 +18,8 @@ use Rattle.capi_spec.specs.engine.Claims.{zeros, engineCall, InstalledMe
 abbrev pub words : List ℕ
 words = wordsIn bytes
 
--- the session before the first call; two instructions, before which the host wrote x to the free cell 9; a memory too short; a thousand, before which
--- it wrote x to the free cell 8
+-- the session before the first call; then three calls: two instructions after the host wrote x to free cell 9; a memory too short;
+-- a thousand after it wrote x to free cell 8
 abbrev pub firstSession : Session
 firstSession = sessionOf initialEngine (lot .memory) [] [] 0
 
@@ -32,7 +32,7 @@ left x = afterRun (layoutFrom layout) words firstSession (firstCall x) .memory
 abbrev pub calls : ℕ → List RunInput
 calls x = firstCall x ∷ runInput [] 2 ∷ runInput (set (left x) 8 x) 1000 ∷ []
 
--- whatever x the host writes
+-- for every x that the host writes
 pub record SampleHolds : Type 0 where
   pub laid : InstalledMemory layout policy (replicate 128 0) (lot .memory)
   pub taken : refusalOf (layoutFrom layout) words (lot .memory) .number ≡ 0

@@ -1,4 +1,4 @@
--- The tests of a LOAD or STORE bundle's words.
+-- Tests the words of a LOAD or STORE bundle.
 use Prim.Native.Nat.{ℕ}
 use mathlib.Core.Bool.{Bool, _&&_, cond}
 use lib.Dec.{ltb, eqb}
@@ -8,7 +8,7 @@ use Rattle.types.specs.declared.Instr.the-variants.{LOAD, STORE}
 use Rattle.types.specs.Names.{guestRegisters, hidden, command}
 use Rattle.spec.specs.Words.{kindOf, dOf, aOf, bOf, packOf}
 
--- the first two words of LOAD and STORE, and the third of each
+-- whether two words are the mask of LOAD and STORE, and whether the third is that of each
 abbrev pub maskWords : Layout → ℕ → ℕ → Bool
 maskWords l w x = ltb (aOf w) guestRegisters && eqb w (packOf (command .andi) hidden (aOf w) 0 0 (l .high)) && eqb x (packOf (command .ori) hidden hidden 0 0 (l .low))
 
@@ -18,6 +18,6 @@ loadOf y = ltb (dOf y) guestRegisters && eqb y (packOf (command .load) (dOf y) h
 abbrev pub storeOf : ℕ → Bool
 storeOf y = ltb (bOf y) guestRegisters && eqb y (packOf (command .store) 0 hidden (bOf y) 0 0)
 
--- LOAD or STORE, by the third word
+-- the instruction, LOAD or STORE, by the third word
 abbrev pub accessOf : ℕ → ℕ → Instr
 accessOf w y = cond (eqb (kindOf y) (command .load)) (LOAD (dOf y) (aOf w)) (STORE (aOf w) (bOf y))

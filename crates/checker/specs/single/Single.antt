@@ -1,4 +1,4 @@
--- The tests of bundles of one command and three NOPs.
+-- Tests bundles of one command and three NOPs.
 use Prim.Native.Nat.{ℕ, _-_, _/_}
 use mathlib.Core.Bool.{Bool, _&&_}
 use lib.Dec.{ltb, eqb}
@@ -9,21 +9,21 @@ use Rattle.spec.specs.Commands.{isCommand}
 use Rattle.spec.specs.Bundles.{addressOf}
 use Rattle.words.specs.Guests.{onlyGuestRegisters}
 
--- a command's word, and three of commands that do nothing
+-- whether four words are this command's word and three NOPs
 abbrev pub singleWords : ℕ → ℕ → ℕ → ℕ → ℕ → Bool
 singleWords w x y z w′ = eqb w w′ && eqb x 0 && eqb y 0 && eqb z 0
 
--- a command on the guest's registers, and three that do nothing
+-- whether four words are a plain command on guest registers and three NOPs
 abbrev pub plainWords : ℕ → ℕ → ℕ → ℕ → Bool
 plainWords w x y z = isCommand w && onlyGuestRegisters w && eqb x 0 && eqb y 0 && eqb z 0
 
--- the bundle to which an address leads, and whether it is the address of one among n
+-- the bundle that an address belongs to, and whether it is the first address of one of n
 abbrev pub bundleIndex : Layout → ℕ → ℕ
 bundleIndex l v = (v - l .base) / bundleLength
 
 abbrev pub isBundleAddress : Layout → ℕ → ℕ → Bool
 isBundleAddress l n v = eqb v (addressOf l (bundleIndex l v)) && ltb (bundleIndex l v) n
 
--- GOIF to one of n bundles, and three that do nothing
+-- whether four words are a GOIF to one of n bundles and three NOPs
 abbrev pub goifWords : Layout → ℕ → ℕ → ℕ → ℕ → ℕ → Bool
 goifWords l n w x y z = isCommand w && onlyGuestRegisters w && isBundleAddress l n (vOf w) && eqb x 0 && eqb y 0 && eqb z 0

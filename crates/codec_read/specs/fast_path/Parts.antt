@@ -1,4 +1,4 @@
--- What the fast path reads of an instruction's bytes, and what it promises.
+-- What the fast path has read at each point, and what it promises.
 use Prim.Native.Nat.{ℕ, _+_, _*_, _/_, _%_, _≤_, _<_}
 use mathlib.Core.Path.{_≡_}
 use mathlib.Core.Bool.{Bool, _&&_, not}
@@ -14,18 +14,18 @@ use Rattle.codec_read.specs.declared.fast_path.Part.{Part}
 abbrev pub longest : ℕ
 longest = 10
 
--- a field that stands and is 0
+-- whether a field is present though 0
 abbrev pub presentZero : ℕ → ℕ → Bool
 presentZero bit x = not (eqb bit 0) && eqb x 0
 
--- a field, the place after it, and whether it stands though it is 0
+-- a field's value, the index after it, and whether it is present though 0
 abbrev pub bytePart : ℕ → List ℕ → ℕ → Part
 bytePart bit s at = record { value = byteAt bit s at; next = at + bit; zero = presentZero bit (byteAt bit s at) }
 
 abbrev pub quadPart : ℕ → List ℕ → ℕ → Part
 quadPart bit s at = record { value = quadAt bit s at; next = at + 4 * bit; zero = presentZero bit (quadAt bit s at) }
 
--- what is read before b: the map, the place of b, and three fields, none of which stands and is 0
+-- what has been read before b: the map, the index of b, and three fields, none of them present though 0
 pub record ReadPrefix (s : List ℕ) (m at kind d a : ℕ) : Type 0 where
   pub long : longest ≤ length s
   pub map : m ≡ getD s 0 0
@@ -41,7 +41,7 @@ pub record ReadPrefix (s : List ℕ) (m at kind d a : ℕ) : Type 0 where
   pub d-byte : d < 256
   pub a-byte : a < 256
 
--- an instruction that was read so is the one at the front of s; a refusal says nothing
+-- if the fast path gives an instruction, it is the one at the front of s; if it gives none, it promises nothing
 abbrev pub FastAnswer : Decoded → List ℕ → Type 0
 FastAnswer (Word w u) s = Word w u ≡ decodeOne s
 FastAnswer (RefusedWith x) s = Unit {0}

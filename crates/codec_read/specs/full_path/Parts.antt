@@ -4,7 +4,7 @@ use mathlib.Core.List.{List}
 use Rattle.types.specs.declared.Fields.{Fields}
 use Rattle.spec.specs.Bytes.{byteAt, quadAt}
 
--- the fields before b, and those that the rest m of a map announces from the place at on
+-- the fields read before b, and those that the rest m of the map announces from index `at` on
 abbrev pub fieldsFrom : ℕ → List ℕ → ℕ → ℕ → ℕ → ℕ → Fields
 fieldsFrom m s at kind d a =
     record {

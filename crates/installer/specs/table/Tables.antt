@@ -1,4 +1,4 @@
--- A policy by itself, under no layout.
+-- When a policy is right by itself, without a layout.
 use Prim.Native.Nat.{_*_}
 use mathlib.Core.Bool.{Bool, _&&_}
 use lib.ListN.{length}

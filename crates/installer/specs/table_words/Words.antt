@@ -1,10 +1,10 @@
--- The test of one word of a policy's table, four bytes at once.
+-- Tests one word of a policy's table, four bytes at once.
 use Prim.Native.Nat.{ℕ, zero, suc, _/_, _%_}
 use mathlib.Core.Bool.{Bool, _&&_}
 use mathlib.Core.List.{List, [], _∷_}
 use Rattle.spec.specs.Policies.{statesRight, entriesRight}
 
--- the n lowest bytes of a number, low first, and the four of a 32-bit word
+-- the n lowest bytes of a number, low first, and the four of a word
 abbrev pub lowBytes : ℕ → ℕ → List ℕ
 lowBytes zero w = []
 lowBytes (suc n) w = w % 256 ∷ lowBytes n (w / 256)

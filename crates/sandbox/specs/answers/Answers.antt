@@ -1,4 +1,4 @@
--- The answer of rewriting for words that were read, without keeping them.
+-- What rewriting answers for words that were read but not kept.
 use Prim.Native.Nat.{ℕ}
 use mathlib.Core.Bool.{not}
 use mathlib.Core.List.{[], _∷_}
@@ -10,7 +10,7 @@ use Rattle.types.specs.Names.{refusal, first}
 use Rattle.spec.specs.Layouts.{rightLayout}
 use Rattle.spec.specs.Bundles.{baseRoomAnswer}
 
--- 7, 8 at the first GOIF that leads past the instructions, 13, 9
+-- bad layout (7), bad landing (8) at the first GOIF past the end, bad base (13), small hopper (9)
 unfoldable pub landingsAnswer : Layout → ℕ → ℕ → ℕ → Answer
 landingsAnswer lay n past room =
     first ((not (rightLayout lay), refusal BadLayout 0) ∷ (ltb past n, refusal BadLanding past) ∷ []) (baseRoomAnswer lay n room)
