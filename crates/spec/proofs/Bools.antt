@@ -1,9 +1,9 @@
--- Tests of `&&`, `||` and `cond`, taken apart and put together.
+-- Laws of the tests `&&`, `||` and `cond`.
 use mathlib.Core.Path.{_≡_, refl, sym}
 use mathlib.Core.Bool.{Bool, true, false, _&&_, _||_, not, cond, false≢true}
 use mathlib.Core.Logic.{_⊎_, inl, inr}
 
--- true and false are apart, so that anything follows
+-- true and false differ, so anything follows
 pub no {ℓ} : {A : Type ℓ} → false ≡ true → A
 no e = absurd (false≢true e)
 
@@ -34,7 +34,7 @@ pub or-right : (a b : Bool) → b ≡ true → (a || b) ≡ true
 or-right true b e = refl
 or-right false b e = e
 
--- what holds of either branch under its test
+-- a property holds of `cond` if it holds of each branch under its test
 pub cond-ind {ℓ κ} : {X : Type ℓ} (P : X → Type κ) (b : Bool) {x y : X} → (b ≡ true → P x) → (b ≡ false → P y) → P (cond b x y)
 cond-ind P true f g = f refl
 cond-ind P false f g = g refl
@@ -43,7 +43,7 @@ pub unless-ind {ℓ κ} : {X : Type ℓ} (P : X → Type κ) (b : Bool) {x y : X
 unless-ind P true f g = g refl
 unless-ind P false f g = f refl
 
--- a function of either branch under its test
+-- a function of `cond`, branch by branch
 pub cond-map {ℓ κ} : {X : Type ℓ} {Y : Type κ} (f : X → Y) (b : Bool) {x y : X} {x′ y′ : Y} → (b ≡ true → f x ≡ x′) → (b ≡ false → f y ≡ y′) → f (cond b x y) ≡ cond b x′ y′
 cond-map f true p q = p refl
 cond-map f false p q = q refl

@@ -47,7 +47,7 @@ pub fields-are : (m : ℕ) (s : List ℕ) (k d a b c v : ℕ) → k ≡ fieldsAt
     → c ≡ fieldsAt m s .c → v ≡ fieldsAt m s .v → record { kind = k; d = d; a = a; b = b; c = c; v = v } ≡ fieldsAt m s
 fields-are m s k d a b c v ek ed ea eb ec ev = λ i. record { kind = ek i; d = ed i; a = ea i; b = eb i; c = ec i; v = ev i }
 
--- the judgement decides
+-- the refusal number decides what `decodeFields` gives
 module _ (m : ℕ) (f : Fields) (n : ℕ) (en : n ≡ mapOf f) (x : ℕ) (ex : x ≡ fieldsRefusal (not (eqb m n)) f) where
   same : x ≡ fieldsRefusal (not (eqb m (mapOf f))) f
   same = ex ∙ rw en
@@ -60,7 +60,7 @@ module _ (m : ℕ) (f : Fields) (n : ℕ) (en : n ≡ mapOf f) (x : ℕ) (ex : x
   unfolding decodeFields
   fields-refused z = rw (← same, ne-eqb _ _ z)
 
--- what an instruction that is read has
+-- what holds of an instruction that was read
 pub record Read (s : List ℕ) (w u : ℕ) (f : Fields) : Type 0 where
   pub full : 0 < length s
   pub small : getD s 0 0 ≤ 63
@@ -96,7 +96,7 @@ one-read s w u =
 pos-of-ne : {x : ℕ} → (x ≡ 0 → ⊥) → 0 < x
 pos-of-ne {x} n = omega arith
 
--- no refusal has the number 0
+-- no refusal has number 0
 unfoldable pub Named : Decoded → Type 0
 Named (Word w u) = Unit {0}
 Named (RefusedWith x) = 0 < x
@@ -114,7 +114,7 @@ named s =
 
 -- ---- a routine read
 
--- where nothing is refused there are n words, and the place is their number
+-- if nothing is refused, there are n words, and the place is their number
 scan-ok : (n i : ℕ) (s : List ℕ) → scanOf n i s .number ≡ 0 → (length (wordsOf n s) ≡ n) × (scanOf n i s .place ≡ i + n)
 unfolding scanOf wordsOf Named
 scan-ok zero i s e =
@@ -147,7 +147,7 @@ module _ (s : List ℕ) (room : ℕ) where
     unfolding readAnswer
     read-scan g l a ea = ea ∙ simp (le-ltb _ _ h, ← e, le-ltb _ _ g, le-ltb _ _ l)
 
--- what bytes have that reading takes
+-- what holds of bytes that reading takes
 pub record ReadOk (s : List ℕ) (room n : ℕ) : Type 0 where
   pub two : 2 ≤ length s
   pub few : countOf s ≤ mostInstructions
@@ -244,7 +244,7 @@ module _ (ws : List ℕ) (room : ℕ) where
     pub write-taken : TakesEach wordRefusal ws → writeAnswer ws room ≡ roomFor room (length (routineOf ws))
     write-taken all = write-few ∙ none-refused wordRefusal ws 0 _ all
 
--- what words have that writing takes
+-- what holds of words that writing takes
 pub record WriteOk (ws : List ℕ) (room n : ℕ) : Type 0 where
   pub few : length ws ≤ mostInstructions
   pub fits : length (routineOf ws) ≤ room

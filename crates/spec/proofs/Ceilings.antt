@@ -40,7 +40,7 @@ apply-limited lay rd (Probe v) s r h =
 apply-limited lay rd (End t) s r h = h
 apply-limited lay rd (Wait e) s r h = h
 
--- any loop whose steps do so
+-- so does any loop whose steps do
 pub loop-limited : {K R : Type 0} (a : Loop K R) (lay : Layout) (P : R → Type 0)
     → ((s : State) → LimitedIn lay (s .log) (s .pairs) → LimitedIn lay (stepIn a s .log) (stepIn a s .pairs))
     → ((e : Ending) (k : K) (s : State) → LimitedIn lay (s .log) (s .pairs) → P (a .ends e k s))

@@ -1,4 +1,4 @@
--- From what checking, installing and rewriting answer to the facts of Facts.antt.
+-- Turns the answers of checking, installing and rewriting into the facts of Facts.antt.
 use mathlib.Core.Path.{_≡_, refl, sym, _∙_, ap}
 use mathlib.Core.Bool.{Bool, true, false, _&&_, _||_, not, cond}
 use mathlib.Core.Logic.{_⊎_, inl, inr, ⊎-elim}
@@ -34,7 +34,7 @@ use Rattle.spec.proofs.Masks.{masks, sizes, base-room}
 use Rattle.spec.proofs.Packing.{Held, bundle-reads}
 use Rattle.spec.proofs.GuestWords.{taken-valid}
 
--- an answer whose number is 0, under a test that refuses otherwise
+-- an answer of 0 means that the test passed
 taken-if : (P : Type 0) (b : Bool) (x y : Answer) → (y .number ≡ 0 → ⊥) → (b ≡ true → x .number ≡ 0 → P) → cond b x y .number ≡ 0 → P
 taken-if P b x y f go = cond-ind (λ (a : Answer). a .number ≡ 0 → P) b go (λ t e. absurd (f e))
 
@@ -43,7 +43,7 @@ taken-unless P b x y f go = unless-ind (λ (a : Answer). a .number ≡ 0 → P) 
 
 -- ---- checking
 
--- what checking's 0 says of a list of n bundles
+-- what a taken check says of a list of n bundles
 pub record Passed (lay : Layout) (ws : List ℕ) (n : ℕ) : Type 0 where
   pub right : rightLayout lay ≡ true
   pub count : length ws ≡ bundleLength * n
@@ -59,7 +59,7 @@ check-each lay n ws h (suc m) e j l u =
     taken-if (passesAt lay n ws j ≡ true) (passesAt lay n ws h) _ _ (λ z. omega arith)
     (λ t r. ⊎-elim (λ q. rw (eqb-true j h q) t) (λ q. check-each lay n ws (h + 1) m r j (omega (arith, eqb-false j h q)) (omega arith)) (cases (eqb j h))) e
 
--- what is not refused with 12 (bad count)
+-- a number of commands that is not refused as bad count (12)
 pub record Counted (k n : ℕ) : Type 0 where
   pub count : k ≡ bundleLength * n
   pub most : n ≤ mostBundles
@@ -102,7 +102,7 @@ passed-placed lay ws n p =
 pub layout-of : (lay : Layout) (ws : List ℕ) → checkAnswer lay ws .number ≡ 0 → rightLayout lay ≡ true
 layout-of lay ws e = passed-of lay ws e .right
 
--- ---- numbers that words hold
+-- ---- numbers that fit a word
 
 pub some-ones : (n : ℕ) → ones n ≡ 1 → 0 < n
 unfolding ones
@@ -156,12 +156,12 @@ valid-is n (GOX d a b c) t =
     (ltb-true _ _ (t₀ .0), ltb-true _ _ (t₀ .1), ltb-true _ _ (t₁ .1), leb-true _ _ (t₂ .1))
 valid-is n (EVENT e) t = ltb-true e events t
 
--- a bundle that no other follows
+-- a bundle that no other follows is HALT
 last-halts : (h n : ℕ) (lay : Layout) (w y z : ℕ) → (ltb h n || eqb (kindOf w) (command .halt)) ≡ true → n ≤ h → decodeBundle lay w y z ≡ HALT
 unfolding decodeBundle
 last-halts h n lay w y z t l = ⊎-elim (λ e. absurd (let u = ltb-true h n e in omega arith)) (λ e. rw e) (either _ _ t)
 
--- the word at a position of a list of bundles
+-- the command at position p of bundle h
 fetched : (ws : List ℕ) (base h p : ℕ) → bundleLength * h + p < length ws → fetchOf ws base (base + bundleLength * h + p) ≡ commandOf (getD ws (bundleLength * h + p) 0)
 unfolding fetchOf
 fetched ws base h p l =
@@ -239,7 +239,7 @@ pub machine-of : (lay : Layout) (pol : Policy) (mem : List ℕ) → installAnswe
 unfolding installMachine
 machine-of lay pol mem e = rw (eq-eqb _ _ e)
 
--- what a policy that is right for a layout has
+-- what holds of a policy that is right for a layout
 pub record PolicyFacts (lay : Layout) (pol : Policy) : Type 0 where
   pub states : pol .states ≡ lay .states
   pub size : length (pol .table) ≡ events * pol .states
@@ -254,13 +254,13 @@ policy-facts lay pol e =
     let t₀ = both _ _ (t₁ .0) in
     record { states = eqb-true _ _ (t₀ .0); size = eqb-true _ _ (t₀ .1); start = ltb-true _ _ (t₁ .1); entries = t₂ .1 }
 
--- an entry that is no 255 is a state
+-- an entry other than 255 is a state
 pub entry : (s : ℕ) (bs : List ℕ) → entriesRight s bs ≡ true → (i : ℕ) → (getD bs i noArrow ≡ noArrow → ⊥) → getD bs i noArrow < s
 entry s [] t i f = absurd (f refl)
 entry s (b ∷ bs) t zero f = ⊎-elim (λ l. ltb-true b s l) (λ e. absurd (f (eqb-true b noArrow e))) (either _ _ (both _ _ t .0))
 entry s (b ∷ bs) t (suc i) f = entry s bs (both (entryRight s b) (entriesRight s bs) t .1) i f
 
--- a run of stores: the stored elements, and those beside them
+-- after `sets`: the elements written, and those beside them
 pub sets-beside : (vs l : List ℕ) (i j : ℕ) → (j < i) ⊎ (i + length vs ≤ j) → getD (sets l i vs) j 0 ≡ getD l j 0
 sets-beside [] l i j o = refl
 sets-beside (a ∷ vs) l i j o =
@@ -308,7 +308,7 @@ laid-of lay pol mem e =
           ∙ getD-set-same mem (lay .cell) (pol .start) 0 (omega (arith, f .cell));
     })
 
--- an unprotected cell is none that installing writes
+-- installing does not write unprotected cells
 unprotected : (lay : Layout) (i : ℕ) → protected lay i ≡ false → (i ≡ lay .cell → ⊥) × ((i < lay .table) ⊎ (tableEnd lay ≤ i)) × ((i < lay .landings) ⊎ (landingsEnd lay ≤ i))
 unfolding protected inTable inLandings
 unprotected lay i p =
@@ -383,7 +383,7 @@ right-of lay pol ws mem c e =
 
 -- ---- rewriting
 
--- what rewriting's 0 says of a routine's words
+-- what a taken rewriting says of a routine's words
 pub record Taken (lay : Layout) (code : List ℕ) : Type 0 where
   pub right : rightLayout lay ≡ true
   pub most : length code ≤ mostInstructions
@@ -402,7 +402,7 @@ taken-of lay code room =
     cond-ind (λ (a : Answer). a .number ≡ 0 → P) (ltb room (commandCount n)) (λ _ z. absurd (omega arith)) (λ _ _.
     record { right = r; most = ltb-false _ _ m; each = takes-each (refusalAt n) code 0 _ e; base = b }))) e))
 
--- a jump below m is one below n
+-- an instruction valid among m bundles is valid among more
 pub grown : (m n : ℕ) (i : Instr) → m ≤ n → Valid m i → Valid n i
 grown m n HALT h v = tt
 grown m n (PLAIN k d a b x) h v = v

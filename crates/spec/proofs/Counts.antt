@@ -1,4 +1,4 @@
--- Bounds of what the parts answer: numbers fit a byte, places and counts their outputs.
+-- Bounds of the answers: numbers fit a byte, places and counts fit their outputs.
 use Prim.Native.Nat.{ℕ, zero, suc, _+_, _-_, _*_, _/_, _^_, _≤_, _<_}
 use mathlib.Core.Path.{_≡_, refl, sym, _∙_, ap, subst}
 use mathlib.Core.Bool.{Bool, _&&_, _||_, not}
@@ -35,13 +35,13 @@ use Rattle.spec.proofs.Loops.{Loop, stepIn, keeps, machineLoop}
 use Rattle.spec.proofs.Masks.{sizes}
 use Rattle.spec.proofs.Conditions.{length-bundles}
 
--- a routine is at most 2 bytes and 10 for each instruction
+-- a routine has at most 2 bytes and 10 for each instruction
 abbrev pub mostBytes : ℕ
 mostBytes = 2 + 10 * mostInstructions
 
 -- ---- answers
 
--- the number fits a byte, the place is at most `most`, and at most `room` where nothing is refused
+-- the number fits a byte, the place is at most `most`, and at most `room` if nothing is refused
 pub record Bounded (most room : ℕ) (a : Answer) : Type 0 where
   pub number : a .number < 2 ^ 8
   pub place : a .place ≤ most
@@ -50,7 +50,7 @@ pub record Bounded (most room : ℕ) (a : Answer) : Type 0 where
 widen : {m r m′ r′ : ℕ} {a : Answer} → m ≤ m′ → r ≤ r′ → Bounded m r a → Bounded m′ r′ a
 widen h k b = record { number = b .number; place = omega (arith, b .place); taken = λ z. omega (arith, b .taken z) }
 
--- at place 0
+-- an answer at place 0
 pub at-start : (m r x : ℕ) → x < 2 ^ 8 → Bounded m r (answer x 0)
 at-start m r x h = record { number = h; place = omega arith; taken = λ _. omega arith }
 
@@ -60,12 +60,12 @@ or-else m r a b h p q =
     cond-ind (Bounded m r) (eqb (a .number) 0) (λ e. q (eqb-true _ _ e))
     (λ e. record { number = h; place = p; taken = λ z. absurd (eqb-false _ _ e z) })
 
--- k written, if there is room
+-- success with k, if there is room
 room-bound : (m r k : ℕ) → k ≤ m → Bounded m r (roomFor r k)
 room-bound m r k h =
     cond-ind (Bounded m r) (ltb r k) (λ _. at-start _ _ _ (lit< tt)) (λ f. record { number = lit< tt; place = h; taken = λ _. ltb-false _ _ f })
 
--- a refusal among the words, or what follows them
+-- the first refusal among words, or the answer that follows them
 pub first-bound : (judge : ℕ → ℕ) → ((w : ℕ) → judge w < 2 ^ 8)
     → (ws : List ℕ) (i m r : ℕ) (z : Answer) → i + length ws ≤ m → Bounded m r z → Bounded m r (firstRefused judge ws i z)
 unfolding firstRefused
@@ -96,7 +96,7 @@ one-small s =
     (λ _. cond-ind SmallOne (eqb (fieldsRefusal (not (eqb (getD s 0 0) (mapOf (fieldsAt (getD s 0 0) s)))) (fieldsAt (getD s 0 0) s)) 0) (λ _. tt)
     (λ _. refusal-small _ _))))
 
--- place i of a refusal, and i + n of n instructions taken
+-- a refusal's place, or i + n if n instructions are taken
 scan-bound : (n i m : ℕ) (s : List ℕ) → i + n ≤ m → Bounded m m (scanOf n i s)
 unfolding scanOf
 scan-bound zero i m s h =
@@ -161,7 +161,7 @@ rewrite-bound lay ws room =
     (unless-ind (Bounded mostCommands room) (baseRight lay (bundlesFor (length ws))) (λ _. at-start _ _ _ (lit< tt))
     (λ _. room-bound _ _ _ (count-bound (length ws) n)))))
 
--- words that rewriting takes: 4N commands are written
+-- if rewriting is taken, 4N commands are written
 pub rewrite-taken : (lay : Layout) (ws : List ℕ) (room : ℕ) → rewriteAnswer lay ws room .number ≡ 0 → rewriteAnswer lay ws room ≡ answer 0 (commandCount (length ws))
 unfolding rewriteAnswer baseRoomAnswer
 rewrite-taken lay ws room =
@@ -200,7 +200,7 @@ install-bound lay pol mem =
 
 -- ---- a run
 
--- an event is let through only with two free cells, a reading only with one left; no order is one
+-- an event passes only with two free log cells, a reading event only with a reading left
 abbrev pub Room : ℕ → ℕ → Effect → Type 0
 Room free left (Go to) = Unit {0}
 Room free left (SetReg d x) = Unit {0}
@@ -234,7 +234,7 @@ room (Event v) s =
     (λ o. cond-ind (Room (s .free) (s .left)) (eqb (s .left) 0) (λ _. tt) (λ e. in-room (s .free) (s .left) (Probe v) (λ f. (f, omega (arith, eqb-false (s .left) 0 e), ltb-false _ _ o))))
 room Invalid s = tt
 
--- pairs and readings of a state: at most p and u; the pairs lie in a log as long as l and as l beyond them, the readings in rd
+-- a state has at most p pairs and u readings used; the pairs are in a log that is l beyond them, the readings in rd
 pub record Counted (l rd : List ℕ) (p u : ℕ) (s : State) : Type 0 where
   pub log : length (s .log) ≡ length l
   pub pairs : s .pairs ≤ p
@@ -243,12 +243,12 @@ pub record Counted (l rd : List ℕ) (p u : ℕ) (s : State) : Type 0 where
   pub room : 2 * s .pairs ≤ length l
   pub rest : (i : ℕ) → 2 * s .pairs ≤ i → getD (s .log) i 0 ≡ getD l i 0
 
--- a pair is written before the rest
+-- writing a pair keeps the rest of the log
 pair-rest : (l log : List ℕ) (n e x : ℕ) → ((i : ℕ) → 2 * n ≤ i → getD log i 0 ≡ getD l i 0) → (i : ℕ) → 2 * (n + 1) ≤ i → getD (withPair log n e x) i 0 ≡ getD l i 0
 pair-rest l log n e x h i m =
     getD-set-other (set log (2 * n) e) (2 * n + 1) i x 0 (λ z. omega arith) ∙ getD-set-other log (2 * n) i e 0 (λ z. omega arith) ∙ h i (omega arith)
 
--- one step adds at most one
+-- one step adds at most one pair and one reading
 pub step-counts : (caps l : List ℕ) (p u : ℕ) (rd : List ℕ) (e : Effect) (s : State) → Counted l rd p u s
     → Room (length (s .log) - 2 * s .pairs) (length rd - s .used) e → Counted l rd (p + 1) (u + 1) (applyOf caps rd e s)
 unfolding applyOf
@@ -262,7 +262,7 @@ step-counts caps l p u rd (Probe v) s b r =
 step-counts caps l p u rd (End t) s b r = record { log = b .log; pairs = omega arith; used = omega arith; drawn = b .drawn; room = b .room; rest = b .rest }
 step-counts caps l p u rd (Wait e) s b r = record { log = b .log; pairs = omega arith; used = omega arith; drawn = b .drawn; room = b .room; rest = b .rest }
 
--- a step keeps the pairs within the log and the readings within rd, and the count of registers
+-- a step keeps the pairs within the log, the readings within rd, and the number of registers
 pub apply-bounds : (caps rd : List ℕ) (e : Effect) (s : State) → Room (length (s .log) - 2 * s .pairs) (length rd - s .used) e → 2 * s .pairs ≤ length (s .log) → s .used ≤ length rd
     → let t = applyOf caps rd e s in (2 * t .pairs ≤ length (t .log)) × (t .used ≤ length rd)
 apply-bounds caps rd e s r p u =
@@ -279,7 +279,7 @@ apply-regs caps rd (Probe v) s = length-set (s .regs) 0 (getD rd (s .used) 0)
 apply-regs caps rd (End t) s = refl
 apply-regs caps rd (Wait e) s = refl
 
--- a run's counts: at most n steps, pairs and readings; the pairs within a log as long as l, and as l beyond them; the readings within rd
+-- a run has at most n steps, pairs and readings; the pairs are in a log that is l beyond them, the readings in rd
 pub record Tally (l rd : List ℕ) (n k p u : ℕ) (log′ : List ℕ) : Type 0 where
   pub steps : k ≤ n
   pub pairs : p ≤ n
@@ -292,7 +292,7 @@ pub record Tally (l rd : List ℕ) (n k p u : ℕ) (log′ : List ℕ) : Type 0 
 abbrev pub RunCounts : List ℕ → List ℕ → ℕ → RunResult → Type 0
 RunCounts l rd n r = Tally l rd n (r .outcome .answer .steps) (r .outcome .answer .pairs) (r .outcome .answer .used) (r .log)
 
--- within a run of at most n steps, m of them left
+-- within a run of at most n steps, with m of them left
 abbrev pub Counting : List ℕ → List ℕ → ℕ → ℕ → ℕ → State → Type 0
 Counting l rd n m k s = (k + m ≤ n) × Counted l rd k k s
 
@@ -303,7 +303,7 @@ pub at-first : (rd log : List ℕ) (n : ℕ) (s : State) → s .log ≡ log → 
 at-first rd log n s e p u =
     (omega arith, record { log = ap length e; pairs = omega arith; used = omega arith; drawn = omega arith; room = omega arith; rest = λ i h. ap (λ (x : List ℕ). getD x i 0) e })
 
--- any loop whose steps count so
+-- so does any loop whose steps do
 pub loop-counts : {R : Type 0} (a : Loop ℕ R) (l rd : List ℕ) (n : ℕ) (P : R → Type 0)
     → ((s : State) (k : ℕ) → a .tick s k ≡ k + 1)
     → ((k : ℕ) (s : State) → Counted l rd k k s → Counted l rd (k + 1) (k + 1) (stepIn a s))

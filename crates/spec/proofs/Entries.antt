@@ -1,4 +1,4 @@
--- A policy's table in two parts.
+-- A policy's table is right if both of its parts are.
 use Prim.Native.Nat.{ℕ}
 use mathlib.Core.Path.{_≡_, refl, sym, ap, _∙_}
 use mathlib.Core.Bool.{Bool, _&&_, and-assoc}

@@ -1,4 +1,4 @@
--- The guest words that rewriting takes: their instructions are valid, and every valid instruction has one.
+-- Rewriting takes exactly the words of valid instructions.
 use mathlib.Core.Path.{_≡_, refl, _∙_}
 use mathlib.Core.Bool.{true, false, _&&_, _||_, cond}
 use mathlib.Core.Logic.{⊎-elim}
@@ -22,7 +22,7 @@ use Rattle.spec.proofs.Packing.{InBits, guest-bits, condition-bits, pac
 
 -- ---- the instruction of a taken word is valid
 
--- a landing that is not refused with 8 (bad landing)
+-- a jump that is not refused as bad landing (8)
 landing : (n k v : ℕ) → cond (eqb k (guest .goif) && ltb n v) (numberOf BadLanding) (numberOf Taken) ≡ 0 → k ≡ guest .goif → v ≤ n
 landing n k v e at-goif =
     cond-ind (λ (x : ℕ). x ≡ 0 → v ≤ n) (eqb k (guest .goif) && ltb n v) (λ _ z. absurd (omega arith)) (λ l _. ltb-false n v (rw (eq-eqb k (guest .goif) at-goif) at l)) e
@@ -36,7 +36,7 @@ taken-word n w =
 abbrev fields : ℕ → ℕ → ℕ → ℕ → ℕ → ℕ → Fields
 fields k d a b c v = record { kind = k; d = d; a = a; b = b; c = c; v = v }
 
--- the tables of a guest's plain kinds and of the commands that they become agree
+-- a guest's plain kind and its command have the same limits
 plain-limits : (k d a b c v : ℕ) → InLimits (guestLimits k) (fields k d a b c v) → k < guest .load → (d ≤ limitsOf (k + plainStep) .d)
     × (a ≤ limitsOf (k + plainStep) .a) × (b ≤ limitsOf (k + plainStep) .b) × (v ≤ limitsOf (k + plainStep) .v)
 unfolding all
@@ -45,11 +45,11 @@ plain-limits k d a b c v g h = (up (λ l. l .d) refl d (g .d), up (λ l. l .a) r
     up : (f : Limits → ℕ) → all (λ k. leb (f (guestLimits k)) (f (limitsOf (k + plainStep)))) (guest .load) ≡ true → (x : ℕ) → x ≤ f (guestLimits k) → x ≤ f (limitsOf (k + plainStep))
     up f e x l = raised (λ k. f (guestLimits k)) (λ k. f (limitsOf (k + plainStep))) (guest .load) e k x h l
 
--- EVENT's number
+-- EVENT's number is below 16
 event-top : (k v : ℕ) → k ≡ guest .event → v ≤ guestLimits k .v → v < events
 event-top k v e h = let t : v ≤ guestLimits (guest .event) .v = rw e at h in omega arith
 
--- guest registers, and landings
+-- registers of guest fields, and jumps within the routine
 is-guest : (r : ℕ) → r ≤ topGuest → r < guestRegisters
 is-guest r l = omega arith
 
@@ -97,7 +97,7 @@ guestWord (GOIF a b c v) = packOf (guest .goif) 0 a b c v
 guestWord (GOX d a b c) = packOf (guest .gox) d a b c 0
 guestWord (EVENT e) = packOf (guest .event) 0 0 0 0 e
 
--- each field within its limit, and a landing up to n
+-- each field within its limit, and a jump to at most n
 abbrev Fine : ℕ → ℕ → ℕ → ℕ → ℕ → ℕ → ℕ → Type 0
 Fine n k d a b c v =
     let l = guestLimits k in
@@ -140,7 +140,7 @@ plain-fine n k d a b v h hd ha hb ld la lb lv = (
         ⊎-elim (λ t. let u : topGuest ≤ f (guestLimits k) = leb-true _ _ t in omega arith) (λ t. let u : f (limitsOf (k + plainStep)) ≤ f (guestLimits k) = leb-true _ _ t in omega arith)
         (either _ _ (each (λ k. leb topGuest (f (guestLimits k)) || leb (f (limitsOf (k + plainStep))) (f (guestLimits k))) k (guest .load) e (omega arith)))
 
--- the fields of each guest word lie within their bits
+-- the fields of each guest word fit their bits
 halt-bits : InBits (guest .halt) 0 0 0 0
 halt-bits = (lit< tt, lit< tt, lit< tt, lit< tt, lit< tt)
 
@@ -162,7 +162,7 @@ gox-bits d a b c g = (lit< tt, guest-bits d (g .0), guest-bits a (g .1), guest-b
 event-bits : InBits (guest .event) 0 0 0 0
 event-bits = (lit< tt, lit< tt, lit< tt, lit< tt, lit< tt)
 
--- of n + 1 bundles at most, a valid instruction's word is taken among n
+-- a valid instruction's word is taken among n instructions
 pub guest-taken : (n : ℕ) → n ≤ mostInstructions → (i : Instr) → Valid (n + 1) i → refusalAt n (guestWord i) ≡ 0
 guest-taken n m HALT g = pack-judged n (guest .halt) 0 0 0 0 0 halt-bits (lit≤ tt, (lit≤ tt, lit≤ tt, lit≤ tt, lit≤ tt, lit≤ tt), λ e. omega arith)
 guest-taken n m (PLAIN k d a b v) g =
@@ -178,7 +178,7 @@ guest-taken n m (GOX d a b c) g =
 guest-taken n m (EVENT v) g =
     pack-judged n (guest .event) 0 0 0 0 v event-bits (lit≤ tt, (lit≤ tt, lit≤ tt, lit≤ tt, lit≤ tt, omega arith), λ e. omega arith)
 
--- and stands for it: the instruction of a kind and fields, and of the word that has them
+-- its word decodes to the instruction again
 abbrev pub instrAt : ℕ → ℕ → ℕ → ℕ → ℕ → ℕ → Instr
 instrAt k d a b c v =
     cond (eqb k (guest .halt)) HALT

@@ -1,4 +1,4 @@
--- The claims over lists of runs, from what the parts answered: guest rule, pc, isolation.
+-- The claims over lists of runs: guest rule, pc, isolation.
 use mathlib.Core.Path.{_≡_, refl, sym, _∙_, ap, subst}
 use mathlib.Core.Bool.{true, false, _&&_}
 use mathlib.Core.Logic.{⊎-elim}
@@ -28,15 +28,15 @@ use Rattle.spec.proofs.Simulation.{SessionInvariant}
 use Rattle.spec.proofs.RunSimulation.{recorded as recorded-runs, stays-run, stays-runs, install, simulates-after, pc-in, allowed-runs, sound-runs, kept-runs, lasts}
 use Rattle.spec.proofs.Noninterference.{noninterference}
 
--- the simulation holds of an installation that answered 0
+-- the invariant holds after an installation that was taken (0)
 at-first : (lay : Layout) (pol : Policy) (ws mem : List ℕ) (n : ℕ) (is : ℕ → Instr) → Right lay pol n → Bundled lay ws n is
     → installAnswer lay pol mem .number ≡ 0 → SessionInvariant lay pol n is (guestStart lay pol (installMemory lay pol mem)) (initialSession lay pol mem)
 at-first lay pol ws mem n is ok bs z =
     subst (λ (m : Machine). SessionInvariant lay pol n is (guestStart lay pol (installMemory lay pol mem)) (sessionOf m (installMemory lay pol mem) [] [] 0)) (sym (machine-of lay pol mem z))
     (install lay pol ws n is ok bs (installMemory lay pol mem) (laid-of lay pol mem z))
 
--- what the claims take from the premise: the layout and the commands are right for n instructions, which can be read off the commands,
--- and the simulation holds of the list of runs
+-- what the premise gives: layout and commands are right for n instructions, which can be read off the commands,
+-- and the invariant holds after the list of runs
 pub record SimulatedRuns (lay : Layout) (pol : Policy) (ws mem : List ℕ) (gs : List RunInput) (n : ℕ) (is : ℕ → Instr) : Type 0 where
   pub right : Right lay pol n
   pub bundled : Bundled lay ws n is
@@ -50,7 +50,7 @@ simulated lay pol ws mem gs n is ok bs read v =
     let w = at-first lay pol ws mem n is ok bs (v .installed) in
     record { right = ok; bundled = bs; read = read; first = w; last = stays-runs lay pol ws n is ok bs _ (initialSession lay pol mem) gs (v .preserved) w }
 
--- of a passed list, whose instructions are read off it, and of a rewritten routine
+-- for a passed list, by the instructions read off it, and for a rewritten routine
 pub list-simulated : (lay : Layout) (pol : Policy) (ws mem : List ℕ) (gs : List RunInput) → HostPremise lay pol ws mem gs → SimulatedRuns lay pol ws mem gs (length ws / bundleLength) (bundleAt lay ws)
 list-simulated lay pol ws mem gs v = simulated lay pol ws mem gs _ _ (right-of lay pol ws mem (v .passed) (v .installed)) (bundled-of lay ws (v .passed)) (λ h l. refl) v
 
@@ -67,7 +67,7 @@ guest-rule lay pol code mem room gs z v x =
     let t = routine-simulated lay pol code mem room gs z v in
     simulates-after lay pol _ _ _ (t .right) (t .bundled) _ (after lay pol (commandsOf lay code) mem gs) x (t .last)
 
--- two addresses of a list, the second one on from the first modulo 2 ^ 32
+-- if an address of the list plus 1, modulo 2 ^ 32, is in the list, then nothing wrapped
 no-turn : (base n pc to : ℕ) → n ≤ mostBundles → base + bundleLength * n ≤ 2 ^ 32 → pc < base + bundleLength * n → base ≤ to → to ≡ nextPc pc → pc + 1 < 2 ^ 32
 no-turn base n pc to most room l k e = omega arith
 
@@ -87,7 +87,7 @@ no-wrap lay pol ws mem gs v =
           no-turn (lay .base) _ (c .machine .pc) _ (p .most) (t .right .room) (i .1) (pc-in lay pol ws _ _ (t .right) (t .bundled) _ (afterRun lay ws c (withBudget g 1)) w .0) e;
     }
 
--- a cell of a stretch whose cells lie outside the sandbox
+-- a cell of a range that lies outside the sandbox
 stretch-out : (lay : Layout) (from size i : ℕ) → ((j : ℕ) → j < size → inBox lay (from + j) ≡ false) → (leb from i && ltb i (from + size)) ≡ true → inBox lay i ≡ false
 stretch-out lay from size i out e =
     let b = both _ _ e in
@@ -96,7 +96,7 @@ stretch-out lay from size i out e =
     let z : from + (i - from) ≡ i = omega arith in
     rw z at (out (i - from) (omega arith))
 
--- a protected cell other than the state cell lies outside the sandbox
+-- a protected cell other than the state cell is outside the sandbox
 pub protected-out : (lay : Layout) (pol : Policy) (n i : ℕ) → Ready lay pol n → protected lay i ≡ true → (i ≡ lay .cell → ⊥) → inBox lay i ≡ false
 unfolding protected inTable inLandings
 protected-out lay pol n i ok p ne =

@@ -1,4 +1,4 @@
--- Laws of lists of runs, for machine and engine.
+-- Laws of lists of runs, for machine and engine alike.
 use mathlib.Core.Path.{_≡_, refl, sym, _∙_, ap}
 use mathlib.Core.Bool.{false}
 use mathlib.Core.List.{List, [], _∷_, _++_, append-assoc, append-nil}
@@ -16,7 +16,7 @@ pub every-append : {A : Type 0} (P : A → Type 0) (xs ys : List A) → Every P 
 every-append P [] ys a b = b
 every-append P (x ∷ xs) ys a b = (a .0, every-append P xs ys (a .1) b)
 
--- a run that counts its pairs and readings, and leaves memory as it should
+-- a run that counts its pairs and readings, and keeps the frame condition
 pub kept-by : {O : Type 0} (lay : Layout) (r : Run O) (n k : ℕ) → Tally (r .input .log) (r .input .readings) n k (r .pairs) (r .used) (r .result .log)
     → length (r .result .mem) ≡ length (r .input .memory)
     → ((i : ℕ) → inBox lay i ≡ false → (i ≡ lay .cell → ⊥) → getD (r .result .mem) i 0 ≡ getD (r .input .memory) i 0) → FrameCondition lay r
@@ -30,7 +30,7 @@ module _ {C : Type 0} (on : C → RunInput → C) where
   after-more c [] g = refl
   after-more c (x ∷ gs) g = after-more (on c x) gs g
 
-  -- each run is lent the one memory
+  -- each run is lent the memory that the last one left
   module _ (lay : Layout) (memory : C → List ℕ) where
     abbrev pub AllPreserved : C → List RunInput → Type 0
     AllPreserved c gs = Every (λ (x : List ℕ × RunInput). MemoryPreserved lay (x .0) (x .1)) (eachRun (λ c g. (memory c, g)) on c gs)
@@ -40,7 +40,7 @@ module _ {C : Type 0} (on : C → RunInput → C) where
     lends-more c [] g l t = (t, tt)
     lends-more c (x ∷ gs) g l t = (l .0, lends-more (on c x) gs g (l .1) t)
 
-    -- a list cut off, between two runs or within one
+    -- the same for a list that is cut off, between two runs or within one
     pub lends-first : (c : C) (xs ys : List RunInput) → AllPreserved c (xs ++ ys) → AllPreserved c xs
     unfolding eachRun
     lends-first c [] ys l = tt
@@ -51,7 +51,7 @@ module _ {C : Type 0} (on : C → RunInput → C) where
     preserved-prefix c [] ys g j l = (l .0, tt)
     preserved-prefix c (x ∷ xs) ys g j l = (l .0, preserved-prefix (on c x) xs ys g j (l .1))
 
-    -- what each run keeps a list keeps
+    -- what each run keeps, a list of runs keeps
     module _ (S : C → Type 0) (keeps : (c : C) (g : RunInput) → MemoryPreserved lay (memory c) g → S c → S (on c g)) where
       pub stays-all : (c : C) (gs : List RunInput) → AllPreserved c gs → S c → S (afterAll on c gs)
       unfolding eachRun afterAll

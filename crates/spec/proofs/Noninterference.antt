@@ -1,4 +1,4 @@
--- Isolation (d), noninterference: two lists of runs that differ only in free cells and old logs do the same, run by run.
+-- Part (d) of isolation, noninterference: two lists of runs that differ only in free cells and old logs do the same, run by run.
 use mathlib.Core.Path.{_≡_, refl, sym, _∙_, ap, subst}
 use mathlib.Core.Bool.{Bool, true, false, _&&_}
 use mathlib.Core.Logic.{⊎-elim}
@@ -39,7 +39,7 @@ use Rattle.spec.proofs.Conditions.{machine-of}
 use Rattle.spec.proofs.Simulation.{MidBundle, start, rest, load1, load2, store1, store2, gox1, gox2, gox3, event1, event2, event3, InBundle, over, live, RunInvariant, SessionInvariant}
 use Rattle.spec.proofs.RunSimulation.{lent-box, lent-cell, lent-table, lent-landing, sim-invariant, step-known, enter, stays-run}
 
--- ---- two states with the same machine and counts, alike in what is seen of memory and in the pairs logged
+-- ---- low-equivalent states: the same machine and counts, the same cells except free ones, the same logged pairs
 abbrev pub besides : State → List ℕ → List ℕ → State
 besides s mem log = stateOf (s .regs) (s .pc) (s .status) mem log (s .pairs) (s .used)
 
@@ -50,7 +50,7 @@ pub record LowEqualState (lay : Layout) (s t : State) : Type 0 where
   pub long : length (s .log) ≡ length (t .log)
   pub logged : (i : ℕ) → i < 2 * s .pairs → getD (s .log) i 0 ≡ getD (t .log) i 0
 
--- the same store into two lists of one length
+-- the same store into two lists of the same length
 pub set-alike : (l l′ : List ℕ) (a i v : ℕ) → length l ≡ length l′ → ((i ≡ a → ⊥) → getD l i 0 ≡ getD l′ i 0) → getD (set l a v) i 0 ≡ getD (set l′ a v) i 0
 set-alike l l′ a i v n k =
     ⊎-elim
@@ -75,7 +75,7 @@ pair-alike log log′ n e x i l h m =
     set-alike (set log (2 * n) e) (set log′ (2 * n) e) (2 * n + 1) i x (simp length-set l)
     (λ p. set-alike log log′ (2 * n) i e l (λ q. h i (omega arith)))
 
--- one more pair in both logs, whatever becomes of registers, pc and readings used
+-- one more pair in both logs, whatever happens to registers, pc and readings
 logs-alike : (lay : Layout) (s : State) (mem log regs : List ℕ) (pc used e x : ℕ) → LowEqualState lay s (besides s mem log)
     → LowEqualState lay (stateOf regs pc (s .status) (s .mem) (withPair (s .log) (s .pairs) e x) (s .pairs + 1) used)
     (stateOf regs pc (s .status) mem (withPair log (s .pairs) e x) (s .pairs + 1) used)
@@ -107,7 +107,7 @@ apply-alike lay rd (Probe v) s mem log t = logs-alike lay s mem log _ _ _ v _ t
 apply-alike lay rd (End u) s mem log t = record { same = refl; lowEqual = t .lowEqual; size = t .size; long = t .long; logged = t .logged }
 apply-alike lay rd (Wait e) s mem log t = t
 
--- ---- what a command reads of memory is seen
+-- ---- a command reads only cells that are not free
 abbrev Safe : Layout → Command → List ℕ → List ℕ → Type 0
 Safe lay Nop regs mem = Unit {0}
 Safe lay Halt regs mem = Unit {0}
@@ -122,7 +122,7 @@ Safe lay (Keep d) regs mem = Unit {0}
 Safe lay (Event v) regs mem = Unit {0}
 Safe lay Invalid regs mem = Unit {0}
 
--- a landing is looked up in the landing cells alone
+-- landings are looked up in the landing cells only
 lands-alike : (lay : Layout) (mem mem′ : List ℕ) (to : ℕ) → LowEqual lay mem mem′ → isLanding mem′ (lay .base) (lay .landings) to ≡ isLanding mem (lay .base) (lay .landings) to
 unfolding isLanding
 lands-alike lay mem mem′ to m = by (leb (lay .base) to && eqb ((to - lay .base) % bundleLength) 0) _ refl
@@ -172,7 +172,7 @@ pairs-alike log log′ (suc k) h =
     let r = pairs-alike log log′ k (λ i m. h i (omega arith)) in
     cc
 
--- any loop, where what is next is the same for low-equivalent states, and so is what it leaves; `In` is known of the first
+-- any loop whose next action and result are the same for low-equivalent states; `In` holds of the first state
 module _ {R : Type 0} (a : Loop ℕ R) (lay : Layout) (In : State → Type 0)
     (one : (s : State) (k : ℕ) → a .tick s k ≡ k + 1)
     (next : (s : State) (mem log : List ℕ) → In s → s .status ≡ Running → LowEqualState lay s (besides s mem log) → a .next (besides s mem log) ≡ a .next s)
@@ -199,13 +199,13 @@ module _ {R : Type 0} (a : Loop ℕ R) (lay : Layout) (In : State → Type 0)
       same-next : (s t : State) → In s × LowEqualState lay s t → s .status ≡ Running → a .next t ≡ a .next s
       same-next s t x r = ap (a .next) (x .1 .same) ∙ next s (t .mem) (t .log) (x .0) r (besides-low-equal s t (x .1))
 
--- what two runs leave, with the same outcome and pairs, in memories that are alike
+-- two results with the same outcome and pairs, and low-equivalent memories
 pub record SameResults {O : Type 0} (lay : Layout) (pairs : O → ℕ) (r r′ : RunResultWith O) : Type 0 where
   pub outcome : r .outcome ≡ r′ .outcome
   pub logged : pairsOf (r .log) (pairs (r .outcome)) ≡ pairsOf (r′ .log) (pairs (r′ .outcome))
   pub lowEqual : LowEqual lay (r .mem) (r′ .mem)
 
--- two runs given alike start low-equivalent
+-- two runs with the same inputs start low-equivalent
 pub starts-alike : (lay : Layout) (regs : List ℕ) (pc : ℕ) (t : Status) (mem mem′ : List ℕ) (g g′ : RunInput) → length (g .memory) ≡ lay .size
     → SameInputs g g′ → MemoryPreserved lay mem g → MemoryPreserved lay mem′ g′ → LowEqual lay mem mem′
     → LowEqualState lay (stateOf regs pc t (g .memory) (g .log) 0 0) (stateOf regs pc t (g′ .memory) (g′ .log) 0 0)
@@ -218,14 +218,14 @@ starts-alike lay regs pc t mem mem′ g g′ l a lent lent′ m =
       logged = λ i m. absurd (omega arith);
     }
 
--- two runs of a list that do the same, and go on from the same record and from memories that are alike
+-- two runs that do the same and leave the same record and low-equivalent memories
 pub record SameAfter {M O : Type 0} (lay : Layout) (m m′ : M) (r r′ : Run O) : Type 0 where
   pub outcome : r .result .outcome ≡ r′ .result .outcome
   pub logged : pairsOf (r .result .log) (r .pairs) ≡ pairsOf (r′ .result .log) (r′ .pairs)
   pub from : m ≡ m′
   pub lowEqual : LowEqual lay (r .memory) (r′ .memory)
 
--- lists of runs whose runs do so; `Out` is known of the first between two runs
+-- lists of such runs; `Out` holds of the first list between two runs
 module _ {C M O : Type 0} (lay : Layout) (of : C → M) (memory : C → List ℕ) (run : C → RunInput → Run O) (on : C → RunInput → C) (Out : C → Type 0)
     (left : (c : C) (g : RunInput) → run c g .memory ≡ memory (on c g))
     (stays : (c : C) (g : RunInput) → MemoryPreserved lay (memory c) g → Out c → Out (on c g))
@@ -248,7 +248,7 @@ module _ {C M O : Type 0} (lay : Layout) (of : C → M) (memory : C → List ℕ
         runs-alike (on c g) (on c′ g′) gs gs′ (a .1) (l .1) (l′ .1) (stays c g (l .0) w) (o .from) (rw (← left c g, ← left c′ g′) (o .lowEqual)),
       )
 
--- what the simulation knows of a list of runs: `In` within a run with readings rd, `Out` between two
+-- the invariants of a list of runs: `In` within a run with readings rd, `Out` between two
 record Invariant (lay : Layout) (ws : List ℕ) (In : List ℕ → State → Type 0) (Out : Session → Type 0) : Type 0 where
   safe : (rd : List ℕ) (s : State) → In rd s → s .status ≡ Running → Safe lay (fetchOf ws (lay .base) (s .pc)) (s .regs) (s .mem)
   step : (rd : List ℕ) (s : State) → In rd s → s .status ≡ Running → ((d : Ending) → nextOf lay ws rd s ≡ Wait d → ⊥) → In rd (stepOf lay ws rd s)
@@ -280,7 +280,7 @@ module _ (lay : Layout) (ws : List ℕ) (In : List ℕ → State → Type 0) (Ou
       let f′ : fits lay (g′ .memory) ≡ false = rw (← a .memory) f in
       rw (f, f′, ← e) (record { outcome = refl; logged = refl; from = refl; lowEqual = m })
 
--- ---- the simulation keeps the first list's reads within what is seen
+-- ---- the simulation shows that the first list reads no free cell
 start-safe : (lay : Layout) (n : ℕ) (regs mem : List ℕ) (i : Instr) → Valid n i → getD mem (lay .cell) 0 < lay .states → Safe lay (shapeOf lay n i 0) regs mem
 unfolding shapeOf
 start-safe lay n regs mem HALT v l = tt
@@ -314,7 +314,7 @@ sim-safe lay pol ws n is s g k b ok bs l run (live gg st h p lh lp pc m) =
     let e : fetchOf ws (lay .base) (s .pc) ≡ shapeOf lay n (is h) p = ap (fetchOf ws (lay .base)) pc ∙ bs .each h p lh lp in
     rw e (mid-safe lay pol n (s .regs) (s .mem) g h k b (is h) p ok (bs .valid h lh) l m)
 
--- within a run: the simulation holds of it, after some earlier runs
+-- within a run: the simulation holds after some earlier runs
 record Within (lay : Layout) (pol : Policy) (n : ℕ) (is : ℕ → Instr) (g0 : Guest) (rd : List ℕ) (s : State) : Type 0 where
   past : List Pair
   before : List ℕ

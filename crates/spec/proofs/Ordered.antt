@@ -1,4 +1,4 @@
--- The order before a step: why it ends or pauses, and what a run then answers.
+-- What happens before a step: why a run ends or pauses, and what it then answers.
 use mathlib.Core.Path.{_≡_, refl, sym, _∙_, ap, subst}
 use mathlib.Core.Bool.{Bool, true, false, _&&_, cond}
 use mathlib.Core.Logic.{_⊎_, inl, inr, ⊎-elim}
@@ -29,7 +29,7 @@ use Rattle.spec.specs.Endings.{commandAt, registerAt, cellsUsed, FaultsA
 use Rattle.spec.proofs.Bools.{no, cases, both, or-left, or-right, either, cond-ind}
 use Rattle.spec.proofs.Loops.{Loop, over-from, wait-from, go-from, keeps, runs-compose-at, machineLoop}
 
--- ---- pauses, by log and readings alone; the engine's too
+-- ---- pauses depend only on log and readings, in the engine too
 pub silent-by : (v free left : ℕ) → orders ≤ v → left ≡ 0 → eventEffect v free left ≡ Wait Silent
 silent-by v free left o r = rw (le-ltb v orders o, eq-eqb left 0 r)
 
@@ -41,9 +41,9 @@ full-by v free left (inl o) r = full-order v free left o r
 full-by v free left (inr o) r =
     ⊎-elim (λ t. full-order v free left (ltb-true v orders t) r) (λ t. rw (t, ne-eqb left 0 (λ y. omega arith), lt-ltb free 2 r)) (cases (ltb v orders))
 
--- ---- where a run that counts its steps ends, and how it goes on with a greater budget; the machine's and the engine's alike
+-- ---- where a run that counts its steps ends, and how it continues with a greater budget; for machine and engine alike
 module _ {R : Type 0} (l : Loop ℕ R) (left : R → ℕ × State) (is : (e : Ending) (k : ℕ) (s : State) → left (l .ends e k s) ≡ (k, s)) (one : (s : State) (k : ℕ) → l .tick s k ≡ k + 1) where
-  -- after at most j steps: if it is over, as its status says; if it still runs and counted j, spent
+  -- after at most j steps: if it is over, its status says how; if it still runs and has counted j, it is spent
   pub record LeftBy (j : ℕ) (r : R) : Type 0 where
     pub over : (left r .1 .status ≡ Running → ⊥) → r ≡ l .ends (endingOf (left r .1 .status)) (left r .0) (left r .1)
     pub spent : left r .1 .status ≡ Running → left r .0 ≡ j → r ≡ l .ends Spent (left r .0) (left r .1)
@@ -55,7 +55,7 @@ module _ {R : Type 0} (l : Loop ℕ R) (left : R → ℕ × State) (is : (e : En
       (λ n k s i r w z. record { over = rw (is w k s) (λ o. absurd (o r)); spent = rw (is w k s) (λ _ e. absurd (omega arith)) })
       (λ n k s i r g. rw (one s k) (omega arith)) j 0 s₀ (omega arith)
 
-  -- with a greater budget
+  -- the run with a greater budget
   pub more-from : (j n : ℕ) (s : State) → l .from (j + (n + 1)) 0 s ≡ l .from (suc n) (left (l .from j 0 s) .0) (left (l .from j 0 s) .1)
   more-from j n s = let e : j + (n + 1) ≡ j + suc n = omega arith in ap (λ (i : ℕ). l .from i 0 s) e ∙ runs-compose-at l left is n j 0 s
 
@@ -79,12 +79,12 @@ run-length lay ws rd n k s₀ =
     keeps (machineLoop lay ws rd) (λ _ _ s. length (s .mem) ≡ length (s₀ .mem)) (λ r. length (r .mem) ≡ length (s₀ .mem))
     (λ _ _ s i _. i) (λ _ _ s i _ w _. i) (λ _ _ s i _ _. apply-length (lay .ceilings) rd (nextOf lay ws rd s) s ∙ i) n k s₀ refl
 
--- ---- a word that is a command has a name
+-- ---- a word that is a command is not Invalid
 kind-below : (w : ℕ) → isCommand w ≡ true → kindOf w < commandKinds
 unfolding isCommand
 kind-below w h = ⊎-elim (λ t. ltb-true _ _ t) (λ f. no (rw f at h)) (cases (ltb (kindOf w) commandKinds))
 
--- a list of tests of which the last fails
+-- a list of tests whose last one fails
 unless : {A : Type 0} (b : Bool) {x y z : A} → (x ≡ z → ⊥) → (b ≡ false → y ≡ z → ⊥) → cond b x y ≡ z → ⊥
 unless true f g = f
 unless false f g = g refl
@@ -116,7 +116,7 @@ module _ (lay : Layout) (ws rd : List ℕ) (s : State) (size : length (s .mem) �
   abbrev view : View
   view = viewAt lay rd s
 
-  -- no command: pc outside the list, or its word is none
+  -- no command: pc is outside the list, or its word is none
   abbrev inside : Bool
   inside = leb (lay .base) (s .pc) && ltb (s .pc - lay .base) (length ws)
 
@@ -146,7 +146,7 @@ module _ (lay : Layout) (ws rd : List ℕ) (s : State) (size : length (s .mem) �
   Reason (Order v) = Unit {0}
   Reason (Probe v) = Unit {0}
 
-  -- a cell that the command uses, and that is not there
+  -- a cell that the command uses but memory does not have
   past : (c : Command) → commandAt lay ws s ≡ c → (i : ℕ) → listed (cellsUsed lay (s .regs) (s .mem) c) i ≡ true → ltb i (length (s .mem)) ≡ false → FaultsAt lay ws s
   past c q i u f = beyond i (rw q u) (omega (arith, ltb-false i (length (s .mem)) f, size))
 
@@ -182,7 +182,7 @@ module _ (lay : Layout) (ws rd : List ℕ) (s : State) (size : length (s .mem) �
   pub reason : Reason (nextOf lay ws rd s)
   reason = reasons (commandAt lay ws s) refl
 
-  -- ---- and that it does so then
+  -- ---- conversely, under these conditions it does
   abbrev does : Command → Effect
   does c = effectOf c view
 
@@ -273,9 +273,9 @@ pub over-stays : OverStays
 unfolding runOf
 over-stays lay ws m mem budget rd log fit h = rw fit (over-from (machineLoop lay ws rd) budget 0 (startOf m mem log) h)
 
--- ---- an ending only under its condition
+-- ---- an ending comes only under its condition
 
--- what ends a run changes its status alone
+-- what ends a run changes only its status
 abbrev atStatus : State → Status → State
 atStatus s t = stateOf (s .regs) (s .pc) t (s .mem) (s .log) (s .pairs) (s .used)
 
@@ -285,7 +285,7 @@ still-faults lay ws s t (unknown h) = unknown h
 still-faults lay ws s t (beyond i u h) = beyond i u h
 
 module _ (lay : Layout) (ws rd : List ℕ) (m : Machine) (budget : ℕ) where
-  -- how a state came to its status: it was given so, or a step ended the run
+  -- how a state got its status: it was given so, or a step ended the run
   abbrev Why : State → Status → Type 0
   Why s Running = Unit {0}
   Why s Ended = (m .status ≡ Ended) ⊎ EndsAt lay ws s Ended

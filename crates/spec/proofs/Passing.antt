@@ -30,9 +30,9 @@ use Rattle.spec.proofs.GuestWords.{guestWord, guest-taken, guest-instr}
 use Rattle.spec.proofs.Conditions.{counted, Passed, passed-of, passed-valid, passed-word, passed-last, Taken, taken-of, past-end, some-ones}
 use Rattle.spec.proofs.Conditions.{size-laws, count-most, routine-valid, routine-last, routine-length, routine-word, bundled-of}
 
--- ---- an instruction is read off its bundle
+-- ---- an instruction can be read off its bundle
 
--- a command kind of a plain instruction is none of the others' first kinds
+-- a plain command's kind is none of the other bundles' first kinds
 record PlainKind (k : ℕ) : Type 0 where
   in-bits : k + plainStep < 2 ^ 8
   no-halt : k + plainStep ≡ command .halt → ⊥
@@ -45,7 +45,7 @@ record PlainKind (k : ℕ) : Type 0 where
 plain-kind : (k : ℕ) → guest .set ≤ k → k ≤ guest .sar → PlainKind k
 plain-kind k l h = omega arith
 
--- the bundle at an address
+-- the bundle number of an address
 bundle-of : (base v : ℕ) → (base + bundleLength * v - base) / bundleLength ≡ v
 bundle-of base v = omega arith
 
@@ -114,7 +114,7 @@ module _ (lay : Layout) (n : ℕ) where
   is-valid (GOX d a b c) g = rw (lt-ltb d guestRegisters (g .0), lt-ltb a guestRegisters (g .1), lt-ltb b guestRegisters (g .2), le-leb c topCondition (g .3))
   is-valid (EVENT e) g = lt-ltb e events g
 
-  -- ---- a list of the bundles of valid instructions, the last one HALT, passes
+  -- ---- a list of valid instructions' bundles, of which the last is HALT, passes
   module _ (ws : List ℕ) (is : ℕ → Instr) (each : (h p : ℕ) → h < n → p < bundleLength → getD ws (bundleLength * h + p) 0 ≡ wordOf (shapeOf lay n (is h) p))
       (fine : (h : ℕ) → h < n → Valid n (is h)) (last : is (n - 1) ≡ HALT) (h : ℕ) (lh : h < n) where
     first-word : getD ws (bundleLength * h) 0 ≡ wordOf (shapeOf lay n (is h) 0)
@@ -173,7 +173,7 @@ rewritten-passes lay code room e =
       each = bundle-passes lay n (commandsOf lay code) (routine code) (routine-word lay code t) (λ h _. routine-valid lay code t h) (routine-last lay code t);
     })
 
--- ---- a passed list is that of a routine
+-- ---- a passed list is a routine's
 
 -- the guest words of instructions h to h + m − 1
 codeFrom : (ℕ → Instr) → ℕ → ℕ → List ℕ
@@ -209,7 +209,7 @@ module _ (lay : Layout) (ws : List ℕ) (n : ℕ) (p : Passed lay ws n) where
   word : (h : ℕ) → h < n - 1 → getD code h 0 ≡ guestWord (bundleAt lay ws h)
   word h l = code-word (bundleAt lay ws) 0 (n - 1) h l ∙ (let z : 0 + h ≡ h = omega arith in rw z)
 
-  -- N is the bundle count of N − 1 instructions
+  -- N − 1 instructions give N bundles
   bundles : bundlesFor (length code) ≡ n
   bundles =
       let power : n ≡ 2 ^ trailingZeros 32 n = one-bit 32 n (omega (arith, p .most)) (p .single) in

@@ -1,4 +1,4 @@
--- Every moment within a run is the end of a run with a smaller budget, and a list cut off there is on the premise.
+-- Every moment within a run is the end of a run with a smaller budget. A list cut off there satisfies the premise.
 use mathlib.Core.Path.{refl, _∙_, ap, subst}
 use mathlib.Core.List.{[], _∷_, _++_}
 use Rattle.spec.specs.Bundles.{commandsOf}

@@ -58,7 +58,7 @@ quiet-at a b c d (suc zero) l x y z = y
 quiet-at a b c d (suc (suc zero)) l x y z = absurd (l refl)
 quiet-at a b c d (suc (suc (suc p))) l x y z = z
 
--- EVENT is the third command of its bundle
+-- EVENT is always the third command of its bundle
 pub quiet : (lay : Layout) (n : ℕ) (i : Instr) (p : ℕ) → (p ≡ 2 → ⊥) → Quiet (shapeOf lay n i p)
 unfolding shapeOf
 quiet lay n HALT p l = quiet-at _ _ _ _ p l tt tt tt
@@ -104,7 +104,7 @@ still-keeps caps rd (Probe v) s q = absurd q
 still-keeps caps rd (End t) s q = (refl, refl, refl)
 still-keeps caps rd (Wait e) s q = absurd q
 
--- ---- room for one pair and one reading: no command pauses
+-- ---- room for one pair and one reading, so no command pauses
 abbrev Room : List ℕ → State → Type 0
 Room rd s = (2 * s .pairs + 1 < length (s .log)) × (s .used < length rd)
 
@@ -114,14 +114,14 @@ goes-in lay rd c s r = goes c (viewAt lay rd s) (omega (arith, r .0)) (omega (ar
 still-goes : (e : Effect) → Still e → Goes e
 still-goes e q w z = subst Still z q
 
--- ---- where an effect leads: to the next address, or to a place of comparison
+-- ---- where an effect leads: to the next address, or to a boundary
 abbrev AtBoundaryIn : Layout → State → Type 0
 AtBoundaryIn lay s = (positionOf lay (s .pc) ≡ 0) ⊎ (s .status ≡ Running → ⊥)
 
 abbrev Moves : Layout → List ℕ → State → Effect → Type 0
 Moves lay rd s e = Goes e → (applyOf (lay .ceilings) rd e s .pc ≡ nextPc (s .pc)) ⊎ AtBoundaryIn lay (applyOf (lay .ceilings) rd e s)
 
--- a jump, taken or not, leads to a first command or on
+-- a jump leads to a first command, or to the next address if it is not taken
 jumps : (lay : Layout) (rd : List ℕ) (s : State) (t : Bool) (x v : ℕ) → v ≡ addressOf lay x → Moves lay rd s (Go (cond t v (nextPc (s .pc))))
 unfolding applyOf
 jumps lay rd s true x v e f = inr (inl (omega arith))
@@ -147,15 +147,15 @@ module _ (lay : Layout) (rd : List ℕ) (s : State) where
   faults : Moves lay rd s (End Faulted)
   faults = moves-end Faulted (λ x. no (cc))
 
-  -- at a cell, where there is none it faults
+  -- an access to a cell that does not exist faults
   moves-at : (i : ℕ) (e : Effect) → Moves lay rd s e → Moves lay rd s (ifCell (viewAt lay rd s) i e)
   moves-at i e m = cond-ind (Moves lay rd s) (ltb i (length (s .mem))) (λ _. m) (λ _. faults)
 
-  -- with room in the log; where there is none it pauses
+  -- without room in the log it pauses
   moves-room : (e : Effect) → Moves lay rd s e → Moves lay rd s (ifRoom (length (s .log) - 2 * s .pairs) e)
   moves-room e m = cond-ind (Moves lay rd s) (ltb (length (s .log) - 2 * s .pairs) 2) (λ _ f. absurd (f LogFull refl)) (λ _. m)
 
-  -- to a first command; where there is no landing it stops
+  -- to a first command; it stops if that is no landing
   moves-landing : (x v : ℕ) → v ≡ addressOf lay x → Moves lay rd s (ifLanding (viewAt lay rd s) v)
   moves-landing x v e = cond-ind (Moves lay rd s) (isLanding (s .mem) (lay .base) (lay .landings) v) (λ _. jumps lay rd s true x v e) (λ _. moves-end Strayed (λ x. no (cc)))
 
@@ -201,7 +201,7 @@ module _ (lay : Layout) (ws rd : List ℕ) (s : State) (run : s .status ≡ Runn
   begun-step : (j b : ℕ) → begunFrom lay ws rd (suc j) b s ≡ begunFrom lay ws rd j (b + begins lay (s .pc)) (stepOf lay ws rd s)
   begun-step j b = ap (λ r. r .1) (go-from (begunLoop lay ws rd) j (0, b) s run go)
 
--- a run of at most so many steps that ends at a place of comparison
+-- a run of at most so many steps that ends at a boundary
 record BoundaryReached (lay : Layout) (ws rd : List ℕ) (most k b b₂ : ℕ) (s : State) : Type 0 where
   j : ℕ
   few : j ≤ most
@@ -211,7 +211,7 @@ record BoundaryReached (lay : Layout) (ws rd : List ℕ) (most k b b₂ : ℕ) (
 one-more : (j most : ℕ) → j ≤ most → suc j ≤ suc most
 one-more j most l = omega arith
 
--- now, and after one step
+-- at once, and after one step
 came-now : (lay : Layout) (ws rd : List ℕ) (most k b : ℕ) (s : State) → AtBoundaryIn lay s → BoundaryReached lay ws rd most k b b s
 unfolding loopFrom
 came-now lay ws rd most k b s x = record { j = 0; few = omega arith; boundary = x; begun = refl }
@@ -233,7 +233,7 @@ running Stopped = inr (λ x. no (cc))
 running Faulted = inr (λ x. no (cc))
 running Strayed = inr (λ x. no (cc))
 
--- ---- addresses, as numbers: one on from position p of bundle h
+-- ---- addresses as numbers: the one after position p of bundle h
 takes-step : (base n h p pc to : ℕ) → base + bundleLength * n ≤ 2 ^ 32 → h < n → p < 3 → pc ≡ base + bundleLength * h + p → to ≡ nextPc pc → to ≡ base + bundleLength * h + suc p
 takes-step base n h p pc to room lh lp e f = omega arith
 
@@ -246,7 +246,7 @@ within base h p to lp e z = omega arith
 plus-none : (b x : ℕ) → x ≡ 0 → b + x ≡ b
 plus-none b x e = omega arith
 
--- positions left after the next one
+-- how many positions are left after the next one
 left : (r p : ℕ) → p + suc (suc r) ≡ bundleLength → suc p + suc r ≡ bundleLength
 left r p e = omega arith
 
@@ -264,7 +264,7 @@ module _ (lay : Layout) (pol : Policy) (ws : List ℕ) (n : ℕ) (is : ℕ → I
   sim-moves s g k b run (over f st h p lh lp si pc q bk) = absurd (f .0 (sym st ∙ run))
   sim-moves s g k b run (live gg st h p lh lp pc m) = rw (fetched lay pol ws n is ok bs s h p lh lp pc) (mid-moves lay rd s pol n g h k b (is h) p m)
 
-  -- room up to the third command: no command of the bundle pauses, and before the third none takes it
+  -- with room up to the third command, no command of the bundle pauses; none before the third uses the room
   goes-at : (s : State) (h p : ℕ) → h < n → p < bundleLength → s .pc ≡ addressOf lay h + p → (p ≤ 2 → Room rd s) → Goes (nextOf lay ws rd s)
   goes-at s h p lh lp pc r =
       ⊎-elim
@@ -301,7 +301,7 @@ module _ (lay : Layout) (pol : Policy) (ws : List ℕ) (n : ℕ) (is : ℕ → I
       came-then lay ws rd (suc r) k b b₂ b₂ s run go z
       (⊎-elim (λ y. ⊎-elim (λ l. more y l) (λ l. now (inr l)) (running (stepOf lay ws rd s .status))) (λ y. now y) (sim-moves s _ (t .0) b run (t .1 .sim) go))
 
-  -- from wherever it is
+  -- from any position
   from-here : (b : ℕ) (s : State) (g : Guest) (k : ℕ) → RunInvariant lay pol n is past u0 rd g0 b s → s .status ≡ Running → Room rd s
       → InBundle lay pol n is g k b s → BoundaryReached lay ws rd bundleLength 0 b (b + begins lay (s .pc)) s
   from-here b s g k w run room (over f st h p lh lp si pc q bk) = absurd (f .0 (sym st ∙ run))
@@ -309,7 +309,7 @@ module _ (lay : Layout) (pol : Policy) (ws : List ℕ) (n : ℕ) (is : ℕ → I
       let y = reach (3 - p) p h 0 b (b + begins lay (s .pc)) s (omega arith) lh refl w run pc (λ _. room) in
       record { j = y .j; few = omega (arith, y .few); boundary = y .boundary; begun = y .begun }
 
--- and so does the run that is given that budget, where it is not refused
+-- so does the run with that budget, if it is not refused
 reaches-boundary : (lay : Layout) (ws : List ℕ) (c : Session) (g : RunInput) (b : ℕ) → fits lay (g .memory) ≡ true
     → BoundaryReached lay ws (g .readings) bundleLength 0 (c .begun) b (startOf (c .machine) (g .memory) (g .log)) → ReachesBoundary lay ws c g b
 unfolding afterRun afterTaken runOn runOf

@@ -1,4 +1,4 @@
--- Every claim of this crate is proved.
+-- The proof of all claims of this crate.
 use Rattle.spec.specs.Proved.{Proved}
 use Rattle.spec.proofs.Landings.{landing-bits}
 use Rattle.spec.proofs.Masks.{masks, sizes}

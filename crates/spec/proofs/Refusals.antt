@@ -1,4 +1,4 @@
--- Laws of refusals: the first among words, and what an output holds after one or none.
+-- Laws of refusals: the first one among words, and an output after a refusal or a success.
 use mathlib.Core.Path.{_≡_, refl, sym, subst, _∙_}
 use mathlib.Core.List.{List, [], _∷_, _++_}
 use Prim.Native.Nat.{ℕ, zero, suc, _+_, _≤_, _<_}
@@ -14,7 +14,7 @@ use Rattle.types.specs.Names.{answer, orElse, outputOf}
 use Rattle.spec.specs.Words.{firstRefused}
 use Rattle.spec.proofs.Bools.{cond-ind, cond-map}
 
--- a judge takes each of some words
+-- `judge`, which gives a word's refusal number, takes each of some words
 abbrev pub TakesEach : (ℕ → ℕ) → List ℕ → Type 0
 TakesEach judge ws = (j : ℕ) → j < length ws → judge (getD ws j 0) ≡ 0
 
@@ -34,11 +34,11 @@ module _ (judge : ℕ → ℕ) where
   none-refused [] i z all = refl
   none-refused (w ∷ ws) i z all = rw (eq-eqb _ _ (all 0 (omega arith))) (none-refused ws (i + 1) z (λ j l. all (suc j) (omega arith)))
 
-  -- words that are all taken leave the answer that follows them
+  -- if all words are taken, the answer is the one that follows them
   pub taken-then : (P : Answer → Type 0) (ws : List ℕ) (i : ℕ) (z : Answer) → (z .number ≡ 0 → P z) → firstRefused judge ws i z .number ≡ 0 → P (firstRefused judge ws i z)
   taken-then P ws i z f e = subst (λ (a : Answer). a .number ≡ 0 → P a) (sym (none-refused ws i z (takes-each ws i z e))) f e
 
-  -- what is done to an answer but not to a refusal is done to the answer that follows the words
+  -- a function that changes no refusal can be applied to the answer that follows the words
   pub refused-map : (f : Answer → Answer) → ((x p : ℕ) → (x ≡ 0 → ⊥) → f (answer x p) ≡ answer x p)
       → (ws : List ℕ) (i : ℕ) (z : Answer) → f (firstRefused judge ws i z) ≡ firstRefused judge ws i (f z)
   unfolding firstRefused
@@ -60,14 +60,14 @@ module _ (judge : ℕ → ℕ) where
     unfolding firstRefused
     refused-done h = sym (ea ∙ rw (drop-of-length-le ws h))
 
--- ---- of two answers, the first if it refuses
+-- ---- of two answers, the first if it is a refusal
 pub else-next : (a b : Answer) → a .number ≡ 0 → orElse a b ≡ b
 else-next a b e = rw (eq-eqb _ _ e)
 
 pub else-kept : (a b : Answer) → (a .number ≡ 0 → ⊥) → orElse a b ≡ a
 else-kept a b h = rw (ne-eqb _ _ h)
 
--- neither refuses
+-- if neither is a refusal
 pub else-none : (a b : Answer) → orElse a b .number ≡ 0 → (a .number ≡ 0) × (b .number ≡ 0)
 else-none a b =
     cond-ind (λ (x : Answer). x .number ≡ 0 → (a .number ≡ 0) × (b .number ≡ 0)) (eqb (a .number) 0)

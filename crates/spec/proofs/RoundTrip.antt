@@ -1,4 +1,4 @@
--- The inverse laws: words written are read again, bytes read are written again.
+-- Reading and writing are inverse: words written are read again, and bytes read are written again.
 use mathlib.Core.Path.{_≡_, refl, sym, ap, _∙_}
 use mathlib.Core.Bool.{Bool, true, false, not}
 use mathlib.Core.List.{List, [], _∷_, _++_, append-assoc}
@@ -25,14 +25,14 @@ use Rattle.spec.proofs.WordLaws.{bounds, clean, fields-pack, pack-field
 use Rattle.spec.proofs.Bytes.{one-read, one-fields, fields-are, fields-word, read-ok, named, Named, read-scan}
 use Rattle.spec.proofs.Bytes.{byte-some, byte-none, quad-some, quad-none, bit-le, length-byte, length-fields, write-ok, write-taken}
 
--- each element of a list of bytes
+-- every element is a byte
 Bytes : List ℕ → Type 0
 Bytes s = (j : ℕ) → getD s j 0 < 256
 
 digit : (v a r : ℕ) → v ≡ a + 256 * r → a < 256 → (v % 256 ≡ a) × (v / 256 ≡ r)
 digit v a r e h = (omega arith, omega arith)
 
--- ---- a field written is read
+-- ---- a field that was written is read again
 module _ (p t : List ℕ) (n : ℕ) (l : length p ≡ n) where
   byte-back : (x : ℕ) → byteAt (bitOf x) (p ++ (byteOut x ++ t)) n ≡ x
   unfolding byteAt
@@ -51,7 +51,7 @@ module _ (p t : List ℕ) (n : ℕ) (l : length p ≡ n) where
       rw (ne-eqb _ _ b, quad-some k (λ e. omega arith))
       (omega (arith, getD-at p (k % 256) (drop 1 q) 0 n l, rw l at (getD-append-add p q 1 0), rw l at (getD-append-add p q 2 0), rw l at (getD-append-add p q 3 0)))
 
--- ---- a field read is written
+-- ---- a field that was read is written again
 module _ (s : List ℕ) (n b : ℕ) where
   byte-front : (x : ℕ) → x ≡ byteAt b s n → b ≡ bitOf x → n + b ≤ length s → drop n s ≡ byteOut x ++ drop (n + b) s
   unfolding byteAt
@@ -88,7 +88,7 @@ module _ (s : List ℕ) (n b : ℕ) where
       rw (quad-some v (λ k. omega arith), z, e0 .0, e1 .0, e2 .0, e3 .0)
       (simp towards-suc (rw (c0, c1, c2, c3)))
 
--- ---- the bits of a map, and the parts of a word
+-- ---- the bits of a map, and the fields of a word
 
 half : (m x r : ℕ) → m ≡ x + 2 * r → x ≤ 1 → (m % 2 ≡ x) × (m / 2 ≡ r)
 half m x r e h = (omega arith, omega arith)
@@ -120,9 +120,9 @@ same-map x y e = eqb-true x y (not-not (eqb x y) e)
     not-not true h = refl
     not-not false h = no (sym h)
 
--- ---- a word written is read
+-- ---- a word that was written is read again
 
--- the bytes of the fields, in a row
+-- the bytes of the fields, one after the other
 row : Fields → List ℕ → List ℕ
 row f t = mapOf f ∷ (byteOut (f .kind) ++ (byteOut (f .d) ++ (byteOut (f .a) ++ (byteOut (f .b) ++ (byteOut (f .c) ++ (quadOut (f .v) ++ t))))))
 
@@ -130,7 +130,7 @@ in-row : (f : Fields) (t : List ℕ) → fieldsOut f ++ t ≡ row f t
 unfolding fieldsOut regsOut row
 in-row f t = simp append-assoc
 
--- the lengths of what stands before each field
+-- how many bytes come before each field
 before2 : (m x y : ℕ) → length (m ∷ (byteOut x ++ byteOut y)) ≡ 1 + bitOf x + bitOf y
 before2 m x y = omega (arith, length-append (byteOut x) (byteOut y), length-byte x, length-byte y)
 
@@ -225,7 +225,7 @@ routine-back ws room room′ g l =
     let two : 2 ≤ length s = omega arith in
     (sym (read-scan s room′ two n e few l (answer 0 n) (sym (b .0 ∙ rw zero-add))), rw (← e) (b .1), sym e)
 
--- what success leaves
+-- the output after a success
 taken-bytes : (ws out : List ℕ) → writeAnswer ws (length out) .number ≡ 0 → (n : ℕ) → length (routineOf ws) ≡ n → take n (writeOutput ws out) ≡ routineOf ws
 unfolding writeOutput
 taken-bytes ws out e n l = output-start (writeAnswer ws (length out)) (routineOf ws) out e n l
@@ -244,7 +244,7 @@ words-round-trip ws out words e l =
       leaves = rw bytes (taken-words (routineOf ws) words n (length ws) (ap length (back .1)) ∙ back .1);
     }
 
--- ---- a word read is written
+-- ---- a word that was read is written again
 
 row-front : (s : List ℕ) → Bytes s → (f : Fields) → f ≡ fieldsAt (getD s 0 0) s → getD s 0 0 ≡ mapOf f → 0 < length s → sizeOf (getD s 0 0) ≤ length s
     → s ≡ row f (drop (sizeOf (getD s 0 0)) s)
@@ -311,7 +311,7 @@ routine-is : (ws s : List ℕ) → bytesOf ws ≡ s → routineOf ws ≡ length 
 unfolding routineOf
 routine-is ws s e = rw e
 
--- writing takes the words that were read, and their bytes are those that were read
+-- writing takes the words that were read, and gives the bytes that were read
 routine-front : (s : List ℕ) (room room′ : ℕ) → Bytes s → readAnswer s room .number ≡ 0 → length s ≤ room′
     → (routineOf (wordsIn s) ≡ s) × (writeAnswer (wordsIn s) room′ ≡ answer 0 (length s))
 unfolding Bytes

@@ -1,4 +1,4 @@
--- The checker passes exactly the lists of the bundles of valid instructions.
+-- The checker passes exactly the lists of valid instructions' bundles.
 use mathlib.Core.Path.{_≡_, refl, sym, _∙_, ap}
 use mathlib.Core.Bool.{true}
 use mathlib.Core.List.{List, [], _∷_}

@@ -1,4 +1,4 @@
--- Two's complement: SAR is division rounded down, and less than the order of the integers.
+-- Two's complement: SAR divides and rounds down, and 'less' is the order of the integers.
 use Prim.Native.Nat.{ℕ, zero, suc, _+_, _-_, _*_, _/_, _%_, _^_, _<_, _≤_}
 use mathlib.Core.Path.{_≡_, refl, sym, ap, _∙_}
 use mathlib.Core.Bool.{Bool, true, false}
@@ -12,7 +12,7 @@ use borrow.Author.Tests.{ltb-true, ltb-false, lt-ltb, le-ltb}
 use Rattle.spec.specs.Signed.{twos, bitsOf, sarOf, lessOf}
 use Rattle.spec.specs.Claims.{SignLaws, Signs}
 
--- a pattern is that of a number not negative, or of one below 0: n is its distance from −1
+-- 32 bits stand for a number that is not negative, or for −(n + 1)
 data Sign (x : ℕ) : Type 0 where
   none : x < 2 ^ 31 → twos x ≡ pos x → Sign x
   minus : (n : ℕ) → n < 2 ^ 31 → x ≡ 2 ^ 32 - suc n → twos x ≡ negsuc n → Sign x
@@ -28,7 +28,7 @@ sign x h = go (ltb x (2 ^ 31)) refl
 negated : (q m : ℕ) → (negsuc q *ℤ pos (suc m)) ≡ negsuc (q * suc m + m)
 negated q m = let e : suc q * suc m ≡ suc (q * suc m + m) = omega arith in ap (λ (k : ℕ). negℤ (pos k)) e
 
--- −(n + 1) is not below −(q + 1) times m, and below −q times m
+-- −(n + 1) is at least −(q + 1) times m, and below −q times m
 from-below : (q m n : ℕ) → 0 < m → n < q * m + m → (negsuc q *ℤ pos m) ≤ℤ negsuc n
 from-below q zero n p h = absurd (omega arith)
 from-below q (suc m) n p h = rw (negated q m) (record { le = le→leb n (q * suc m + m) (omega arith) })
@@ -38,7 +38,7 @@ below-next zero m n p h = record { lt = tt }
 below-next (suc q) zero n p h = absurd (omega arith)
 below-next (suc q) (suc m) n p h = rw (negated q m) (record { lt = lt→ltb (q * suc m + m) n (omega arith) })
 
--- the pattern of −(n + 1) is that number's
+-- the bits of −(n + 1) stand for that number
 back : (n : ℕ) → n < 2 ^ 31 → twos (2 ^ 32 - suc n) ≡ negsuc n
 back n h = let e : 2 ^ 32 - suc (2 ^ 32 - suc n) ≡ n = omega arith in rw (le-ltb (2 ^ 32 - suc n) (2 ^ 31) (omega arith), e)
 
@@ -50,7 +50,7 @@ turned n h =
     let e : 2 ^ 32 - suc n + 2 ^ 31 ≡ 2 ^ 31 - suc n + 2 ^ 32 = omega arith in
     ap (λ (k : ℕ). k % 2 ^ 32) e ∙ add-mod-right (2 ^ 31 - suc n) (2 ^ 32) ∙ mod-eq-of-lt (omega arith)
 
--- two tests that pass together
+-- two tests with the same result
 same-test : (a b c d : ℕ) → (a < b → c < d) → (c < d → a < b) → ltb a b ≡ ltb c d
 same-test a b c d f g = go (ltb a b) refl
   where

@@ -1,4 +1,4 @@
--- Laws of guest words: what a refusal number of 0 gives, and fields packed and taken apart.
+-- Laws of guest words: what a word that is not refused gives, and how fields are packed and unpacked.
 use mathlib.Core.Path.{_≡_, refl}
 use mathlib.Core.Bool.{Bool, true, false, _||_}
 use Prim.Native.Nat.{ℕ, zero, suc, _+_, _*_, _/_, _≤_, _^_}
@@ -13,7 +13,7 @@ use Rattle.spec.proofs.Bools.{cond-ind, neither}
 use Rattle.spec.proofs.Tables.{all, raised}
 use Rattle.spec.proofs.Packing.{InBits, pack-kind, pack-d, pack-a, pack-b, pack-c, pack-zero, pack-v}
 
--- ---- the refusal number 0
+-- ---- words that are not refused
 
 -- fields within limits
 pub record InLimits (l : Limits) (f : Fields) : Type 0 where
@@ -41,7 +41,7 @@ has (suc most) x h = rw (ne-eqb (suc most) 0 (λ (e : suc most ≡ 0). omega ari
 none-stray : (l : Limits) (f : Fields) → InLimits l f → hasStray l f ≡ false
 none-stray l f g = rw (has _ _ (g .d), has _ _ (g .a), has _ _ (g .b), has _ _ (g .c), has _ _ (g .v))
 
--- what an instruction that is not refused has
+-- what holds of an instruction that is not refused
 pub record Good (x : Bool) (f : Fields) : Type 0 where
   pub kind : f .kind ≤ topKind
   pub clean : x ≡ false
@@ -62,7 +62,7 @@ unfolding fieldsRefusal
 judged x f g =
     rw (le-ltb topKind (f .kind) (g .kind), g .clean, none-stray (guestLimits (f .kind)) f (g .kept), none-high (guestLimits (f .kind)) f (g .kept))
 
--- the bounds that a refusal number of 0 gives
+-- the bounds of its fields
 pub record Bounds (f : Fields) : Type 0 where
   pub kind : f .kind ≤ topKind
   pub d : f .d ≤ topGuest
@@ -71,7 +71,7 @@ pub record Bounds (f : Fields) : Type 0 where
   pub c : f .c ≤ topCondition
   pub word : f .v ≤ topWord
 
--- a field's limit is no greater than a bound that the limits of all guest kinds keep
+-- a bound on a field's limit in all guest kinds bounds the field
 bounded : (f : Limits → ℕ) (top : ℕ) → all (λ k. leb (f (guestLimits k)) top) (topKind + 1) ≡ true → (k x : ℕ) → k ≤ topKind → x ≤ f (guestLimits k) → x ≤ top
 bounded f top e k x l h = raised (λ k. f (guestLimits k)) (λ _. top) (topKind + 1) e k x (omega arith) h
 
@@ -88,13 +88,13 @@ bounds x f e =
       word = bounded (λ l. l .v) topWord refl _ _ (g .kind) (g .kept .v);
     }
 
--- nothing foreign in the form itself
+-- its form has no foreign matter
 pub clean : (x : Bool) (f : Fields) → fieldsRefusal x f ≡ 0 → x ≡ false
 clean x f e = good x f e .clean
 
--- ---- fields packed and taken apart
+-- ---- fields packed and unpacked
 
--- fields that fit their bits, or are in their bounds, from the word that holds them
+-- fields that fit their bits, or are within their bounds, come back from the packed word
 pub bits-pack : (f : Fields) → InBits (f .kind) (f .d) (f .a) (f .b) (f .c) → (fieldsOf (packFields f) ≡ f) × (zeroOf (packFields f) ≡ 0)
 bits-pack f h =
     let k = pack-kind _ _ _ _ _ (f .v) h in
@@ -113,7 +113,7 @@ telescope : (w q8 q12 q16 q20 q24 v k d a b c : ℕ) → w ≡ k + q8 * 2 ^ 8 �
     → q20 ≡ c + q24 * 2 ^ 4 → q24 ≡ v * 2 ^ 8 → packOf k d a b c v ≡ w
 telescope w q8 q12 q16 q20 q24 v k d a b c e1 e2 e3 e4 e5 e6 = omega arith
 
--- a word whose bits 24–31 are 0, from its fields
+-- a word whose bits 24–31 are 0 comes back from its fields
 pub pack-fields : (w : ℕ) → zeroOf w ≡ 0 → packFields (fieldsOf w) ≡ w
 pack-fields w h =
     telescope w (w / 2 ^ 8) (w / 2 ^ 12) (w / 2 ^ 16) (w / 2 ^ 20) (w / 2 ^ 24) (vOf w) (kindOf w) (dOf w) (aOf w) (bOf w) (cOf w)
