@@ -32,7 +32,7 @@ use Rattle.capi_spec.proofs.Numbers.{comes-back, called}
 pub machine-round-trips : MachineRoundTrips
 machine-round-trips = comes-back registers machineOf (λ m. m .regs) (λ m. m .pc) (λ m. m .status) (λ _. refl) (λ _ _ _. refl)
 
--- ---- calls over a list are the runs over it, the machine's or the engine's, if each is a run on the numbers of a session
+-- ---- calls correspond to runs, the machine's or the engine's, if each call is a run on a session's numbers
 module _ {C R : Type 0} (numbers : C → List ℕ) (next : C → RunInput → C) (runAs : C → RunInput → R) (left : R → HostResult) (call : List ℕ → RunInput → HostResult)
     (Invariant : C → Type 0) (ran : (c : C) (g : RunInput) → Invariant c → call (numbers c) g ≡ left (runAs c g))
     (carries : (c : C) (g : RunInput) → Invariant c → (left (runAs c g) .after ≡ numbers (next c g)) × Invariant (next c g)) where
@@ -44,7 +44,7 @@ module _ {C R : Type 0} (numbers : C → List ℕ) (next : C → RunInput → C)
       rw (ran c g k)
       (ap (λ (rs : List HostResult). left (runAs c g) ∷ rs) (ap (λ (ys : List ℕ). callsOf call ys gs) (q .0) ∙ calls-from (next c g) gs (q .1)))
 
--- ---- two lists of runs that show the same are two lists of calls that do, the machine's or the engine's
+-- ---- if two lists of runs show the same, so do the two lists of calls
 module _ {C O : Type 0} (next : C → RunInput → C) (runAs : C → RunInput → Run O) (left : Run O → HostResult) (p : ℕ) (lay : Layout)
     (same : (c c′ : C) (g g′ : RunInput) → SameInputs g g′ → SameObservations lay (runAs c g) (runAs c′ g′) → SameCalls p lay (left (runAs c g)) (left (runAs c′ g′))) where
   pub same-calls : (c c′ : C) (gs gs′ : List RunInput) → Pairwise SameInputs gs gs′ → Pairwise (SameObservations lay) (eachRun runAs next c gs) (eachRun runAs next c′ gs′)
@@ -55,7 +55,7 @@ module _ {C O : Type 0} (next : C → RunInput → C) (runAs : C → RunInput �
   same-calls c c′ (g ∷ gs) [] i o = i
   same-calls c c′ (g ∷ gs) (g′ ∷ gs′) i o = (same c c′ g g′ (i .0) (o .0), same-calls (next c g) (next c′ g′) gs gs′ (i .1) (o .1))
 
--- ---- a loop, the machine's or the engine's, keeps the count of registers
+-- ---- a loop, the machine's or the engine's, keeps the number of registers
 pub keeps-regs : {R : Type 0} (l : Loop ℕ R) (regs : R → List ℕ) → ((e : Ending) (k : ℕ) (s : State) → regs (l .ends e k s) ≡ s .regs)
     → ((e : Effect) (s : State) → length (l .act e s .regs) ≡ length (s .regs)) → (n k : ℕ) (s : State) → length (regs (l .from n k s)) ≡ length (s .regs)
 keeps-regs l regs ends acts n k s =
@@ -85,7 +85,7 @@ calls-are lay ws =
     (λ c g. called machine-round-trips (λ m. resultTo (runOf l ws m (g .memory) (g .budget) (g .readings) (g .log))) (c .machine))
     (λ c g n. let q = carries l ws c g _ refl in (ap machineTo (q .0), q .1 ∙ n))
 
--- ---- what stands ready is an installation's, of a list that passed
+-- ---- what is prepared comes from an installation and a passed list
 record PreparedFacts (l : Layout) (pol : Policy) (mem ws xs left : List ℕ) : Type 0 where
   passed : checkAnswer l ws .number ≡ 0
   taken : installAnswer l pol mem .number ≡ 0
@@ -120,7 +120,7 @@ host-isolation lay pol mem ws xs left gs ready lends =
 
 -- ---- two lists
 
--- a run whose memory has U cells when it is done was not refused for its length, and its memory is the one memory
+-- a run that leaves a memory of U cells was not refused for its length, and its memory is the session's
 fitted : (lay : Layout) (ws : List ℕ) (c : Session) (g : RunInput) → rightLayout lay ≡ true → length (runOn lay ws c g .mem) ≡ lay .size → fits lay (g .memory) ≡ true
 unfolding runOn runOf
 fitted lay ws c g ok =

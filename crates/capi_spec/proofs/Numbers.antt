@@ -1,4 +1,4 @@
--- What a C host's numbers stand for.
+-- What a C host's numbers mean.
 use Prim.Native.Nat.{ℕ, zero, suc, _+_, _≤_, _<_}
 use mathlib.Core.Path.{_≡_, refl, sym, _∙_, ap}
 use mathlib.Core.Bool.{Bool, true, cond}
@@ -51,7 +51,7 @@ number-known Strayed = refl
 pub last-two : (n : ℕ) (xs : List ℕ) → length xs ≡ n + trailer → drop n xs ≡ getD xs n 0 ∷ statusIn n xs ∷ []
 last-two n xs l = sym (take-all trailer (drop n xs) (simp length-drop (omega arith))) ∙ spelt trailer n xs (omega arith) ∙ rw add-one
 
--- of a record with n registers
+-- for a record with n registers
 module _ (n : ℕ) (xs regs : List ℕ) where
   pub record-read : {R : Type 0} (make : List ℕ → ℕ → Status → R) (t : Status) → regs ≡ take n xs → t ≡ statusFrom (statusIn n xs) → make regs (getD xs n 0) t ≡ recordFrom make n xs
   record-read make t e q = λ i. make (e i) (getD xs n 0) (q i)
@@ -60,15 +60,15 @@ module _ (n : ℕ) (xs regs : List ℕ) where
   record-left left at t h e = e ∙ ap (λ (k : ℕ). numbersAfter k xs (recordTo regs at t)) h
 
 module _ (n : ℕ) (xs : List ℕ) where
-  -- numbers whose status is one are those of the record that they stand for
+  -- numbers with a valid status become a record and the same numbers again
   numbers-back : length xs ≡ n + trailer → statusKnown n xs ≡ true → recordFrom recordTo n xs ≡ xs
   numbers-back l h = rw (status-back _ (ltb-true _ _ h), ← last-two n xs l) (take-append-drop n xs)
 
-  -- so a run that leaves the record leaves its numbers
+  -- so a run that leaves the record as it was leaves its numbers
   untouched : length xs ≡ n + trailer → numbersAfter n xs (recordFrom recordTo n xs) ≡ xs
   untouched l = cond-ind (λ (ys : List ℕ). ys ≡ xs) (statusKnown n xs) (λ h. numbers-back l h) (λ _. refl)
 
--- a record in numbers has its parts, and a status
+-- a record's numbers have its parts, and a valid status
 module _ (n : ℕ) (regs : List ℕ) (at : ℕ) (t : Status) (h : length regs ≡ n) where
   number-again : statusIn n (recordTo regs at t) ≡ statusNumber t
   number-again = rw (← h) (getD-append-add regs (at ∷ statusNumber t ∷ []) 1 0)
@@ -81,7 +81,7 @@ module _ (n : ℕ) (regs : List ℕ) (at : ℕ) (t : Status) (h : length regs �
   known : statusKnown n (recordTo regs at t) ≡ true
   known = ap (λ (x : ℕ). ltb x statuses) number-again ∙ number-known t
 
--- so a record that its maker makes again of its parts comes back
+-- so a record that is rebuilt from its parts comes back
 module _ {R : Type 0} (n : ℕ) (make : List ℕ → ℕ → Status → R) (regs : R → List ℕ) (at : R → ℕ) (status : R → Status) where
   abbrev to : R → List ℕ
   to m = recordTo (regs m) (at m) (status m)
@@ -95,7 +95,7 @@ module _ {R : Type 0} (n : ℕ) (make : List ℕ → ℕ → Status → R) (regs
         untouched = λ xs left l e. ap (λ (m : R). numbersAfter n xs (to m)) e ∙ ap (numbersAfter n xs) (parts _ _ _) ∙ untouched n xs l;
       }
 
--- and a call with its numbers leaves what a run of it leaves
+-- and a call with a record's numbers leaves what a run of the record leaves
 pub called : {R : Type 0} {n : ℕ} {regs : R → List ℕ} {from : List ℕ → R} {to : R → List ℕ} → RoundTrips n regs from to → (run : R → HostResult) (m : R)
     → length (regs m) ≡ n → hostAfter n (to m) (run (from (to m))) ≡ run m
 called {R} {n} {regs} {from} {to} b run m h =

@@ -1,4 +1,4 @@
--- Every claim of this crate is proved.
+-- The proof of all claims of this crate.
 use Rattle.capi_spec.specs.Proved.{Proved}
 use Rattle.capi_spec.proofs.Samples.{sample-holds}
 use Rattle.capi_spec.proofs.Calls.{machine-round-trips, host-isolation, host-noninterference}

@@ -23,7 +23,7 @@ use Rattle.capi_spec.specs.Hosts.{checkFor, installFor, loadFor, runFor}
 use Rattle.capi_spec.specs.Claims.{callsOf, installed, loaded}
 use Rattle.capi_spec.specs.Sample.{layout, bytes, lot, left, SampleHolds}
 
--- a store to a free cell
+-- storing to a free cell gives a low-equivalent memory
 pub free-set : (mem : List ℕ) (i x : ℕ) → (inBox (layoutFrom layout) i || protected (layoutFrom layout) i) ≡ false → LowEqual (layoutFrom layout) (set mem i x) mem
 free-set mem i x f j s = getD-set-other mem i j x 0 (λ e. no (sym f ∙ ap (λ (k : ℕ). inBox (layoutFrom layout) k || protected (layoutFrom layout) k) (sym e) ∙ s))
 

@@ -1,4 +1,4 @@
--- Lists written with another hidden register: which are refused, and which pass as before.
+-- Lists written for another hidden register: which are refused, and which pass as before.
 use mathlib.Core.Path.{_≡_, refl, sym, _∙_, ap}
 use mathlib.Core.Bool.{Bool, true, false, _||_}
 use mathlib.Core.List.{List}
@@ -25,14 +25,14 @@ use Rattle.changes.specs.Claims.{hiddenBefore, namesHidden, fieldsBelow,
 
 -- ---- the first command of a bundle
 
--- kind and d are a word's lowest fields: those above them do not reach them
+-- kind and d are the lowest fields of a word, so the fields above do not change them
 low-kind : (k d a b c v : ℕ) → k < 2 ^ 8 → kindOf (packOf k d a b c v) ≡ k
 low-kind k d a b c v h = omega arith
 
 low-d : (k d a b c v : ℕ) → k < 2 ^ 8 → d < 2 ^ 4 → dOf (packOf k d a b c v) ≡ d
 low-d k d a b c v h l = omega arith
 
--- ANDI, SHL and LOOK begin the bundles that name the hidden register, and no others
+-- exactly the bundles that name the hidden register begin with ANDI, SHL or LOOK
 begins : ℕ → Bool
 begins k = eqb k (command .andi) || eqb k (command .shl) || eqb k (command .look)
 
@@ -71,13 +71,13 @@ module _ (lay : Layout) (n : ℕ) where
   named-by-kind r (GOX d a b c) g = first-kind r (GOX d a b c) refl
   named-by-kind r (EVENT v) g = first-kind r (EVENT v) refl
 
-  -- bundles with the same first word have the same hidden register
+  -- two bundles with the same first word have the same hidden register
   same-hidden : (r q : ℕ) → r < 2 ^ 4 → q < 2 ^ 4 → (i j : Instr) → namesHidden i ≡ true → Valid n j → wordOf (shapeWith r lay n i 0) ≡ wordOf (shapeWith q lay n j 0) → r ≡ q
   same-hidden r q hr hq i j e g w =
       let f : namesHidden j ≡ true = sym (named-by-kind q j g) ∙ ap (λ (x : ℕ). begins (kindOf x)) (sym w) ∙ first-kind r i e in
       sym (first-d r hr i e) ∙ ap dOf w ∙ first-d q hq j f
 
-  -- a bundle that does not name the hidden register is the same with another one
+  -- a bundle that does not name the hidden register is the same for any hidden register
   same-shape : (r q : ℕ) (i : Instr) (p : ℕ) → namesHidden i ≡ false → shapeWith r lay n i p ≡ shapeWith q lay n i p
   same-shape r q HALT p e = refl
   same-shape r q (PLAIN k d a b v) p e = refl
@@ -96,7 +96,7 @@ module _ (lay : Layout) (n : ℕ) where
   guest-fields (GOX d a b c) g = rw (lt-ltb d hidden (g .0), lt-ltb a hidden (g .1), lt-ltb b hidden (g .2))
   guest-fields (EVENT v) g = refl
 
--- ---- a refusal that is none of the first three is 11
+-- ---- if none of the first three refusals applies, it is bad bundle (11)
 
 found : (lay : Layout) (n : ℕ) (ws : List ℕ) (h m : ℕ) → (checkFrom lay n ws h m .number ≡ 0 → ⊥) → checkFrom lay n ws h m .number ≡ numberOf BadBundle
 unfolding checkFrom

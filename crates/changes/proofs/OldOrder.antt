@@ -1,4 +1,4 @@
--- A list with an event's bundle in the old order is refused.
+-- A list with an event bundle in the old order is refused.
 use mathlib.Core.Path.{_≡_, refl, sym, _∙_, ap}
 use mathlib.Core.Bool.{true, false}
 use mathlib.Core.Logic.{⊎-elim}
@@ -20,7 +20,7 @@ use Rattle.spec.proofs.Bools.{no, cases, both}
 use Rattle.spec.proofs.Conditions.{bundle-parts}
 use Rattle.changes.specs.Claims.{oldEvent, OldRefused}
 
--- a list with a bundle that does not pass is refused, there or before it
+-- a list with a bundle that does not pass is refused, there or earlier
 refused-at : (lay : Layout) (n : ℕ) (ws : List ℕ) (j h m : ℕ) → passesAt lay n ws j ≡ false → h ≤ j → j < h + m
     → (checkFrom lay n ws h m .number ≡ numberOf BadBundle) × (checkFrom lay n ws h m .place ≤ j)
 unfolding checkFrom
@@ -33,7 +33,7 @@ refused-at lay n ws j h (suc m) no-shape l k =
     (λ (e : passesAt lay n ws h ≡ false). rw e (refl, l))
     (cases (passesAt lay n ws h))
 
--- an event's bundle in the old order: the kind of its first word is LOOK's, that of its third KEEP's, where EVENT's is asked for
+-- in an old event bundle the first word is LOOK and the third KEEP, but the third must be EVENT
 look-kind : (r e : ℕ) → kindOf (packOf (command .look) r 0 0 0 e) ≡ command .look
 look-kind r e = omega arith
 

@@ -1,4 +1,4 @@
--- The one answer that changes when the silent probe is reported first.
+-- The one effect that changes when probe silent (24) comes before log full (23).
 use mathlib.Core.Path.{_≡_, refl}
 use mathlib.Core.Bool.{Bool, true, false, cond}
 use native.Mathlib.Omega.{arith}
@@ -10,7 +10,7 @@ use Rattle.types.specs.Names.{orders}
 use Rattle.spec.specs.Machines.{effectOf}
 use Rattle.changes.specs.Claims.{SilentFirst}
 
--- by the three tests, an order, no reading left and no free pair: either order of the pauses gives the same, unless the last two hold of a reading
+-- both orders of the two pauses agree, except for a reading event with no reading left and no free pair
 same-tests : {A : Type 0} (order silent full : Bool) (x y w z : A) → (order ≡ false → silent ≡ true → full ≡ true → ⊥)
     → cond order (cond full w x) (cond silent z (cond full w y)) ≡ cond full w (cond order x (cond silent z y))
 same-tests true silent true x y w z n = refl

@@ -1,4 +1,4 @@
--- Every claim of this crate is proved.
+-- The proof of all claims of this crate.
 use Rattle.changes.specs.Proved.{Proved}
 use Rattle.changes.proofs.Pauses.{silent-first}
 use Rattle.changes.proofs.Runs.{silent-runs}

@@ -1,4 +1,4 @@
--- The one answer of a run that changes when the silent probe is reported first.
+-- The one answer of a run that changes when probe silent (24) comes before log full (23).
 use mathlib.Core.Path.{_≡_, refl, sym, ap, subst, _∙_}
 use mathlib.Core.Bool.{Bool, true, false}
 use mathlib.Core.Logic.{_⊎_, inl, inr, ⊎-elim}
@@ -24,7 +24,7 @@ use Rattle.spec.proofs.Bools.{no}
 use Rattle.changes.specs.Claims.{BothPause, effectBefore, nextBefore, runFromBefore, runBefore, PausedBoth, RunLaws, SilentRuns}
 use Rattle.changes.proofs.Pauses.{silent-first}
 
--- ---- one command: it does what it did, or is the event for which both pauses hold
+-- ---- one command: it does what it did before, or it is the event to which both pauses apply
 pub record Both (c : Command) (s : View) : Type 0 where
   pub event : ℕ
   pub is : c ≡ Event event
@@ -34,7 +34,7 @@ abbrev Turned : Command → View → Type 0
 Turned c s =
     ((Both c s → ⊥) × (effectOf c s ≡ effectBefore c s)) ⊎ (Both c s × (effectOf c s ≡ Wait Silent) × (effectBefore c s ≡ Wait LogFull))
 
--- an event's number and one; 0 of any other command
+-- an event's number plus one; 0 for any other command
 abbrev numbered : Command → ℕ
 numbered Nop = 0
 numbered Halt = 0
@@ -92,7 +92,7 @@ module _ (lay : Layout) (ws reads : List ℕ) where
   abbrev Laws : RunResult → RunResult → Type 0
   Laws now old = RunLaws lay ws reads now old
 
-  -- one that did not answer 23 is as it was
+  -- a run that did not answer log full (23) is as before
   unpaused : (r : RunResult) → isFull (r .outcome .answer .ending) ≡ false → Laws r r
   unpaused r e = record { gives = λ p. no (sym e ∙ ap isFull (p .full)); same = λ _. refl }
 
@@ -103,7 +103,7 @@ module _ (lay : Layout) (ws reads : List ℕ) where
   ended Faulted = refl
   ended Strayed = refl
 
-  -- a step, if what follows it is as claimed
+  -- a step, if the claim holds of what follows
   module _ (n k : ℕ) (s : State) (later : (k : ℕ) (s : State) → Laws (runFrom lay ws reads n k s) (runFromBefore lay ws reads n k s)) where
     abbrev next : Effect → RunResult
     next x = unlessWait x (λ e. resultIn e k s) (runFrom lay ws reads n (k + 1) (applyOf (lay .ceilings) reads x s))

@@ -56,7 +56,7 @@ module _ (l : Layout) (ws : List ℕ) (t : Bool) (et : t ≡ rightLayout l) wher
     unfolding checkAnswer
     bad-count f = rw (← et, e, ← ec, f)
 
-    -- a right count is of 1 to 1,024 bundles
+    -- a right count means 1 to 1,024 bundles
     module _ (f : c ≡ true) where
       count-facts : (length ws ≤ mostCommands) × (length ws % bundleLength ≡ 0) × (ones (length ws / bundleLength) ≡ 1)
       count-facts =
@@ -82,7 +82,7 @@ module _ (l : Layout) (ws : List ℕ) (t : Bool) (et : t ≡ rightLayout l) wher
         unfolding checkAnswer
         bad-base g = rw (← et, e, ← ec, f, ← eb, g)
 
-        -- and a right base leaves the list below 2 ^ 32
+        -- a right base means that the list ends at or before 2 ^ 32
         pub base-room : l .base < baseBound → b ≡ true → addressOf l (length ws / bundleLength) ≤ 2 ^ 32
         base-room h g = list-room (l .base) (length ws / bundleLength) (count-facts .2) count-most (eqb-true _ _ (sym eb ∙ g)) h
 

@@ -1,4 +1,4 @@
--- Laws of the loops that read, in the form in which the proofs of the functions cite them.
+-- Laws of the loops that read, in the form that the functions' proofs cite.
 use mathlib.Core.Path.{_≡_, refl, sym, _∙_}
 use mathlib.Core.Bool.{Bool, true, false, _&&_, cond}
 use mathlib.Core.Logic.{⊎-elim}
@@ -32,7 +32,7 @@ rest u t h = take-all (length t - u) (drop u t) (le-of-eq (length-drop u t))
 pub used : (t : List ℕ) (o : Decoded) (w u : ℕ) → o ≡ Word w u → o ≡ decodeOne t → u ≤ length t
 used t o w u eo e = one-read t w u (sym eo ∙ e) .fits
 
--- z is what the whole is to be, and does not change from step to step
+-- z is the final result, which no step changes
 module _ (n i : ℕ) (t : List ℕ) (o : Decoded) (e : o ≡ decodeOne t) (h : i < n) where
   left : n - i ≡ suc (n - (i + 1))
   left = omega arith
@@ -72,7 +72,7 @@ module _ (n i : ℕ) (t : List ℕ) (h : n ≤ i) where
   unfolding wordsOf
   fill-done out z ez = sym (ez ∙ rw none-left)
 
--- ---- the first GOIF that leads past the instructions
+-- ---- the first GOIF that jumps past the instructions
 
 module _ (n past i w : ℕ) (b : Bool) (e : b ≡ badLanding n w) where
   pub this-one : (eqb past n && b) ≡ true → i ≡ cond (eqb past n && badLanding n w) i past
@@ -84,7 +84,7 @@ module _ (n past i w : ℕ) (b : Bool) (e : b ≡ badLanding n w) where
 pub past-start : (n : ℕ) (s : List ℕ) → firstPast n (wordsOf n s) 0 ≡ cond (eqb n n) (firstPast n (wordsOf (n - 0) s) 0) n
 past-start n s = rw (eq-eqb n n refl, sub-zero)
 
--- one word more
+-- after one more word
 past-step : (n past i y : ℕ) → i < n → (b : Bool) (past′ : ℕ) → past′ ≡ cond (eqb past n && b) i past → cond (eqb past n) (cond b i y) past ≡ cond (eqb past′ n) y past′
 past-step n past i y h b past′ e = go (eqb past n) b refl e
   where

@@ -1,4 +1,4 @@
--- Laws of the loops that write, in the form in which the proofs of the functions cite them.
+-- Laws of the loops that write, in the form that the functions' proofs cite.
 use mathlib.Core.Path.{_≡_, sym, ap, _∙_}
 use mathlib.Core.List.{List, _∷_}
 use Prim.Native.Nat.{ℕ, _+_, _*_, _/_, _%_, _≤_, _<_}
@@ -18,7 +18,7 @@ use Rattle.spec.proofs.Bytes.{length-fields, length-routine, WriteOk, write-ok}
 use Rattle.spec.proofs.Refusals.{refused-done, output-kept, output-written}
 use Rattle.codec_write.proofs.encode.Storing.{sets-append}
 
--- ---- how many bytes a word takes, counted by its map
+-- ---- how many bytes a word takes, by its map
 module _ (b r : ℕ) (h : b ≤ 1) where
   low : (b + 2 * r) % 2 ≡ b
   low = omega arith
@@ -79,7 +79,7 @@ module _ (ws : List ℕ) (i : ℕ) (h : i < length ws) (w : ℕ) (ew : w ≡ get
   emit-rest to b n eb f = omega (arith, emit-length)
 
 module _ (ws : List ℕ) (i : ℕ) (h : length ws ≤ i) where
-  -- all weighed: what is left is the room
+  -- after the last word, only the room is left to test
   module _ (n z : ℕ) (e : n ≡ z + length (bytesOf (drop i ws))) (room : ℕ) (r : Answer) (er : r ≡ firstRefused wordRefusal (drop i ws) i (roomFor room n)) where
     weigh-done : roomFor room z ≡ r
     unfolding bytesOf

@@ -1,4 +1,4 @@
--- Laws of the code, one for each way out of it.
+-- Laws of the check of words, one for each return.
 use mathlib.Core.Path.{_≡_, sym, _∙_, ap}
 use mathlib.Core.Bool.{Bool, true, false}
 use mathlib.Core.List.{List}
@@ -14,7 +14,7 @@ use Rattle.spec.specs.Words.{refusalAt, firstRefused, instrOf, routine}
 use Rattle.forward_spec.specs.Forward.{forwardAt, forwardFrom, forwardAnswer}
 use Rattle.forward_spec.proofs.Laws.{scan-more, scan-stop, scan-done, judged, words-long, words-refused, words-taken}
 
--- a jump, by its instruction
+-- a jump is forward if its target is higher
 pub jump-at : (h a b c v : ℕ) (i : Instr) → i ≡ GOIF a b c v → ltb h v ≡ forwardAt h i
 unfolding forwardAt
 jump-at h a b c v i e = rw e

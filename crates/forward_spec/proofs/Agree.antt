@@ -1,4 +1,4 @@
--- The two checks agree, and so a rewritten routine of the class finishes.
+-- The two checks agree, so a rewritten forward routine finishes.
 use mathlib.Core.Path.{_≡_, refl, sym, _∙_, ap, subst}
 use mathlib.Core.Bool.{Bool, true, false}
 use mathlib.Core.Logic.{⊎-elim}
@@ -32,7 +32,7 @@ use Rattle.forward_spec.proofs.Class.{checked, forward-zero}
 use Rattle.forward_spec.proofs.Bound.{bounded}
 use Rattle.forward_spec.proofs.Finish.{finishes, finishes-in, over-resumed}
 
--- ---- a bundle's first and fourth commands show whether it is forward
+-- ---- a bundle's first and fourth commands tell whether it is forward
 abbrev noJump : Command → Bool
 noJump Nop = true
 noJump Halt = true
@@ -80,7 +80,7 @@ forward-shown lay n h (EVENT e) = refl
 same-shown : (lay : Layout) (n h : ℕ) (i i′ : Instr) → shapeOf lay n i 0 ≡ shapeOf lay n i′ 0 → shapeOf lay n i 3 ≡ shapeOf lay n i′ 3 → forwardAt h i ≡ forwardAt h i′
 same-shown lay n h i i′ x y = forward-shown lay n h i ∙ rw (x, y) (sym (forward-shown lay n h i′))
 
--- ---- one scan for two lists of instructions alike in this, and without the HALTs at the end
+-- ---- the scans of two lists of instructions agree if each instruction is forward in both; HALTs at the end do not matter
 scan-same : (is js : ℕ → Instr) (h m : ℕ) → ((j : ℕ) → j < h + m → forwardAt j (is j) ≡ forwardAt j (js j)) → forwardFrom is h m ≡ forwardFrom js h m
 unfolding forwardFrom
 scan-same is js h zero e = refl
@@ -139,7 +139,7 @@ module _ (lay : Layout) (code : List ℕ) (room : ℕ) (z : rewriteAnswer lay co
 pub checks-agree : ChecksAgree
 checks-agree = agree
 
--- nothing refused is answered with place 0
+-- if nothing is refused, the place is 0
 zero-place : (lay : Layout) (ws : List ℕ) → checkForwardAnswer lay ws .number ≡ 0 → checkForwardAnswer lay ws ≡ answer 0 0
 zero-place lay ws e = let t = checked lay ws e in list-passed lay ws (t .0) ∙ forward-zero (bundleAt lay ws) 0 _ (t .1)
 
@@ -157,7 +157,7 @@ forward-read lay ws e =
       same = r .same;
     }
 
--- what is over by the list's words is so by the routine's
+-- a claim about the commands gives the one about the routine's words
 finished : (lay : Layout) (pol : Policy) (code mem : List ℕ) (room : ℕ) (gs : List RunInput) → rewriteAnswer lay code room .number ≡ 0 → forwardAnswer code .number ≡ 0 →
     let ws = commandsOf lay code in
     HostPremise lay pol ws mem gs → (length ws / bundleLength ≡ bundlesFor (length code) → checkForwardAnswer lay ws .number ≡ 0

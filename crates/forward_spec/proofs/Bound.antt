@@ -1,4 +1,5 @@
--- The bound: as long as a machine of the class runs, its pc lies at least as far behind the base as steps were counted, and not behind the last bundle's first command.
+-- The bound: while a machine runs a forward list, its pc is at least as many commands past the base as steps were counted,
+-- and never past the first command of the last bundle.
 use mathlib.Core.Path.{_≡_, refl, _∙_, ap}
 use mathlib.Core.Bool.{Bool, true, false}
 use mathlib.Core.Logic.{⊎-elim}
@@ -35,11 +36,11 @@ use Rattle.forward_spec.specs.Claims.{mostSteps, stepsIn, Bounded}
 use Rattle.forward_spec.proofs.Runs.{runsOf, afterRuns}
 use Rattle.forward_spec.proofs.Class.{AllForward, class-of}
 
--- a machine of the class neither runs on from an end nor stops for want of a landing
+-- a machine with a forward list runs, has ended or stopped; it never strays
 abbrev pub Ends : Status → Type 0
 Ends t = (t ≡ Running → ⊥) × (t ≡ Strayed → ⊥)
 
--- ---- where an effect leads from pc: on by one or further, to `top` at most, or out of running
+-- ---- where an effect leads: to a higher address up to `top`, or to an end
 abbrev pub Leads : ℕ → ℕ → Effect → Type 0
 Leads pc top (Go to) = (pc < to) × (to ≤ top)
 Leads pc top (SetReg d x) = pc < top
@@ -49,7 +50,7 @@ Leads pc top (Probe v) = pc < top
 Leads pc top (End t) = Ends t
 Leads pc top (Wait e) = Unit {0}
 
--- commands that do not jump
+-- commands that are no jump
 abbrev Straight : Command → Type 0
 Straight Nop = Unit {0}
 Straight Halt = Unit {0}
@@ -82,7 +83,7 @@ faulted = (λ e. no (cc), λ e. no (cc))
 runs-on : (t : Status) → t ≡ Running → t ≡ Strayed → ⊥
 runs-on t r e = no (cc)
 
--- no pc of a list wraps
+-- pc does not wrap
 pub on-by-one : (pc top : ℕ) → pc < top → top < 2 ^ 32 → nextPc pc ≡ pc + 1
 on-by-one pc top l b = omega arith
 
@@ -109,13 +110,13 @@ module _ (v : View) (top : ℕ) (below : top < 2 ^ 32) where
       (λ _. cond-ind (Leads (v .pc) top) (eqb (v .left) 0) (λ _. tt) (λ _. cond-ind (Leads (v .pc) top) (ltb (v .free) 2) (λ _. tt) (λ _. l)))
   leads-straight Invalid s l = faulted
 
-  -- a jump to an instruction of a higher place
+  -- a jump to a higher instruction
   leads-jump : (a b c to : ℕ) → v .pc < top → v .pc < to → to ≤ top → Leads (v .pc) top (effectOf (GoIf a b c to) v)
   unfolding effectOf
   leads-jump a b c to l h k =
       cond-ind (λ (x : ℕ). (v .pc < x) × (x ≤ top)) (holdsOf c (regAt v a) (regAt v b)) (λ _. (h, k)) (λ _. leads-on l)
 
--- the first command of bundle v, from within bundle h
+-- the first command of bundle v is higher than any of bundle h
 higher : (base n h p v pc : ℕ) → h < v → v < n → p < bundleLength → pc ≡ base + bundleLength * h + p → (pc < base + bundleLength * v) × (base + bundleLength * v ≤ base + bundleLength * (n - 1))
 higher base n h p v pc l u lp e = (omega arith, omega arith)
 
@@ -147,13 +148,13 @@ module _ (lay : Layout) (n h : ℕ) (v : View) (below : lay .base + bundleLength
   leads (GOX d a b c) p f g lp e = no f
   leads (EVENT x) p f g lp e = straight _ (at4-straight _ _ _ _ p tt tt tt tt)
 
--- ---- t steps behind a machine
+-- ---- a machine after t steps
 pub record Ahead (base n t pc : ℕ) (st : Status) : Type 0 where
   pub most : t ≤ mostSteps n
   pub on : st ≡ Running → (base + t ≤ pc) × (pc ≤ base + bundleLength * (n - 1))
   pub lands : st ≡ Strayed → ⊥
 
--- where a step leads that does not wait
+-- after a step that does not pause
 pub ahead-step : (caps rd : List ℕ) (base n t : ℕ) (s : State) (e : Effect) → base + bundleLength * (n - 1) < 2 ^ 32 → Goes e → s .status ≡ Running
     → base + t ≤ s .pc → s .pc ≤ base + bundleLength * (n - 1) → Leads (s .pc) (base + bundleLength * (n - 1)) e
     → Ahead base n (t + 1) (applyOf caps rd e s .pc) (applyOf caps rd e s .status)
@@ -166,7 +167,7 @@ ahead-step caps rd base n t s (Probe v) b g r l u d = let e = on-by-one (s .pc) 
 ahead-step caps rd base n t s (End st) b g r l u d = record { most = omega arith; on = λ e. absurd (d .0 e); lands = d .1 }
 ahead-step caps rd base n t s (Wait e) b g r l u d = absurd (g e refl)
 
--- an address of the list, by bundle and position
+-- an address of the list as bundle and position
 pub split : (base n pc : ℕ) → base ≤ pc → pc ≤ base + bundleLength * (n - 1) → 0 < n → ((pc - base) / bundleLength < n)
     × ((pc - base) % bundleLength < bundleLength) × (pc ≡ base + bundleLength * ((pc - base) / bundleLength) + (pc - base) % bundleLength)
 split base n pc l u some = (omega arith, omega arith, omega arith)
@@ -181,7 +182,7 @@ module _ (lay : Layout) (ws : List ℕ) (n : ℕ) (is : ℕ → Instr) (room : l
   fetched : (pc : ℕ) → lay .base ≤ pc → pc ≤ lay .base + bundleLength * (n - 1) → fetchOf ws (lay .base) pc ≡ shapeOf lay n (is ((pc - lay .base) / bundleLength)) ((pc - lay .base) % bundleLength)
   fetched pc l u = let w = split (lay .base) n pc l u (bs .some) in ap (fetchOf ws (lay .base)) (w .2) ∙ bs .each _ _ (w .0) (w .1)
 
-  -- the last bundle's first command ends
+  -- the first command of the last bundle ends the run
   next-last : (rd : List ℕ) (s : State) → s .pc ≡ lay .base + bundleLength * (n - 1) → nextOf lay ws rd s ≡ End Ended
   unfolding effectOf shapeOf
   next-last rd s e = let q = last-place (lay .base) n (s .pc) e in rw (fetched (s .pc) (omega arith) (omega arith), q .0, q .1, bs .last)
@@ -197,7 +198,7 @@ module _ (lay : Layout) (ws : List ℕ) (n : ℕ) (is : ℕ → Instr) (room : l
       rw (next-last rd s e) ended)
       (cases (ltb (s .pc) (lay .base + bundleLength * (n - 1))))
 
-  -- ---- a run, t steps behind its start, k of its own
+  -- ---- within a run, after t steps of earlier runs and k of its own
   ahead-run : (rd : List ℕ) (t j k : ℕ) (s : State) → Ahead (lay .base) n (t + k) (s .pc) (s .status) →
       let r = runFrom lay ws rd j k s .outcome in
       Ahead (lay .base) n (t + r .answer .steps) (r .machine .pc) (r .machine .status)
@@ -215,7 +216,7 @@ module _ (lay : Layout) (ws : List ℕ) (n : ℕ) (is : ℕ → Instr) (room : l
   abbrev InTail : ℕ → Machine → Type 0
   InTail t m = Ahead (lay .base) n t (m .pc) (m .status)
 
-  -- ---- a run of a list, and all of them
+  -- ---- one run, and a list of them
   ahead-on : (t : ℕ) (c : Session) (g : RunInput) → InTail t (c .machine) → InTail (t + runOn lay ws c g .outcome .answer .steps) (afterRun lay ws c g .machine)
   unfolding afterRun afterTaken runOn runOf
   ahead-on t c g a = by (fits lay (g .memory)) refl

@@ -1,4 +1,4 @@
--- What the two checks' answers say of the instructions.
+-- What the answers of the two checks say about the instructions.
 use mathlib.Core.Path.{_≡_, refl, sym, _∙_, ap}
 use mathlib.Core.Bool.{true}
 use mathlib.Core.Logic.{⊎-elim}
@@ -34,7 +34,7 @@ forward-from is h (suc m) e j l u =
 pub all-forward : (is : ℕ → Instr) (n : ℕ) → forwardFrom is 0 n .number ≡ 0 → AllForward n is
 all-forward is n e h l = forward-from is 0 n e h (omega arith) (omega arith)
 
--- an answer of nothing refused has place 0
+-- if nothing is refused, the place is 0
 pub forward-zero : (is : ℕ → Instr) (h m : ℕ) → forwardFrom is h m .number ≡ 0 → forwardFrom is h m ≡ answer 0 0
 forward-zero is h zero e = unfold forwardFrom in refl
 forward-zero is h (suc m) e =
@@ -43,7 +43,7 @@ forward-zero is h (suc m) e =
     (λ t. absurd (omega (arith, ap (λ (a : Answer). a .number) (breaks-here is h m t))))
     (cases (forwardAt h (is h)))
 
--- a list of the class passes the checker, and its bundles are forward
+-- a forward list passes the checker, and its bundles are forward
 pub checked : (lay : Layout) (ws : List ℕ) → checkForwardAnswer lay ws .number ≡ 0 → (checkAnswer lay ws .number ≡ 0) × (forwardFrom (bundleAt lay ws) 0 (length ws / bundleLength) .number ≡ 0)
 checked lay ws e =
     ⊎-elim

@@ -1,4 +1,4 @@
--- A resumed machine takes a step, and a routine of the class finishes.
+-- A resumed machine takes a step, so a forward routine finishes.
 use mathlib.Core.Path.{_≡_, refl, sym, _∙_, ap}
 use mathlib.Core.Bool.{Bool, true, false}
 use mathlib.Core.Logic.{_⊎_, inl, inr, ⊎-elim}
@@ -44,18 +44,18 @@ module _ (lay : Layout) (ws : List ℕ) (c : Session) (g : RunInput) (fit : fits
   unfolding afterRun afterTaken runOn runOf
   left = rw fit
 
-  -- it takes a step with a free pair and a reading
+  -- with a free pair and a reading it takes a step
   one-step : c .machine .status ≡ Running → 2 ≤ length (g .log) → 1 ≤ length (g .readings) → 1 ≤ g .budget → 1 ≤ runOn lay ws c g .outcome .answer .steps
   one-step run ll lr b =
       let go = goes (fetchOf ws (lay .base) (c .machine .pc)) (viewAt lay (g .readings) begin) (omega arith) (omega arith) in
       rw taken (omega (arith, steps-some lay ws (g .readings) (g .budget) 0 begin b run go))
 
   module _ (run : afterRun lay ws c g .machine .status ≡ Running) where
-    -- one that leaves the machine running found it running
+    -- a run that leaves the machine running found it running
     before : c .machine .status ≡ Running
     before = ran-before lay ws (g .readings) (g .budget) 0 begin (rw left at run)
 
-    -- and, unless it pauses, used up its budget
+    -- and it used up its budget, unless it paused
     spent : pauses (runOn lay ws c g .outcome .answer .ending) ≡ false → g .budget ≤ runOn lay ws c g .outcome .answer .steps
     spent p = rw taken (omega (arith, all-spent lay ws (g .readings) (g .budget) 0 begin (rw left at run) (rw taken at p)))
 
@@ -98,7 +98,7 @@ module _ (lay : Layout) (ws : List ℕ) where
 fit-of : (lay : Layout) (g : RunInput) → rightLayout lay ≡ true → Resumable lay g → fits lay (g .memory) ≡ true
 fit-of lay g right ok = rw (right, eq-eqb _ _ (ok .memory))
 
--- ---- on the premise a machine runs, has ended or stopped: no passed list faults, and none of the class wants a landing
+-- ---- on the premise, a machine runs, has ended or stopped: a passed list never faults, and a forward one never strays
 pub going-or-over : (lay : Layout) (pol : Policy) (ws mem : List ℕ) (gs : List RunInput) → checkForwardAnswer lay ws .number ≡ 0
     → HostPremise lay pol ws mem gs → (after lay pol ws mem gs .machine .status ≡ Running) ⊎ Terminated (after lay pol ws mem gs .machine)
 going-or-over lay pol ws mem gs f v =
@@ -124,7 +124,7 @@ pub takes-step : TakesStep
 takes-step lay pol ws mem gs v run g ok b =
     one-step lay ws (after lay pol ws mem gs) g (fit-of lay g (layout-of lay ws (v .passed)) ok) run (ok .log) (ok .readings) b
 
--- ---- it is over if as many steps as the bound would be counted while it still runs
+-- ---- it is over if the bound's number of steps would be counted while it still runs
 over-by : (lay : Layout) (pol : Policy) (ws mem : List ℕ) (gs : List RunInput) → checkForwardAnswer lay ws .number ≡ 0 → HostPremise lay pol ws mem gs
     → (after lay pol ws mem gs .machine .status ≡ Running → mostSteps (length ws / bundleLength) ≤ stepsIn (allRuns lay pol ws mem gs))
     → Terminated (after lay pol ws mem gs .machine)
@@ -141,7 +141,7 @@ pub finishes : Finishes
 finishes lay pol ws mem gs f v p =
     over-by lay pol ws mem gs f v (λ run. omega (arith, took-all lay ws (initialSession lay pol mem) gs run))
 
--- ---- by the count of runs: each that is resumed takes a step
+-- ---- by the number of runs: each one that is resumed takes a step
 step-each : (lay : Layout) (ws : List ℕ) → rightLayout lay ≡ true → (c : Session) (gs : List RunInput) → Every (Resumable lay) gs
     → Every (λ (g : RunInput). 1 ≤ g .budget) gs → afterRuns lay ws c gs .machine .status ≡ Running → length gs ≤ stepsIn (runsOf lay ws c gs)
 unfolding afterAll eachRun
@@ -156,8 +156,8 @@ pub finishes-in : FinishesIn
 finishes-in lay pol ws mem gs f v ok b l =
     over-by lay pol ws mem gs f v (λ run. omega (arith, step-each lay ws (layout-of lay ws (v .passed)) (initialSession lay pol mem) gs ok b run))
 
--- ---- the same if only those that follow a pause are resumed: any other takes a step or pauses, and the next is resumed
--- a run more, unless the run before paused
+-- ---- only runs after a pause are resumed: any other takes a step or pauses, and then the next is resumed.
+-- `spare` is one run more, unless the run before paused
 abbrev spare : Bool → ℕ
 spare true = 0
 spare false = 1
@@ -166,7 +166,7 @@ module _ (lay : Layout) (ws : List ℕ) (right : rightLayout lay ≡ true) where
   abbrev Sized : RunInput → Type 0
   Sized g = length (g .memory) ≡ lay .size
 
-  -- what a run adds, by whether the one before paused and whether it does
+  -- what a run adds, by whether the one before paused and whether it pauses itself
   adds : (p q : Bool) (x y n : ℕ) → (p ≡ true → 1 ≤ x) → (q ≡ false → 1 ≤ x) → n ≤ 2 * y + spare q → n + 1 ≤ 2 * (x + y) + spare p
   adds true true x y n a b l = omega (arith, a refl)
   adds true false x y n a b l = omega (arith, a refl)

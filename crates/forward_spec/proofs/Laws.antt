@@ -1,4 +1,4 @@
--- What the two checks answer, law by law: which refusal comes first, and the lowest place.
+-- Laws of the two checks: which refusal comes first, and the lowest place.
 use mathlib.Core.Path.{_≡_, sym, _∙_, ap}
 use mathlib.Core.Bool.{Bool, true, false, cond}
 use mathlib.Core.List.{List}
@@ -16,7 +16,7 @@ use Rattle.spec.specs.Bundles.{bundleAt, checkAnswer}
 use Rattle.spec.proofs.Refusals.{else-next, else-kept}
 use Rattle.forward_spec.specs.Forward.{forwardAt, forwardFrom, forwardAnswer, checkForwardAnswer}
 
--- ---- instructions in order: the first that breaks the class is answered
+-- ---- instructions in order: the first that is not forward is answered
 module _ (is : ℕ → Instr) (h m : ℕ) where
   pub breaks-here : forwardAt h (is h) ≡ false → forwardFrom is h (suc m) ≡ refusal NotForward h
   unfolding forwardFrom
@@ -26,7 +26,7 @@ module _ (is : ℕ → Instr) (h m : ℕ) where
   unfolding forwardFrom
   goes-past e = ap (λ (t : Bool). cond t (forwardFrom is (h + 1) m) (refusal NotForward h)) e
 
--- ---- a walk over n instructions that stands at h, and whether instruction h is forward
+-- ---- a loop over n instructions, now at instruction h
 module _ (is : ℕ → Instr) (n h : ℕ) (a : Answer) (ea : a ≡ forwardFrom is h (n - h)) where
   module _ (lt : h < n) (p : Bool) (ep : p ≡ forwardAt h (is h)) where
     left : n - h ≡ suc (n - (h + 1))
@@ -42,7 +42,7 @@ module _ (is : ℕ → Instr) (n h : ℕ) (a : Answer) (ea : a ≡ forwardFrom i
   unfolding forwardFrom
   scan-done l = let none : n - h ≡ 0 = omega arith in sym (ea ∙ rw none)
 
--- ---- guest words: 5, the words' own refusals, the class
+-- ---- guest words: oversize (5), the words' own refusals, not forward (18)
 module _ (ws : List ℕ) where
   abbrev pub judged : Answer
   judged = firstRefused (refusalAt (length ws)) ws 0 (answer (numberOf Taken) 0)
@@ -60,7 +60,7 @@ module _ (ws : List ℕ) where
     unfolding forwardAnswer
     words-taken z = rw (le-ltb mostInstructions (length ws) l) (else-next judged _ z)
 
--- ---- command lists: the checker's refusals, the class
+-- ---- command lists: the checker's refusals, not forward (18)
 module _ (lay : Layout) (ws : List ℕ) where
   pub list-refused : (checkAnswer lay ws .number ≡ 0 → ⊥) → checkForwardAnswer lay ws ≡ checkAnswer lay ws
   unfolding checkForwardAnswer

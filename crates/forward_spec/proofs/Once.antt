@@ -1,4 +1,4 @@
--- One run finishes that has budget for all steps, and log and readings for an event in every bundle but the last: it never pauses.
+-- One run with budget for all steps, and with log and readings for an event in each bundle but the last, never pauses and so finishes.
 use mathlib.Core.Path.{_≡_, refl, sym, _∙_, ap, subst}
 use mathlib.Core.Bool.{true, false}
 use mathlib.Core.Logic.{_⊎_, inl, inr, ⊎-elim}
@@ -33,7 +33,7 @@ use Rattle.forward_spec.proofs.Class.{AllForward, class-of}
 use Rattle.forward_spec.proofs.Bound.{Leads, Ahead, ahead-step, on-by-one, split, below-end, next-leads, ahead-all}
 use Rattle.forward_spec.proofs.Finish.{going-or-over}
 
--- ---- what pauses or records comes from a bundle's third command
+-- ---- only a bundle's third command pauses or records
 abbrev Third : ℕ → Effect → Type 0
 Third p e = Still e ⊎ (p ≡ 2)
 
@@ -41,7 +41,7 @@ third : (lay : Layout) (n : ℕ) (i : Instr) (p : ℕ) (v : View) → Third p (e
 third lay n i p v =
     ⊎-elim (λ (e : eqb p 2 ≡ true). inr (eqb-true p 2 e)) (λ (e : eqb p 2 ≡ false). inl (still (shapeOf lay n i p) v (quiet lay n i p (eqb-false p 2 e)))) (cases (eqb p 2))
 
--- an order and a reading are not still
+-- an order or a reading is at the third command
 order-third : (p v : ℕ) → Third p (Order v) → p ≡ 2
 order-third p v (inl q) = absurd q
 order-third p v (inr z) = z
@@ -50,13 +50,13 @@ probe-third : (p v : ℕ) → Third p (Probe v) → p ≡ 2
 probe-third p v (inl q) = absurd q
 probe-third p v (inr z) = z
 
--- ---- no more pairs and readings than bundles behind the machine, the one counted whose fourth command is next
+-- ---- there are no more pairs and readings than bundles behind the machine; a bundle counts from its fourth command on
 record Few (base size : ℕ) (s : State) : Type 0 where
   log : size ≡ length (s .log)
   pairs : s .status ≡ Running → base + bundleLength * s .pairs ≤ s .pc + 1
   used : s .status ≡ Running → base + bundleLength * s .used ≤ s .pc + 1
 
--- from the third command of a bundle on to the fourth
+-- from the third command of a bundle to the fourth
 one-on : (base q pc : ℕ) → base ≤ pc → base + bundleLength * q ≤ pc + 1 → (pc - base) % bundleLength ≡ 2 → base + bundleLength * (q + 1) ≤ pc + 1 + 1
 one-on base q pc l h e = omega arith
 
@@ -77,7 +77,7 @@ few-step caps rd base top size s (Probe v) b g r l f d q =
 few-step caps rd base top size s (End t) b g r l f d q = record { log = f .log; pairs = λ e. absurd (d .0 e); used = λ e. absurd (d .0 e) }
 few-step caps rd base top size s (Wait w) b g r l f d q = absurd (g w refl)
 
--- on a third command, which is before the last bundle, there is room for one more
+-- on a third command, which is never in the last bundle, there is room for one more
 room-for : (base n k u pc size left : ℕ) → base ≤ pc → (pc - base) % bundleLength ≡ 2 → base + bundleLength * k ≤ pc + 1 → base + bundleLength * u ≤ pc + 1
     → pc ≤ base + bundleLength * (n - 1) → 2 * (n - 1) ≤ size → n - 1 ≤ left → (2 ≤ size - 2 * k) × (1 ≤ left - u)
 room-for base n k u pc size left b p x y l s r = (omega arith, omega arith)
@@ -128,7 +128,7 @@ module _ (lay : Layout) (ws : List ℕ) where
   steps-last c [] g = omega arith
   steps-last c (x ∷ gs) g = omega (arith, steps-last (afterRun lay ws c x) gs g)
 
--- what lies behind the whole list lies behind the run
+-- a machine after t steps is also one after 0 steps
 fewer : (base n t pc : ℕ) (st : Status) → Ahead base n t pc st → Ahead base n 0 pc st
 fewer base n t pc st a = record { most = omega arith; on = λ r. (omega (arith, a .on r .0), a .on r .1); lands = a .lands }
 

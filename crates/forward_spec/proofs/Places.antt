@@ -22,7 +22,7 @@ scan-bound is h (suc m) top k =
     cond-ind (Bounded top 0) (forwardAt h (is h)) (λ _. scan-bound is (h + 1) m top (omega arith))
     (λ _. record { number = lit< tt; place = omega arith; taken = λ z. absurd (omega arith) })
 
--- a place is an instruction or a bundle, 1,023 at most
+-- a place is an instruction or a bundle, at most 1,023
 pub forward-bound : (ws : List ℕ) → Bounded mostInstructions 0 (forwardAnswer ws)
 unfolding forwardAnswer
 forward-bound ws =

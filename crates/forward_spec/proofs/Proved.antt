@@ -1,4 +1,4 @@
--- Every claim of this crate is proved.
+-- The proof of all claims of this crate.
 use Rattle.forward_spec.specs.Proved.{Proved}
 use Rattle.forward_spec.proofs.Bound.{bounded}
 use Rattle.forward_spec.proofs.Finish.{takes-step, finishes, finishes-in}

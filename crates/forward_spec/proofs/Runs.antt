@@ -1,4 +1,4 @@
--- Lists of runs from anywhere, and what holds of each run, whatever the commands: its steps, and when it pauses.
+-- What holds of runs of any commands from any session: how many steps they count, and when they pause.
 use mathlib.Core.Path.{_≡_, refl, sym, _∙_, ap, subst}
 use mathlib.Core.Bool.{true, false}
 use mathlib.Core.Logic.{⊎-elim}
@@ -26,7 +26,7 @@ runsOf lay ws c gs = eachRun (runAs lay ws) (afterRun lay ws) c gs
 abbrev pub afterRuns : Layout → List ℕ → Session → List RunInput → Session
 afterRuns lay ws c gs = afterAll (afterRun lay ws) c gs
 
--- what a status ends with is no pause
+-- an ending by status is no pause
 pub ending-plain : (t : Status) → pauses (endingOf t) ≡ false
 ending-plain Running = refl
 ending-plain Ended = refl
@@ -36,7 +36,7 @@ ending-plain Strayed = refl
 
 -- ---- steps
 module _ (lay : Layout) (ws rd : List ℕ) where
-  -- a run counts on from k
+  -- a run that starts counting at k counts at least k
   pub steps-more : (j k : ℕ) (s : State) → k ≤ runFrom lay ws rd j k s .outcome .answer .steps
   unfolding loopFrom
   steps-more zero k s = omega arith
@@ -44,14 +44,14 @@ module _ (lay : Layout) (ws rd : List ℕ) where
       run-ind lay ws rd j k s (λ (r : RunResult). k ≤ r .outcome .answer .steps) (λ _. omega arith) (λ _ w z. omega arith)
       (λ _ _. omega (arith, steps-more j (k + 1) (stepOf lay ws rd s)))
 
-  -- one that can take a step does
+  -- a run that can take a step takes one
   pub steps-some : (j k : ℕ) (s : State) → 1 ≤ j → s .status ≡ Running → Goes (nextOf lay ws rd s) → k + 1 ≤ runFrom lay ws rd j k s .outcome .answer .steps
   steps-some zero k s l run go = absurd (omega arith)
   steps-some (suc j) k s l run go =
       run-ind lay ws rd j k s (λ (r : RunResult). k + 1 ≤ r .outcome .answer .steps) (λ f. absurd (f run)) (λ _ w z. absurd (go w z))
       (λ _ _. steps-more j (k + 1) (stepOf lay ws rd s))
 
-  -- one that leaves the machine running found it running
+  -- a run that leaves the machine running found it running
   pub ran-before : (j k : ℕ) (s : State) → runFrom lay ws rd j k s .outcome .machine .status ≡ Running → s .status ≡ Running
   unfolding loopFrom
   ran-before zero k s = λ e. e
@@ -62,7 +62,7 @@ module _ (lay : Layout) (ws rd : List ℕ) where
   waits-only s w z =
       ⊎-elim (λ x. ap pauses (x .0)) (λ x. ap pauses (x .0)) (subst (Pauses (viewAt lay rd s)) z (pauses-only (fetchOf ws (lay .base) (s .pc)) (viewAt lay rd s)))
 
-  -- and, unless it pauses, used up its budget
+  -- and it used up its budget, unless it paused
   pub all-spent : (j k : ℕ) (s : State) → runFrom lay ws rd j k s .outcome .machine .status ≡ Running → pauses (runFrom lay ws rd j k s .outcome .answer .ending) ≡ false
       → k + j ≤ runFrom lay ws rd j k s .outcome .answer .steps
   unfolding loopFrom

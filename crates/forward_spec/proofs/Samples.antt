@@ -1,4 +1,4 @@
--- The samples, by computation.
+-- The samples hold, by computation.
 use mathlib.Core.Path.{_≡_, refl}
 use mathlib.Core.Bool.{Bool}
 use mathlib.Core.List.{List, [], _∷_}
@@ -62,7 +62,7 @@ reaches =
       reached = refl;
     }
 
--- each run of one step is lent what the last one left
+-- each run of one step is lent the memory that the last one left
 lends : (c : Session) (bs : List Bool) → MemoriesPreserved layout shortCommands c (oneStepEach c bs)
 unfolding eachRun
 lends c [] = tt

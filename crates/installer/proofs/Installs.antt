@@ -25,7 +25,7 @@ use Rattle.spec.proofs.Layouts.{LayoutFacts, layout-facts}
 use Rattle.spec.proofs.Landings.{length-landings}
 use Rattle.spec.proofs.Conditions.{fits-of, policy-facts}
 
--- a policy of the layout's states is right under the layout as it is by itself
+-- a policy with the layout's states is right under the layout exactly if it is right by itself
 module _ (l : Layout) (s q : ℕ) (t : List ℕ) where
   pub own-states : rightLayout l ≡ true → s ≡ l .states → (r : Bool) → r ≡ tableRight (policyOf s q t []) → r ≡ rightPolicy l (policyOf s q t [])
   unfolding rightPolicy tableRight
@@ -38,12 +38,12 @@ module _ (l : Layout) (s q : ℕ) (t : List ℕ) where
   unfolding rightPolicy
   other-states z = rw (ne-eqb s (l .states) z)
 
--- l and the policy that is laid into mem
+-- the layout, the policy and the memory that it is written to
 module _ (l : Layout) (s q : ℕ) (t ls mem : List ℕ) where
   abbrev pol : Policy
   pol = policyOf s q t ls
 
-  -- the answer: refused 7, refused 10, refused 14, taken
+  -- the answer: bad layout (7), bad policy (10), bad landing list (14), or taken (0)
   module _ (b : Bool) (e : b ≡ fits l mem) where
     pub layout-is : b ≡ true → rightLayout l ≡ true
     layout-is h = both (rightLayout l) (eqb (length mem) (l .size)) (sym e ∙ h) .0
@@ -52,7 +52,7 @@ module _ (l : Layout) (s q : ℕ) (t ls mem : List ℕ) where
     unfolding installAnswer
     no-layout h = rw (← e, h)
 
-    -- the policy's test looks at no landing
+    -- the policy's test does not look at landings
     module _ (h : b ≡ true) (r : Bool) (g : r ≡ rightPolicy l (policyOf s q t [])) where
       right-is : r ≡ rightPolicy l pol
       unfolding rightPolicy
@@ -71,9 +71,9 @@ module _ (l : Layout) (s q : ℕ) (t ls mem : List ℕ) where
         unfolding installAnswer
         all-right v = rw (← e, h, ← right-is, f, ← u, v)
 
-  -- what is left
+  -- the memory after installing
   module _ (a : Answer) (e : a ≡ installAnswer l pol mem) where
-    -- what a caller learns of record, answer and memory
+    -- what is promised about record, answer and memory
     abbrev Leaves : Installed → List ℕ → Type 0
     Leaves i mem′ = (i ≡ installOf l pol mem) × (mem′ ≡ installMemory l pol mem)
 

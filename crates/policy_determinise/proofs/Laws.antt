@@ -1,4 +1,4 @@
--- Laws of the code's parts, one for each way out.
+-- Laws of the functions, one for each return.
 use Prim.Native.Nat.{ℕ, suc, _+_, _*_, _%_, _^_, _<_, _≤_}
 use mathlib.Core.Path.{_≡_, refl, sym, ap, ap₂, _∙_}
 use mathlib.Core.Bool.{Bool, true, false, _&&_, not, cond, and-assoc, and-true}
@@ -25,7 +25,7 @@ use Rattle.policy_determinise.proofs.Runs.{fit-of, arrows}
 pub below-is : (m s : ℕ) → s ≤ mostStates → ltb m ((1 * 2 ^ s) % 2 ^ 32) ≡ ltb m (2 ^ s)
 below-is m s h = let o : 1 * 2 ^ s ≡ 2 ^ s = omega arith in rw o (ap (ltb m) (mod-eq-of-lt (pow-lt {i = s} {j = 32} (omega arith))))
 
--- a state in the set, and one that is not
+-- a state in the set, and one that is not in it
 pub part-in : (x k m : ℕ) (b : Bool) → b ≡ bit x k → b ≡ true → m ≡ cond (bit x k) m 0
 part-in x k m b e t = rw (← e, t)
 
@@ -43,7 +43,7 @@ union-more ms x n k set p h e f = let s : k + 1 ≡ suc k = omega arith in rw (s
 pub union-done : (ms : List ℕ) (x n k s set : ℕ) → set ≡ unionOf ms x n k → s ≤ k → k ≤ s → set ≡ unionOf ms x n s
 union-done ms x n k s set e h l = let q : k ≡ s = omega arith in e ∙ ap (unionOf ms x n) q
 
--- the maps that are left say what is left
+-- the sets that are left decide
 pub maps-more : (s : ℕ) (ms : List ℕ) (i : ℕ) (ok b : Bool) → (ok && mapsRight s (drop i ms)) ≡ mapsRight s ms → i < length ms → b ≡ ltb (getD ms i 0) (2 ^ s)
     → ((ok && b) && mapsRight s (drop (i + 1) ms)) ≡ mapsRight s ms
 maps-more s ms i ok b e h f =
@@ -55,7 +55,7 @@ maps-done s ms i ok e h k =
     let q : length ms ≡ i = omega arith in
     sym (and-true ok) ∙ ap (λ (l : List ℕ). ok && mapsRight s l) (sym (drop-length ms) ∙ ap (λ (j : ℕ). drop j ms) q) ∙ e
 
--- the state count is 0, or above 16, or in range
+-- the state count is 0, above 16, or in range
 pub no-state : (s q : ℕ) (ms : List ℕ) → s < 1 → false ≡ drawingRight (drawingOf s q ms)
 unfolding drawingRight
 no-state s q ms h = rw (lt-leb 1 s h)
@@ -72,7 +72,7 @@ states-right s q ms b m l h e f = rw (le-leb 1 s l, le-leb s mostStates h, e, f)
 -- ---- making
 
 module _ (d : Drawing) (r : Bool) (e : r ≡ drawingRight d) where
-  -- what is answered and left
+  -- what is answered and written
   abbrev pub Makes : List ℕ → Made → List ℕ → Type 0
   Makes t made t′ = (made ≡ determiniseOf d (length t)) × (t′ ≡ determiniseTable d t)
 

@@ -1,4 +1,4 @@
--- Every claim of this crate is proved.
+-- The proof of all claims of this crate.
 use Rattle.policy_determinise.specs.Proved.{Proved}
 use Rattle.policy_determinise.proofs.Runs.{taken-makes, made-right, allowed-runs, sets-are-ends, sets-exact}
 use Rattle.policy_determinise.proofs.Samples.{worked-examples}

@@ -1,4 +1,4 @@
--- Sets and runs.
+-- A set of states contains exactly the ends of the drawing's paths.
 use Prim.Native.Nat.{ℕ, zero, suc, _+_, _*_, _/_, _%_, _^_, _<_, _≤_}
 use mathlib.Core.Path.{_≡_, refl, sym, ap, _∙_}
 use mathlib.Core.Bool.{Bool, true, false, _&&_, _||_, not, cond}
@@ -45,7 +45,7 @@ fit-of d t =
 
 -- ---- bits
 
--- a map that is not 0 has a bit
+-- a set that is not 0 has a bit
 pub record Bit (m : ℕ) : Type 0 where
   pub at : ℕ
   pub set : bit m at ≡ true
@@ -73,7 +73,7 @@ pub union-bit : (ms : List ℕ) (x n k t : ℕ) → bit (unionOf ms x n (suc k))
 unfolding unionOf
 union-bit ms x n k t = bit-or (unionOf ms x n k) (cond (bit x k) (successors ms k n) 0) t ∙ ap (λ (b : Bool). bit (unionOf ms x n k) t || b) (bit-pick (bit x k) (successors ms k n) t)
 
--- a state of the set from which an event leads to t
+-- a state of the set x from which event n leads to t
 pub record Before (ms : List ℕ) (x n t : ℕ) : Type 0 where
   pub state : ℕ
   pub inside : bit x state ≡ true

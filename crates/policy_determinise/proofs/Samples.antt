@@ -1,4 +1,4 @@
--- The worked samples, by computation.
+-- The examples hold, by computation.
 use mathlib.Core.Path.{refl}
 use Rattle.policy_spec.specs.maps.Maps.{bit, build}
 use Rattle.policy_spec.specs.reachability.Reach.{insert, reachedBy, tableOf, reachAnswer, reachOf}

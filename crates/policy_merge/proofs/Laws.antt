@@ -1,4 +1,4 @@
--- Laws of the code's parts, one for each way out.
+-- Laws of the functions, one for each return.
 use Prim.Native.Nat.{ℕ, zero, suc, _+_, _-_, _*_, _<_, _≤_, min}
 use mathlib.Core.Path.{_≡_, refl, sym, ap, ap₂, _∙_}
 use mathlib.Core.Bool.{Bool, true, false, _&&_}
@@ -20,7 +20,7 @@ use Rattle.policy_merge.specs.declared.Merged.{Merged}
 use Rattle.policy_merge.specs.Pairs.{pair, left, right, both, pairAfter, startPair, sideRight, smaller, mergeMade, withCeilings, mergeOf, mergeTable}
 use Rattle.policy_merge.proofs.Pairs.{side-of, start-pairs}
 
--- an entry that is there is so with any default
+-- within a list, the default does not matter
 getD-any : (l : List ℕ) (i d e : ℕ) → i < length l → getD l i d ≡ getD l i e
 getD-any [] i d e h = absurd (omega arith)
 getD-any (x ∷ l) zero d e h = refl
@@ -53,7 +53,7 @@ pub next-pair : (a b : Policy) (x n s t r : ℕ) → (x ≡ 0 → ⊥) → n < e
 unfolding pairAfter
 next-pair a b x n s t r z h e f g = rw (ne-eqb x 0 z, lt-ltb n events h) (g ∙ ap₂ both e f)
 
--- of the policies, the tables say it alone
+-- the pair after an event depends only on the tables
 pub tables-alone : (a b : Policy) → pairAfter (policyOf 0 0 (a .table) []) (policyOf 0 0 (b .table) []) ≡ pairAfter a b
 unfolding pairAfter
 tables-alone a b = refl
@@ -78,7 +78,7 @@ ceilings-refused m c e = rw (ne-eqb (m .answer .number) 0 e)
 -- ---- merging
 
 module _ (a b : Policy) (x y : Bool) (e : x ≡ sideRight a) (f : y ≡ sideRight b) where
-  -- what is answered and left
+  -- what is answered and written
   abbrev pub Makes : List ℕ → Made → List ℕ → Type 0
   Makes t made t′ = (made ≡ mergeMade a b (length t)) × (t′ ≡ mergeTable a b t)
 

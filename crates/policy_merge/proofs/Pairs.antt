@@ -19,7 +19,7 @@ use Rattle.policy_spec.proofs.reachability.Reach.{nodes-exact, taken-reaches, r
 use Rattle.policy_merge.specs.Pairs.{pair, left, right, both, pairAfter, startPair, sideRight, withCeilings, mergeMade, mergeOf, mergeTable}
 use Rattle.policy_merge.specs.Claims.{Merges, TakenMerges, MergedRight, CeilingsOfBoth, SideInstalls, AllowedByBoth, PairsAreStates, PairsExact}
 
--- what an input has that is not refused with 10 (bad policy)
+-- what holds of a policy that is not refused as bad policy (10)
 pub record Side (p : Policy) : Type 0 where
   pub some-states : 1 ≤ p .states
   pub few-states : p .states ≤ mostStates
@@ -55,7 +55,7 @@ arrow-below p side s n = go (ltb n events)
     go true z = side .entries (events * s + n) z
     go false z = absurd (z refl)
 
--- both arrows or none
+-- both arrows exist, or there is no pair
 pub data Both (s t : ℕ) : ℕ → Type 0 where
   neither : (s ≡ noArrow) ⊎ (t ≡ noArrow) → Both s t 0
   arrows : (s ≡ noArrow → ⊥) → (t ≡ noArrow → ⊥) → Both s t (pair s t)
@@ -114,7 +114,7 @@ module _ (a b : Policy) (sa : Side a) (sb : Side b) where
       go x (arrows e f) r =
           rw (ne-eqb (arrow a s n) noArrow e, ne-eqb (arrow b t n) noArrow f) (r (arrow a s n) (arrow b t n) (omega (arith, arrow-below b sb t n f, sb .few-states)))
 
-  -- so there is one exactly if both allow the list
+  -- so there is a pair exactly if both policies allow the list
   pub pair-allowed : (es : List ℕ) (s t : ℕ) → t < mostStates → not (eqb (nodeAfter (pairAfter a b) (pair s t) es) 0) ≡ (allowedFrom a s es && allowedFrom b t es)
   pair-allowed es s t h = ap (λ (x : ℕ). not (eqb x 0)) (pair-states es s t h) ∙ go (allowedFrom a s es && allowedFrom b t es) (stateFrom a s es) (stateFrom b t es)
     where

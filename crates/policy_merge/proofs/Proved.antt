@@ -1,4 +1,4 @@
--- Every claim of this crate is proved.
+-- The proof of all claims of this crate.
 use Rattle.policy_merge.specs.Proved.{Proved}
 use Rattle.policy_merge.proofs.Pairs.{taken-merges, merged-right, allowed-by-both, pairs-are-states, pairs-exact, ceilings-of-both, side-installs}
 use Rattle.policy_merge.proofs.Swaps.{merge-commutes}

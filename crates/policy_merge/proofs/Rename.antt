@@ -1,4 +1,4 @@
--- Nodes under other names: the numbers and the table stay.
+-- Renaming the nodes changes neither their numbers nor the table.
 use Prim.Native.Nat.{ℕ, zero, suc, _+_, _*_, _/_, _%_}
 use mathlib.Core.Path.{_≡_, refl, sym, ap, ap₂, _∙_}
 use mathlib.Core.Bool.{Bool, true, false, _||_, cond}
@@ -11,7 +11,7 @@ use Rattle.policy_spec.specs.maps.Maps.{build}
 use Rattle.policy_spec.specs.reachability.Reach.{indexOf, known, insert, target, reachedBy, nodes, nodeState, byteOf, statesOf, tableOf}
 use Rattle.policy_spec.proofs.reachability.Places.{Inserts, none, again, anew, inserts}
 
--- name renames the nodes of f from q, which are all in P, to those of g
+-- `name` maps the nodes of f from q, which all satisfy P, to those of g
 pub record Renames (f g : ℕ → ℕ → ℕ) (q : ℕ) (name : ℕ → ℕ) (P : ℕ → Type 0) : Type 0 where
   pub none : name 0 ≡ 0
   pub apart : (x y : ℕ) → P x → P y → name x ≡ name y → x ≡ y

@@ -1,4 +1,4 @@
--- The worked samples, by computation.
+-- The examples hold, by computation.
 use mathlib.Core.Path.{refl}
 use Rattle.installer.specs.table.Tables.{tableRight}
 use Rattle.policy_spec.specs.maps.Maps.{build}

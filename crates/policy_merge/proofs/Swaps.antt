@@ -1,4 +1,4 @@
--- Swapping the inputs gives the same policy.
+-- Swapping the two policies gives the same merged policy.
 use Prim.Native.Nat.{ℕ, _-_, _*_, _<_, _≤_, min}
 use mathlib.Core.Path.{_≡_, refl, sym, ap, _∙_, fun-ext}
 use mathlib.Core.Bool.{Bool, true, false, _||_, cond}
@@ -17,7 +17,7 @@ use Rattle.policy_merge.specs.Pairs.{pair, left, right, both, pairAfter,
 use Rattle.policy_merge.specs.Claims.{Swapped, MergeCommutes}
 use Rattle.policy_merge.proofs.Pairs.{Side, side-of, arrow-below, Both, neither, arrows, boths, both-pair, pair-after}
 
--- the node of the pair the other way round
+-- the number of the swapped pair
 swap : ℕ → ℕ
 swap x = cond (eqb x 0) 0 (pair (right x) (left x))
 
@@ -35,7 +35,7 @@ swap-none : (x : ℕ) → x ≡ 0 → swap x ≡ 0
 unfolding swap
 swap-none x f = rw f
 
--- swapped again it is as it was
+-- swapping twice gives the same pair
 swap-back : (x : ℕ) → Below x → swap (swap x) ≡ x
 swap-back x h = go (eqb x 0) refl
   where

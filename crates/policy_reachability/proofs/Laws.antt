@@ -1,4 +1,4 @@
--- Laws of the code's parts, one for each way out.
+-- Laws of the functions, one for each return.
 use Prim.Native.Nat.{ℕ, suc, _+_, _<_, _≤_}
 use mathlib.Core.Path.{_≡_, sym, ap, _∙_}
 use mathlib.Core.List.{List, _∷_}
@@ -11,7 +11,7 @@ use Rattle.policy_spec.specs.reachability.Reach.{indexOf}
 use Rattle.policy_spec.specs.declared.reachability.Worklist.{Worklist}
 use Rattle.policy_spec.specs.reachability.Worklists.{WorklistSized, nodesOf, insertTarget}
 
--- the place of a number, of which the first i are not it
+-- the number is none of the first i elements
 abbrev pub Sought : List ℕ → ℕ → ℕ → Type 0
 Sought l x i = i + indexOf (drop i l) x ≡ indexOf l x
 
@@ -41,7 +41,7 @@ module _ (ns : List ℕ) (n x i : ℕ) (size : n ≤ length ns) (so : Sought (ta
 
 -- ---- steps
 
--- what is found, with an arrow's number
+-- the work list with an arrow's target stored
 abbrev pub numbered : Worklist → ℕ → ℕ → Worklist
 numbered f k p = record { nodes = f .nodes; count = f .count; arrows = set (f .arrows) k p }
 

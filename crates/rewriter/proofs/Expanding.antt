@@ -1,4 +1,4 @@
--- Laws of bundles written in place of the words at the start of a list, the last first.
+-- Laws of replacing the words at the start of a list by their bundles, from the last to the first.
 use mathlib.Core.Path.{_≡_, refl, sym, ap, _∙_}
 use mathlib.Core.Logic.{⊎-elim}
 use mathlib.Core.List.{List, [], _∷_}
@@ -19,7 +19,7 @@ use Rattle.words.specs.Packing.{Packable}
 use Rattle.rewriter.specs.Rewriting.{BundlesFit}
 use Rattle.rewriter.proofs.Filling.{fits}
 
--- ---- what is stored above leaves what is below
+-- ---- a store at higher indices keeps the lower ones
 
 set-below : (l : List ℕ) (m j v : ℕ) (xs : List ℕ) → j < m → set (sets l m xs) j v ≡ sets (set l j v) m xs
 set-below l m j v [] h = refl
@@ -51,13 +51,13 @@ routine-below k l m j xs h =
     (λ t. let g = ltb-false j k t in ap instrOf (past-end (sets l m xs) g ∙ sym (past-end l g)))
     (cases (ltb j k))
 
--- ---- the bundles, the last first
+-- ---- the bundles, from the last to the first
 
 module _ (l : Layout) (n k : ℕ) (out₀ : List ℕ) where
   abbrev is : ℕ → Instr
   is = routine (take k out₀)
 
-  -- the bundles from h on are written
+  -- invariant: the bundles from h on are written
   abbrev Expanded : ℕ → List ℕ → Type 0
   Expanded h out = out ≡ sets out₀ (bundleLength * h) (bundlesFrom l n is h (n - h))
 

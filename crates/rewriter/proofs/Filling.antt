@@ -1,4 +1,4 @@
--- Laws of what rewriting leaves in the output.
+-- Laws of the output of rewriting.
 use mathlib.Core.Path.{_≡_, _∙_}
 use mathlib.Core.List.{List, [], _∷_}
 use Prim.Native.Nat.{ℕ, _+_, _*_, _≤_}

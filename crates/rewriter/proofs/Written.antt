@@ -1,4 +1,4 @@
--- Laws of a whole rewriting: what a taken routine is ready for, and what its output holds.
+-- Laws of a whole rewriting: what holds once a routine is taken, and what the output has.
 use mathlib.Core.Path.{_≡_, refl, sym, ap, _∙_, subst}
 use mathlib.Core.Bool.{true}
 use mathlib.Core.List.{List, _++_}
@@ -25,7 +25,7 @@ use Rattle.spec.proofs.Conditions.{Taken, taken-of, size-laws, count-most, rout
 use Rattle.buffers.proofs.stores.Storing.{store-front}
 use Rattle.rewriter.specs.Rewriting.{BundlesFit}
 
--- facts of an instruction as the test of it
+-- an instruction's facts pass its test
 valid-of : (n : ℕ) (i : Instr) → Valid n i → valid n i ≡ true
 unfolding valid
 valid-of n HALT g = refl

@@ -1,4 +1,4 @@
--- Every claim of this crate is proved.
+-- The proof of all claims of this crate.
 use Rattle.samples.specs.Proved.{Proved}
 use Rattle.samples.proofs.Tray.{tray-holds}
 use Rattle.samples.proofs.Samples.{sample-holds}

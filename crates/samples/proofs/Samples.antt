@@ -23,7 +23,7 @@ use Rattle.samples.specs.Sample.{layout, policy, code, commands, memory,
 use Rattle.spec.proofs.Bools.{no}
 use Rattle.spec.proofs.Isolation.{isolation}
 
--- a store to a free cell
+-- storing to a free cell gives a low-equivalent memory
 pub free-set : (mem : List ℕ) (i x : ℕ) → (inBox layout i || protected layout i) ≡ false → LowEqual layout (set mem i x) mem
 free-set mem i x f j s = getD-set-other mem i j x 0 (λ e. no (sym f ∙ ap (λ (k : ℕ). inBox layout k || protected layout k) (sym e) ∙ s))
 

@@ -1,4 +1,4 @@
--- The trial's output, by computation.
+-- The output of `trial`, by computation.
 use mathlib.Core.Path.{refl}
 use lib.Count.{ones, leadingZeros}
 use Rattle.spec.specs.Layouts.{rightLayout}

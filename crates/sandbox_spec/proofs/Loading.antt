@@ -1,4 +1,4 @@
--- What a load that answers 0 leaves is on demand 3's premise; and how far a load's answer goes.
+-- A load that is taken (0) satisfies demand 3's premise; also bounds of a load's answer.
 use mathlib.Core.Path.{_≡_, refl, sym, _∙_, ap, subst}
 use mathlib.Core.List.{List}
 use Prim.Native.Nat.{ℕ}
@@ -73,7 +73,7 @@ loads lay pol bytes out mem z =
           isolation lay pol ws mem gs (record { passed = passed; installed = p .installed; preserved = subst (λ (x : Session). MemoriesPreserved lay ws x gs) f l });
     }
 
--- the number fits a byte, and the place is at most the commands that there can be
+-- the number fits a byte, and the place is at most 4,096
 translate-bound : (lay : Layout) (s : List ℕ) (room : ℕ) → Bounded mostCommands room (translateAnswer lay s room)
 unfolding translateAnswer
 translate-bound lay s room =

@@ -1,4 +1,4 @@
--- Every claim of this crate is proved.
+-- The proof of all claims of this crate.
 use Rattle.sandbox_spec.specs.Proved.{Proved}
 use Rattle.sandbox_spec.proofs.Loading.{loads}
 

@@ -1,4 +1,4 @@
--- Every claim of this crate is proved.
+-- The proof of all claims of this crate.
 use Rattle.transparency.specs.Proved.{Proved}
 use Rattle.transparency.proofs.Transparent.{transparent, engine-transparent, transparent-paused, transparent-next, transparent-step, transparent-resumed, engine-transparent-next}
 use Rattle.transparency.proofs.Samples.{sample-holds}

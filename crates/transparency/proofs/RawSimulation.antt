@@ -1,4 +1,4 @@
--- The raw run of a routine that behaves is the guest rule, instruction by instruction.
+-- The raw run of a well-behaved routine follows the guest rule, instruction by instruction.
 use Prim.Native.Nat.{ℕ, zero, suc, _+_, _-_, _%_, _<_}
 use mathlib.Core.Path.{_≡_, refl, sym, _∙_, ap, subst}
 use mathlib.Core.Bool.{Bool, true, false, cond}
@@ -24,7 +24,7 @@ use Rattle.spec.specs.Runs.{eventsOf}
 use Rattle.spec.proofs.Simulation.{box-alike, events-snoc, state-more}
 use Rattle.transparency.specs.Raw.{Raw, rawReg, rawGoto, rawEvent, rawExec, rawStep, rawAfter, Behaves, BehavesFor}
 
--- the raw run beside the guest
+-- the raw run and the guest agree
 pub record RawSimulates (lay : Layout) (pol : Policy) (g : Guest) (r : Raw) : Type 0 where
   pub regs : r .regs ≡ g .regs
   pub at : r .at ≡ g .at
@@ -37,7 +37,7 @@ pub record RawSimulates (lay : Layout) (pol : Policy) (g : Guest) (r : Raw) : Ty
   pub state : stateOver pol (eventsOf (g .records)) ≡ g .state
 
 module _ (lay : Layout) (pol : Policy) (N : ℕ) (fixed : (x : ℕ) → inBox lay x ≡ true → maskOf (lay .low) (lay .high) x ≡ x) (reads : List ℕ) where
-  -- the same registers and next instruction on both sides
+  -- they still agree with the same new registers and next instruction
   on : (g : Guest) (r : Raw) (rs rs′ : List ℕ) (at at′ : ℕ) → RawSimulates lay pol g r → rs′ ≡ rs → at′ ≡ at → RawSimulates lay pol (guestAt g rs (g .box) at) (rawGoto r rs′ (r .mem) at′)
   on g r rs rs′ at at′ l e f =
       record { regs = e; at = f; cells = l .cells; room = l .room; box = l .box; records = l .records; used = l .used; status = refl; state = l .state }
@@ -48,7 +48,7 @@ module _ (lay : Layout) (pol : Policy) (N : ℕ) (fixed : (x : ℕ) → inBox la
   further : (g : Guest) (r : Raw) → RawSimulates lay pol g r → r .at + 1 ≡ g .at + 1
   further g r l = ap (λ (x : ℕ). x + 1) (l .at)
 
-  -- one event more, and the state after it
+  -- the policy's state after one more event
   moved : (g : Guest) (e x : ℕ) → stateOver pol (eventsOf (g .records)) ≡ g .state → stateOver pol (eventsOf (snoc (g .records) (pairOf e x))) ≡ arrow pol (g .state) e
   moved g e x s = ap (stateOver pol) (events-snoc (g .records) (pairOf e x)) ∙ state-more pol (eventsOf (g .records)) (g .state) e s
 

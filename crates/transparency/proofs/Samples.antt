@@ -47,7 +47,7 @@ behaves (suc (suc (suc (suc (suc (suc zero)))))) h t = λ z. omega (arith, z)
 behaves (suc (suc (suc (suc (suc (suc (suc zero))))))) h t = tt
 behaves (suc (suc (suc (suc (suc (suc (suc (suc j)))))))) h t = absurd (omega (arith, h))
 
--- of the first k instructions, where the runs used no reading but the first
+-- the first k instructions behave well if the runs used at most the first reading
 behaved : (us : List ℕ) (k : ℕ) → k ≤ 8 → IsPrefix us readings → Behaved layout policy code memory memory us readings k
 unfolding leadingZeros bundlesFor
 behaved us k l b = record { box = record { room = lit< tt; cells = λ i h. refl }; readings = b; behaves = λ j m. behaves j (omega (arith, l, m)) }

@@ -1,4 +1,4 @@
--- The sandbox does not alter a well-behaved routine: the raw run is the guest rule, and so are machine and engine.
+-- The sandbox does not alter a well-behaved routine: raw run, machine and engine all follow the guest rule.
 use Prim.Native.Nat.{ℕ, suc, _+_, _-_, _<_, _≤_}
 use mathlib.Core.Path.{_≡_, refl, sym, _∙_, ap, subst}
 use mathlib.Core.Bool.{true}
@@ -41,7 +41,7 @@ use Rattle.transparency.specs.Claims.{TransparentPaused, TransparentNext
 use Rattle.transparency.specs.Claims.{EngineTransparentNext}
 use Rattle.transparency.proofs.RawSimulation.{RawSimulates, after-like}
 
--- a cell of the sandbox, among the memory's and among the sandbox's own
+-- a cell of the sandbox, in memory and in the guest's copy
 box-cell : (lay : Layout) (mem : List ℕ) (i : ℕ) → lay .low ≤ lay .high → inBox lay i ≡ true → getD (boxOf lay mem) (i - lay .low) 0 ≡ getD mem i 0
 box-cell lay mem i o h =
     let p = in-box lay i h in
@@ -58,7 +58,7 @@ module _ (lay : Layout) (pol : Policy) (code mem raw us reads : List ℕ) (k : �
   facts : LayoutFacts lay
   facts = layout-facts lay (fitted .0)
 
-  -- installing leaves the sandbox
+  -- installing does not change the sandbox
   kept : (i : ℕ) → inBox lay i ≡ true → getD (installMemory lay pol mem) i 0 ≡ getD mem i 0
   unfolding installMemory
   kept i h =
@@ -84,11 +84,11 @@ module _ (lay : Layout) (pol : Policy) (code mem raw us reads : List ℕ) (k : �
         state = refl;
       }
 
-  -- the guest that is given the readings that the runs used
+  -- the guest with the readings that the runs used
   abbrev guest : Guest
   guest = guestAfter lay pol (bundlesFor (length code)) (routine code) us (guestStart lay pol (installMemory lay pol mem)) k
 
-  -- the raw run is that guest
+  -- the raw run agrees with that guest
   raw-like : length us ≡ guest .used → RawSimulates lay pol guest (rawRun lay code raw reads k)
   raw-like u =
       let N = bundlesFor (length code) in
@@ -97,7 +97,7 @@ module _ (lay : Layout) (pol : Policy) (code mem raw us reads : List ℕ) (k : �
       subst (λ (g : Guest). RawSimulates lay pol g (rawRun lay code raw reads k)) (sym e)
       (after-like lay pol N (masks lay (fitted .0) .fixed) reads (routine code) g0 (rawStart raw) k (b .behaves) start-like)
 
-  -- what simulates the guest is the same as the raw run
+  -- what agrees with the guest agrees with the raw run
   alike : (regs m : List ℕ) (records : List Pair) (t : Status) → t ≡ guest .status → regs ≡ guest .regs → boxOf lay m ≡ guest .box → records ≡ guest .records
       → length us ≡ guest .used → SameAsRaw lay (rawRun lay code raw reads k) regs m records (length us) t
   alike regs m records t e r x p u =
@@ -110,7 +110,7 @@ module _ (lay : Layout) (pol : Policy) (code mem raw us reads : List ℕ) (k : �
         readings = u ∙ sym (l .used);
       }
 
--- a machine that is the guest after k instructions is the raw run
+-- a machine that agrees with the guest after k instructions agrees with the raw run
 machine-alike : (lay : Layout) (pol : Policy) (code mem raw reads : List ℕ) (room : ℕ) (gs : List RunInput) (p k : ℕ) → Sandboxed lay pol code mem raw reads room gs k →
     let c = after lay pol (commandsOf lay code) mem gs in
     SimulatesAt lay p (guestFor lay pol code mem c k) c → MachineSameAsRaw lay (rawRun lay code raw reads k) c
@@ -130,7 +130,7 @@ transparent-next lay pol code mem raw reads room gs x s t g lg n =
     let u = transparent lay pol code mem raw reads room gs x s in
     progress lay pol (commandsOf lay code) mem gs (x .premise) s (u .ending ∙ t) g lg n
 
--- ---- a run that goes on
+-- ---- a run that continues
 module _ (lay : Layout) (pol : Policy) (code mem raw reads : List ℕ) (room : ℕ) (gs : List RunInput) where
   abbrev commands : List ℕ
   commands = commandsOf lay code
@@ -138,11 +138,11 @@ module _ (lay : Layout) (pol : Policy) (code mem raw reads : List ℕ) (room : �
   abbrev now : Session
   now = after lay pol commands mem gs
 
-  -- a guest of the routine that is given these readings
+  -- the guest with given readings
   abbrev guestGiven : List ℕ → ℕ → Guest
   guestGiven us j = guestAfter lay pol (bundlesFor (length code)) (routine code) us (guestStart lay pol (installMemory lay pol mem)) j
 
-  -- the readings used by one instruction more are the raw run's
+  -- the readings used after one more instruction are the raw run's
   prefix-more : (us : List ℕ) (j u : ℕ) (rd : List ℕ) → length us ≡ guestGiven us j .used → length (us ++ take u rd) ≡ guestGiven (us ++ take u rd) (suc j) .used
       → IsPrefix us reads → getD rd 0 0 ≡ getD reads (length us) 0 → IsPrefix (us ++ take u rd) reads
   unfolding guestAfter
@@ -190,7 +190,7 @@ module _ (lay : Layout) (pol : Policy) (code mem raw reads : List ℕ) (room : �
         same = subst (MachineSameAsRaw lay (rawRun lay code raw reads (suc j))) more (subst (λ (n : ℕ). MachineSameAsRaw lay (rawRun lay code raw reads n) d) k met);
       }
 
-  -- by another name of the count
+  -- the same with the count written as k
   follows-at : (k j p : ℕ) → suc j ≡ k → Sandboxed lay pol code mem raw reads room gs k → SimulatesAt lay p (guestFor lay pol code mem now j) now
       → (g : RunInput) → ResumableAsRaw lay now reads g → ReachesBoundary lay commands now g k → ReachesSameAsRaw lay code raw reads now g k
   follows-at k j p e x a g o r =

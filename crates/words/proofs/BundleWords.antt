@@ -19,12 +19,12 @@ use Rattle.spec.proofs.Conditions.{valid-is}
 use Rattle.words.specs.fields.Truncation.{truncatedWord}
 use Rattle.words.specs.Packing.{Packable}
 
--- the numbers of the plain commands have 32 bits
+-- the numbers of plain commands have 32 bits
 plain-top : (k v : ℕ) → k ≤ guest .sar → v ≤ limitsOf (k + plainStep) .v → v ≤ topWord
 unfolding all
 plain-top k v h l = raised (λ k. limitsOf (k + plainStep) .v) (λ _. topWord) (guest .load) refl k v (omega arith) l
 
--- packing cuts nothing off fields that fit
+-- if fields fit, packing cuts nothing off
 pub untruncated-word : (k d a b c v : ℕ) → k < 2 ^ 8 → d < 2 ^ 4 → a < 2 ^ 4 → b < 2 ^ 4 → c < 2 ^ 4 → v < 2 ^ 32 → truncatedWord k d a b c v ≡ packOf k d a b c v
 untruncated-word k d a b c v hk hd ha hb hc hv =
     rw (mod-eq-of-lt hk, mod-eq-of-lt hd, mod-eq-of-lt ha, mod-eq-of-lt hb, mod-eq-of-lt hc, mod-eq-of-lt hv)
@@ -32,7 +32,7 @@ untruncated-word k d a b c v hk hd ha hb hc hv =
 four : (w x y z w′ x′ y′ z′ : ℕ) → w ≡ w′ → x ≡ x′ → y ≡ y′ → z ≡ z′ → _≡_ {A = Bundle} record { words = w ∷ x ∷ y ∷ z ∷ [] } record { words = w′ ∷ x′ ∷ y′ ∷ z′ ∷ [] }
 four w x y z w′ x′ y′ z′ ew ex ey ez i = record { words = ew i ∷ ex i ∷ ey i ∷ ez i ∷ [] }
 
--- one law for each instruction: its words, cut, are its bundle
+-- one law for each instruction: its packed words are its bundle
 module _ (l : Layout) (n : ℕ) (i : Instr) (f : Packable l n i) where
   facts : (j : Instr) → i ≡ j → Valid n j
   facts j e = valid-is n j (subst (λ (x : Instr). valid n x ≡ true) e (f .valid))
@@ -52,7 +52,7 @@ module _ (l : Layout) (n : ℕ) (i : Instr) (f : Packable l n i) where
       let t = plain-top k v h1 (g .8) in
       rw e (four _ _ _ _ _ _ _ _ (ew ∙ untruncated-word (k + plainStep) d a b 0 v (omega arith) (omega arith) (omega arith) (omega arith) (omega arith) (omega arith)) refl refl refl)
 
-  -- LOAD and STORE alike: the mask of their address, then what is done there
+  -- LOAD and STORE: the mask of their address, then the access
   module _ (hh : l .high < 2 ^ 32) (hl : l .low < 2 ^ 32) where
     lay-access : (a : ℕ) → a < 2 ^ 4 → (w x y y′ : ℕ) → w ≡ truncatedWord (command .andi) hidden a 0 0 (l .high) → x ≡ truncatedWord (command .ori) hidden hidden 0 0 (l .low) → y ≡ y′
         → _≡_ {A = Bundle} record { words = w ∷ x ∷ y ∷ 0 ∷ [] } record { words = packOf (command .andi) hidden a 0 0 (l .high) ∷ packOf (command .ori) hidden hidden 0 0 (l .low) ∷ y′ ∷ 0 ∷ [] }
@@ -112,7 +112,7 @@ module _ (l : Layout) (n : ℕ) (i : Instr) (f : Packable l n i) where
       (four _ _ _ _ _ _ _ _ (ew ∙ untruncated-word (command .look) hidden 0 0 0 v (omega arith) (omega arith) (omega arith) (omega arith) (omega arith) (omega arith)) ex
       (ey ∙ untruncated-word (command .event) 0 0 0 0 v (omega arith) (omega arith) (omega arith) (omega arith) (omega arith) (omega arith)) ez)
 
-  -- the sums on the way fit
+  -- the sums do not overflow
   pub kind-fits : (k d a b v : ℕ) → i ≡ PLAIN k d a b v → k + plainStep < 2 ^ 64
   kind-fits k d a b v e = let g = facts (PLAIN k d a b v) e in omega (arith, g .1)
 

@@ -1,4 +1,4 @@
--- Laws of a guest's words.
+-- Laws of guest words.
 use mathlib.Core.Path.{_≡_}
 use mathlib.Core.Bool.{Bool}
 use Prim.Native.Nat.{_%_, _^_}
@@ -8,7 +8,7 @@ use Rattle.spec.specs.Words.{fieldsRefusal}
 use Rattle.words.specs.fields.Truncation.{truncateFields}
 use Rattle.spec.proofs.WordLaws.{bounds}
 
--- packing cuts nothing off an instruction that is not refused
+-- if an instruction is not refused, packing cuts nothing off
 pub untruncated : (x : Bool) (f : Fields) → fieldsRefusal x f ≡ 0 → truncateFields f ≡ f
 untruncated x f e =
     let g = bounds x f e in

@@ -1,4 +1,4 @@
--- What a test of the sign tells of the bits, and shifts of any size. Assumes nothing.
+-- What the sign test says about the bits, and shifts of any size. Assumes nothing.
 use Prim.Native.Nat.{ℕ, _+_, _-_, _*_, _/_, _%_, _^_, _<_, _≤_, min}
 use mathlib.Core.Path.{_≡_, refl, sym, ap, _∙_, subst}
 use mathlib.Core.Bool.{Bool, true, false, true≢false, false≢true}
@@ -35,12 +35,12 @@ none-left n v h = go (ltb v topShift) refl
         let l : topShift ≤ v = ltb-false v topShift q in
         ap (λ (y : ℕ). n / 2 ^ y) (min-eq-right l) ∙ div-eq-of-lt h ∙ sym (div-eq-of-lt (lt-of-lt-of-le h (pow-mono l)))
 
--- a shift past the last bit leaves the sign alone, as the shift to it does
+-- a shift by more than 31 gives the same as a shift by 31: only the sign is left
 sign-left : (z : ℤ) (v : ℕ) → mag z < 2 ^ topShift → shrZ z (2 ^ min v topShift) ≡ shrZ z (2 ^ v)
 sign-left (pos n) v h = ap pos (none-left n v h)
 sign-left (negsuc n) v h = ap negsuc (none-left n v h)
 
--- what the machine reads back of a shifted number is the shifted number
+-- the bits of a shifted signed number, read back, are the shifted number
 pub shifted : (x v s : ℕ) (z : ℤ) → Fits w32 x → SFits w32 z → z ≡ twos x → s ≡ min v topShift
     → toZ w32 (ofZ w32 (shrZ (toZ w32 (ofZ w32 z)) (2 ^ s))) ≡ shrZ (twos x) (2 ^ v)
 shifted x v s z f g e m =
@@ -49,7 +49,7 @@ shifted x v s z f g e m =
     ∙ ap (λ (y : ℕ). shrZ (twos x) (2 ^ y)) m
     ∙ sign-left (twos x) v (sfits-toZ f .sfits)
 
--- a shift by a cell's bits or more loses them all
+-- shifting by 32 or more leaves 0
 pub all-lost : (x v : ℕ) → cellBits ≤ v → 0 ≡ shlOf x v
 all-lost x v h =
     let e : v - cellBits + cellBits ≡ v = omega arith in

@@ -1,4 +1,4 @@
--- A pair set cell by cell, and an order's value.
+-- Writing a pair cell by cell, and an order's value.
 use Prim.Native.Nat.{ℕ, _+_, _*_, _<_, _≤_}
 use mathlib.Core.Path.{_≡_, sym}
 use mathlib.Core.List.{List}

@@ -1,4 +1,4 @@
--- Laws of storing a list over another, element after element.
+-- Laws of storing a list over another, element by element.
 use Prim.Native.Nat.{ℕ, suc, _+_, _<_, _≤_}
 use mathlib.Core.Path.{_≡_, refl, sym, ap, _∙_}
 use mathlib.Core.List.{List, _++_, append-nil}
@@ -7,7 +7,7 @@ use native.Mathlib.Nat.{add-zero, zero-add, le-of-eq}
 use lib.ListN.{length, getD, set, drop, length-set, drop-of-length-le}
 use lib.Seq.{sets, sets-eq, drop-cons}
 
--- i of t are stored over what was out₀, from `at` on: storing what is left gives the whole
+-- i elements of t are stored over out₀ from `at` on; storing the rest gives the whole
 pub record Stored (out₀ : List ℕ) (at : ℕ) (t : List ℕ) (i : ℕ) (out : List ℕ) : Type 0 where
   pub whole : sets out (at + i) (drop i t) ≡ sets out₀ at t
   pub within : i ≤ length t
@@ -28,7 +28,7 @@ module _ (out₀ : List ℕ) (at : ℕ) (t : List ℕ) where
     pub store-done : length t ≤ i → out ≡ sets out₀ at t
     store-done h = sym (ap (sets out (at + i)) (drop-of-length-le t h)) ∙ s .whole
 
--- stored from the start, and over all of them
+-- stored from the start, and over the whole list
 pub store-front : (out t : List ℕ) → length t ≤ length out → sets out 0 t ≡ t ++ drop (length t) out
 store-front out t h = sets-eq t out 0 (omega arith) ∙ rw zero-add
 

@@ -1,4 +1,4 @@
--- What rewriting and checking answer and leave, said of the numbers of a C host.
+-- What rewriting and checking answer and leave, as a C host's numbers.
 use Prim.Native.Nat.{ℕ}
 use mathlib.Core.Path.{_≡_, _∙_, ap}
 use mathlib.Core.List.{List}
@@ -9,7 +9,7 @@ use Rattle.spec.specs.Bundles.{rewriteAnswer, rewriteOutput, checkAnswer}
 use Rattle.capi_spec.specs.Numbers.{layoutFrom, answerTo}
 use Rattle.capi_spec.specs.Hosts.{checkFor}
 
--- what a part answers and leaves under the layout of a host's numbers
+-- a part's answer and output, with the layout from a host's numbers
 module _ (xs : List ℕ) (l : Layout) (e : l ≡ layoutFrom xs) where
   pub rewritten : (ws out left ns : List ℕ) (a : Answer) → a ≡ rewriteAnswer l ws (length out) → left ≡ rewriteOutput l ws out → ns ≡ answerTo a
       → (ns ≡ answerTo (rewriteAnswer (layoutFrom xs) ws (length out))) × (left ≡ rewriteOutput (layoutFrom xs) ws out)

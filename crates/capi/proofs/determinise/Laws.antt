@@ -1,4 +1,4 @@
--- What is answered and left, said of the numbers of a C host.
+-- What making a policy from a drawing answers and leaves, as a C host's numbers.
 use Prim.Native.Nat.{ℕ, _^_, _<_, _≤_}
 use mathlib.Core.Path.{_≡_, refl, sym, _∙_, ap, subst}
 use mathlib.Core.Bool.{Bool, true, false}
@@ -23,7 +23,7 @@ pub starts-none : (q : ℕ) → 65536 ≤ q → 0 ≡ startsFrom q
 unfolding startsFrom
 starts-none q h = rw (le-ltb q (2 ^ mostStates) h)
 
--- a map with a bit above 15 is refused, and so is none
+-- a start set with a bit above 15 is refused, and so is the empty set
 wide : (s q : ℕ) (ms : List ℕ) → 2 ^ mostStates ≤ q → drawingRight (drawingOf s q ms) ≡ false
 wide s q ms h = go (drawingRight (drawingOf s q ms)) refl
   where
@@ -47,7 +47,7 @@ narrow s q ms room m e = subst (λ (x : Made). x .answer .place < 2 ^ 32) (sym e
     go false f = rw f (omega arith)
     go true f = rw f (omega (arith, place-most (setAfter (drawingOf s q ms)) q room))
 
--- what is answered and left is that of the starts as the host gave them
+-- the result is that for the starts as the host gave them
 module _ (s q r : ℕ) (ms table : List ℕ) (e : r ≡ startsFrom q) where
   abbrev SameObservations : Type 0
   SameObservations = (determiniseOf (drawingOf s r ms) (length table) ≡ determiniseOf (drawingOf s q ms) (length table))

@@ -1,4 +1,4 @@
--- What the two checks of the class answer, said of the numbers of a C host.
+-- What the two checks for forward routines answer, as a C host's numbers.
 use Prim.Native.Nat.{ℕ, _^_, _<_}
 use mathlib.Core.Path.{_≡_, _∙_, ap}
 use mathlib.Core.List.{List}
@@ -21,7 +21,7 @@ narrow-check-forward l ws a e = narrow a (checkForwardAnswer l ws) e (check-forw
 pub forward-is : (ws ns : List ℕ) (a : Answer) → a ≡ forwardAnswer ws → ns ≡ answerTo a → ns ≡ answerTo (forwardAnswer ws)
 forward-is ws ns a p r = r ∙ ap answerTo p
 
--- the answer of the check of commands, under the layout of a host's numbers
+-- the answer of the check of commands, with the layout from a host's numbers
 module _ (xs : List ℕ) (l : Layout) (e : l ≡ layoutFrom xs) where
   pub checked-forward : (ws ns : List ℕ) (a : Answer) → a ≡ checkForwardAnswer l ws → ns ≡ answerTo a → ns ≡ answerTo (checkForwardAnswer (layoutFrom xs) ws)
   checked-forward ws ns a p r = r ∙ ap answerTo (p ∙ ap (λ (k : Layout). checkForwardAnswer k ws) e)

@@ -1,4 +1,4 @@
--- What installing answers and leaves, said of the numbers of a C host.
+-- What installing answers and leaves, as a C host's numbers.
 use Prim.Native.Nat.{ℕ}
 use mathlib.Core.Path.{_≡_, ap}
 use mathlib.Core.List.{List}
@@ -9,7 +9,7 @@ use Rattle.spec.specs.Machines.{installMemory, installOf}
 use Rattle.capi_spec.specs.Numbers.{layoutFrom, machineTo, answerTo}
 use Rattle.capi_spec.specs.Hosts.{HostInstalled, hostInstalled, installFor}
 
--- under the layout of a host's numbers
+-- with the layout from a host's numbers
 pub installed : (xs : List ℕ) (l : Layout) → l ≡ layoutFrom xs → (pol : Policy) (mem mem′ ms ns : List ℕ) (i : Installed) → ms ≡ machineTo (i .machine) → ns ≡ answerTo (i .answer)
     → i ≡ installOf l pol mem → mem′ ≡ installMemory l pol mem → hostInstalled ns ms mem′ ≡ installFor xs pol mem
 unfolding installFor

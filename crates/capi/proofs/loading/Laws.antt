@@ -1,4 +1,4 @@
--- What loading answers and leaves, said of the numbers of a C host.
+-- What loading answers and leaves, as a C host's numbers.
 use Prim.Native.Nat.{ℕ}
 use mathlib.Core.Path.{_≡_, ap}
 use mathlib.Core.List.{List}
@@ -10,7 +10,7 @@ use Rattle.sandbox_spec.specs.Loading.{loadCommands, loadMemory, loadOf}
 use Rattle.capi_spec.specs.Numbers.{layoutFrom, machineTo, answerTo}
 use Rattle.capi_spec.specs.Hosts.{HostLoaded, hostLoaded, loadFor}
 
--- under the layout of a host's numbers
+-- with the layout from a host's numbers
 pub loaded : (xs : List ℕ) (l : Layout) → l ≡ layoutFrom xs → (pol : Policy) (mem mem′ ms ns : List ℕ) (i : Installed) → ms ≡ machineTo (i .machine) → ns ≡ answerTo (i .answer)
     → (bytes out out′ : List ℕ) → i ≡ loadOf l pol bytes (length out) mem → out′ ≡ loadCommands l pol bytes out mem → mem′ ≡ loadMemory l pol bytes (length out) mem
     → hostLoaded ns ms out′ mem′ ≡ loadFor xs pol bytes out mem

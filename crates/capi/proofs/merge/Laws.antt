@@ -1,4 +1,4 @@
--- What is answered and left, said of the numbers of a C host.
+-- What merging answers and leaves, as a C host's numbers.
 use Prim.Native.Nat.{ℕ, _+_, _^_, _<_}
 use mathlib.Core.Path.{_≡_, refl, sym, _∙_, ap, ap₂, subst}
 use mathlib.Core.Bool.{Bool, true, false, _&&_}
@@ -19,7 +19,7 @@ pub side-of : (xs cs : List ℕ) → cs ≡ ceilingsFrom xs → sideOf (getD xs 
 unfolding sideFrom
 side-of xs cs e = ap (sideOf (getD xs 0 0) (getD xs 1 0)) e
 
--- the ceilings stored behind the two others, over zeros
+-- the ceilings are stored after states and start, over zeros
 pub merged-of : (m : Merged) (xs : List ℕ) → length (m .ceilings) ≡ orders → xs ≡ sets (m .policy .states ∷ m .policy .start ∷ replicate orders 0) 2 (m .ceilings) → xs ≡ mergedTo m
 merged-of m xs h e =
     let two : List ℕ → List ℕ = λ ys. m .policy .states ∷ m .policy .start ∷ ys in
@@ -35,7 +35,7 @@ narrow-merged a c b d room m e = subst (λ (x : Merged). x .answer .place < 2 ^ 
     go false f = rw f (omega arith)
     go true f = rw f (omega (arith, place-most (pairAfter a b) (startPair a b) room))
 
--- what is answered and left is that of the numbers
+-- the result is that for the policies from a host's numbers
 module _ (xs ys left right table : List ℕ) (one other : Side) (e : one ≡ sideFrom xs) (f : other ≡ sideFrom ys) where
   abbrev policyWith : Side → List ℕ → Policy
   policyWith s t = policyOf (s .policy .states) (s .policy .start) t []

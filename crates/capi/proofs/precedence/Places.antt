@@ -1,4 +1,4 @@
--- The place has 32 bits.
+-- The place of the answer has 32 bits.
 use Prim.Native.Nat.{ℕ, _^_, _<_}
 use mathlib.Core.Path.{_≡_, sym, subst}
 use mathlib.Core.List.{List}

@@ -61,7 +61,7 @@ calls-are lay ws =
     (λ c g. called engine-round-trips (λ m. resultTo (runOf l ws m (g .memory) (g .budget) (g .readings) (g .log))) (c .engine))
     (λ c g n. let q = carries l ws c g _ refl in (ap engineTo (q .0), q .1 ∙ n))
 
--- ---- the memory that was laid out is an installation's
+-- ---- the memory comes from an installation
 record PreparedFacts (l : Layout) (pol : Policy) (mem left : List ℕ) : Type 0 where
   taken : installAnswer l pol mem .number ≡ 0
   memory : left ≡ installMemory l pol mem
@@ -88,7 +88,7 @@ host-engine-isolation lay pol mem ws left gs laid take lends =
 
 -- ---- two lists
 
--- a run whose memory has U cells when it is done was not refused for its length, and its memory is the one memory
+-- a run that leaves a memory of U cells was not refused for its length, and its memory is the session's
 module _ (lay : Layout) (ws : List ℕ) (takes : refusalBy lay ws (lay .size) .number ≡ 0) where
   fitted : (c : Session) (g : RunInput) → length (runOn lay ws c g .mem) ≡ lay .size → length (g .memory) ≡ lay .size
   unfolding runOn runOf
@@ -127,7 +127,7 @@ host-engine-noninterference lay pol pol′ mem mem′ ws left left′ gs gs′ l
     (same-calls (afterRun l ws) (runAs l ws) (λ r. resultTo (r .result)) pairsPlace l (same-run l ws takes) (initialSession l pol mem) (initialSession l pol′ mem′) gs gs′ given
     (a .isolated .noninterference pol′ mem′ gs′ (b .premise) equal given))
 
--- ---- calls of both functions are calls of the first
+-- ---- on words that were validated, a call of either function is a call of the first
 module _ (lay ws : List ℕ) (e : firstRefused (refusalAt (length ws)) ws 0 (answer (numberOf Taken) 0) .number ≡ 0) where
   same-entry : (n : Entry) (xs mem : List ℕ) (budget : ℕ) (rd log : List ℕ) → entryFor n lay ws xs mem budget rd log ≡ engineFor lay ws xs mem budget rd log
   unfolding entryFor engineFor continueFor

@@ -1,4 +1,4 @@
--- Every claim of this module is proved.
+-- The proof of all claims of this module.
 use Rattle.capi_spec.specs.engine.Proved.{Proved}
 use Rattle.capi_spec.proofs.engine.Calls.{engine-round-trips, host-engine-isolation, host-engine-noninterference, host-entries-mix}
 use Rattle.capi_spec.proofs.engine.Samples.{sample-holds}

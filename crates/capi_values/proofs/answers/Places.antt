@@ -1,4 +1,4 @@
--- Every place has 32 bits.
+-- Every answer's place has 32 bits.
 use Prim.Native.Nat.{ℕ, _^_, _<_}
 use mathlib.Core.Path.{_≡_, sym, subst}
 use native.Mathlib.Omega.{arith}

@@ -1,4 +1,4 @@
--- What a C host's numbers of a layout stand for.
+-- The layout that a C host's numbers mean.
 use Prim.Native.Nat.{ℕ, _+_, _-_}
 use mathlib.Core.Path.{_≡_, sym, _∙_, ap}
 use mathlib.Core.List.{List}
@@ -12,7 +12,7 @@ use Rattle.buffers.proofs.stores.Storing.{store-all}
 use Rattle.capi_spec.specs.Numbers.{numbersFrom, layoutFrom}
 use Rattle.capi_spec.proofs.Numbers.{spelt}
 
--- the last eight of some numbers, stored over zeros
+-- the last eight numbers, stored over zeros
 pub ceilings-of : (xs out : List ℕ) (at : ℕ) → length xs ≡ at + orders → out ≡ sets (replicate orders 0) 0 (take (length xs - at) (drop at xs)) → out ≡ numbersFrom orders at xs
 ceilings-of xs out at l e =
     let part : length xs - at ≡ orders = omega arith in

@@ -1,4 +1,4 @@
--- Reading and storing a record in a C host's numbers.
+-- Reading a record from a C host's numbers, and storing it there.
 use Prim.Native.Nat.{ℕ, _+_, _≤_, _<_}
 use mathlib.Core.Path.{_≡_, refl, sym, _∙_, ap}
 use mathlib.Core.List.{List, [], _∷_, _++_, append-assoc}
@@ -21,7 +21,7 @@ module _ (xs regs : List ℕ) (l : length xs ≡ length regs + trailer) where
   pub room : (ys : List ℕ) (at : ℕ) → ys ≡ sets xs 0 regs → length regs + 1 < length (set ys (length regs) at)
   room ys at e = rw (length-set, e, length-sets) (omega arith)
 
-  -- registers stored, then the two others
+  -- the registers are stored, then the two others
   stored : (at k : ℕ) → set (set (sets xs 0 regs) (length regs) at) (length regs + 1) k ≡ regs ++ at ∷ k ∷ []
   stored at k =
       let n = length regs in

@@ -1,4 +1,4 @@
--- The law of an event's words.
+-- The law of an event bundle's words.
 use mathlib.Core.Path.{_≡_}
 use mathlib.Core.Bool.{Bool, _&&_}
 use Prim.Native.Nat.{ℕ}

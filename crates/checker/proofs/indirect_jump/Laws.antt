@@ -1,4 +1,4 @@
--- The law of GOX: its second word holds the last address, formed from the one after it.
+-- The law of GOX: its second word has the last address, computed from the one after it.
 use mathlib.Core.Path.{_≡_}
 use mathlib.Core.Bool.{Bool, _&&_}
 use Prim.Native.Nat.{ℕ, _-_}

@@ -19,7 +19,7 @@ use Rattle.checker.specs.event.Event.{eventWords}
 use Rattle.checker.specs.shapes.FourWords.{passesOf}
 use Rattle.checker.proofs.shapes.Shapes.{plain-is, goif-is}
 
--- no count of bundles is asked of LOAD and STORE
+-- LOAD and STORE do not depend on the number of bundles
 any-count : (l : Layout) (n w x y z d a b : ℕ) (t : Bool) → isBundle l 0 (cond t (LOAD d a) (STORE a b)) w x y z ≡ isBundle l n (cond t (LOAD d a) (STORE a b)) w x y z
 unfolding isBundle valid shapeOf
 any-count l n w x y z d a b true = refl
@@ -94,7 +94,7 @@ module _ (l : Layout) (n w x y z : ℕ) where
         unfolding decodeBundle
         pass-event e er = passing (EVENT (vOf w)) (rw (← ek, e)) (er ∙ event-is)
 
-      -- a kind that no shape begins with
+      -- a kind with which no shape begins
       pub pass-none : (leb (command .set) k && leb k (command .sar)) ≡ false → (k ≡ command .halt → ⊥) → (k ≡ command .andi → ⊥) → (k ≡ command .shl → ⊥)
           → (k ≡ command .goif → ⊥) → (k ≡ command .look → ⊥) → false ≡ passesOf l n w x y z m
       unfolding isBundle valid

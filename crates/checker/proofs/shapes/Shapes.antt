@@ -1,4 +1,4 @@
--- Laws of the shapes that begin with a command of the guest's: its word, tested, is that of the instruction read off.
+-- Laws of the shapes that begin with a guest's command: the tested word is that of the instruction that was read off.
 use mathlib.Core.Path.{_≡_, refl, sym, _∙_, ap, subst}
 use mathlib.Core.Bool.{Bool, true, _&&_}
 use Prim.Native.Nat.{ℕ, _+_, _-_, _^_, _≤_, _<_}
@@ -23,7 +23,7 @@ use Rattle.words.specs.Guests.{onlyGuestRegisters}
 use Rattle.words.proofs.Laws.{Within, command-in, command-from, bool-ext}
 use Rattle.checker.specs.single.Single.{bundleIndex, isBundleAddress}
 
--- ---- a command of the guest's registers, and a word packed from its fields
+-- ---- a command on guest registers, and a word packed from its fields
 
 guests-in : (w : ℕ) → onlyGuestRegisters w ≡ true → (ltb (dOf w) guestRegisters ≡ true) × (ltb (aOf w) guestRegisters ≡ true) × (ltb (bOf w) guestRegisters ≡ true)
 guests-in w t =

@@ -1,4 +1,4 @@
--- Laws of the shapes of a command and three that do nothing.
+-- Laws of the shapes of one command and three NOPs.
 use mathlib.Core.Path.{_≡_, ap}
 use mathlib.Core.Bool.{Bool, false, _&&_}
 use Prim.Native.Nat.{ℕ, _-_, _%_, _≤_, _<_}

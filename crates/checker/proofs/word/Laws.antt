@@ -1,4 +1,4 @@
--- Packing cuts nothing off fields that fit.
+-- If fields fit, packing cuts nothing off.
 use mathlib.Core.Path.{_≡_}
 use Prim.Native.Nat.{ℕ, _^_, _<_}
 use lib.Dec.{eqb}

@@ -1,4 +1,4 @@
--- v by its halves.
+-- The four bytes of v as two halves.
 use mathlib.Core.Path.{_≡_, _∙_}
 use mathlib.Core.List.{List}
 use Prim.Native.Nat.{ℕ, _+_, _*_}

@@ -1,4 +1,4 @@
--- Laws of the fast path, in the form in which the proofs of the functions cite them.
+-- Laws of the fast path, in the form that the functions' proofs cite.
 use mathlib.Core.Path.{_≡_, refl, sym, ap, _∙_}
 use mathlib.Core.Bool.{Bool, true, false, _&&_, not}
 use mathlib.Core.List.{List}
@@ -33,7 +33,7 @@ four-none s at bit e = let z : at + 0 ≡ at = omega arith in rw (e, z)
 pub four-one : (s : List ℕ) (at bit : ℕ) → (bit ≡ 0 → ⊥) → bit ≤ 1 → (x : ℕ) → x ≡ quadAt 1 s at → record { value = x; next = at + 4; zero = eqb x 0 } ≡ quadPart bit s at
 four-one s at bit n h x e = let one : bit ≡ 1 = omega arith in rw (one, e)
 
--- a field that is absent, or stands and is not 0, has the bit of its map
+-- a field that is not present though 0 has its bit in the map
 bit-of : (bit x : ℕ) → bit ≤ 1 → (bit ≡ 0 → x ≡ 0) → presentZero bit x ≡ false → bitOf x ≡ bit
 bit-of zero x h z t = let e = z refl in omega arith
 bit-of (suc zero) x h z t = let n : x ≡ 0 → ⊥ = eqb-false x 0 t in omega arith

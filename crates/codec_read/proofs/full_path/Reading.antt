@@ -1,4 +1,4 @@
--- Laws of one instruction read, in the form in which the proofs of the functions cite them.
+-- Laws of reading one instruction, in the form that the functions' proofs cite.
 use mathlib.Core.Path.{_≡_, sym, ap, _∙_}
 use mathlib.Core.Bool.{not}
 use mathlib.Core.List.{List}
@@ -16,7 +16,7 @@ use Rattle.spec.proofs.Bytes.{fields-are, fields-word}
 use Rattle.words.proofs.RefusalLaws.{untruncated}
 use Rattle.codec_read.specs.full_path.Parts.{fieldsFrom}
 
--- a field's byte without a branch: the place of its byte, or 0, and the byte, or 0
+-- reading a field's byte without a branch: index times bit, then byte times bit
 pub place-fits : (at bit : ℕ) → bit ≤ 1 → at < 2 ^ 64 → at * bit < 2 ^ 64
 place-fits at zero h g = omega arith
 place-fits at (suc zero) h g = omega arith
@@ -38,7 +38,7 @@ byte-is s at zero x h e = zero-mul x
 byte-is s at (suc zero) x h e = one-mul x ∙ e ∙ rw (mul-one at)
 byte-is s at (suc (suc b)) x h e = absurd (omega arith)
 
--- the fields from b on, and the whole
+-- the fields from b on, and all of them
 pub rest-are : (m : ℕ) (s : List ℕ) (at k d a b c v : ℕ) → b ≡ byteAt (m % 2) s at → c ≡ byteAt (m / 2 % 2) s (at + m % 2)
     → v ≡ quadAt (m / 2 / 2) s (at + m % 2 + m / 2 % 2) → record { kind = k; d = d; a = a; b = b; c = c; v = v } ≡ fieldsFrom m s at k d a
 rest-are m s at k d a b c v eb ec ev = λ i. record { kind = k; d = d; a = a; b = eb i; c = ec i; v = ev i }
@@ -49,7 +49,7 @@ pub all-are : (m : ℕ) (s : List ℕ) (at k d a : ℕ) → at ≡ 1 + m % 2 + m
 unfolding fieldsAt
 all-are m s at k d a e ek ed ea f ef = ef ∙ fields-are m s k d a _ _ _ ek ed ea (rw e) (rw e) (rw e)
 
--- a refusal number of 0 lets packing cut nothing off
+-- if fields are not refused, packing cuts nothing off
 pub fields-good : (m : ℕ) (f : Fields) (n : ℕ) → n ≡ mapOf f → (x : ℕ) → x ≡ fieldsRefusal (not (eqb m n)) f → x ≡ 0
     → (p u : ℕ) → p ≡ packFields (truncateFields f) → u ≡ sizeOf m → Word p u ≡ decodeFields m f
 fields-good m f n en x ex z p u ep eu = fields-word m f n en x ex z p u (ep ∙ ap packFields (untruncated _ f (sym ex ∙ z))) eu

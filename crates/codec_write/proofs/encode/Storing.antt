@@ -1,4 +1,4 @@
--- A run of stores, and another after it.
+-- Storing one list after another.
 use mathlib.Core.Path.{_≡_, sym, _∙_}
 use mathlib.Core.List.{List, [], _∷_, _++_}
 use Prim.Native.Nat.{ℕ, suc, _+_}

@@ -1,4 +1,4 @@
--- Laws of the stores of one instruction, in the form in which the proofs of the functions cite them.
+-- Laws of storing one instruction, in the form that the functions' proofs cite.
 use mathlib.Core.Path.{_≡_, sym, _∙_}
 use mathlib.Core.List.{List, _++_}
 use Prim.Native.Nat.{ℕ, _+_, _/_, _%_, _≤_}
@@ -28,7 +28,7 @@ module _ (x : ℕ) (out : List ℕ) (at : ℕ) where
   last : at + 2 + 1 ≡ at + 3
   last = omega arith
 
-  -- by its halves
+  -- v as two halves
   pub quad-put : (x ≡ 0 → ⊥) → (o₁ o₂ : List ℕ) → o₁ ≡ set (set out at (x % 256)) (at + 1) (x / 256 % 256)
       → o₂ ≡ set (set o₁ (at + 2) (x / 256 / 256 % 256)) (at + 2 + 1) (x / 256 / 256 / 256 % 256) → o₂ ≡ stores out at (quadOut x)
   quad-put n o₁ o₂ e₁ e₂ = e₂ ∙ rw (e₁, last, quad-some x n) (simp towards-suc)
@@ -57,7 +57,7 @@ put-fields f m em o o₁ o₂ o₃ o₄ at a b c e₁ ea e₂ eb e₃ ec e₄ =
     let t₂ = put-after o₁ o₂ o₄ a b (byteOut (f .kind)) (regsOut f ++ quadOut (f .v)) e₂ (eb ∙ rw length-byte) t₁ in
     t₂ ∙ rw (e₁, ea, add-one, em)
 
--- ---- what is said of the fields, said of the word
+-- ---- from the fields to the word
 module _ (w : ℕ) (f : Fields) (e : f ≡ fieldsOf w) where
   weight-length : encodedSize f ≡ length (encodeOne w)
   weight-length = sym (length-fields f) ∙ rw e

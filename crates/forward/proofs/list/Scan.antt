@@ -1,4 +1,4 @@
--- Laws of the code, one for each way out of it.
+-- Laws of the check of command lists, one for each return.
 use mathlib.Core.Path.{_≡_, refl, sym, _∙_, ap}
 use mathlib.Core.Bool.{Bool, true, false, not}
 use mathlib.Core.List.{List}
@@ -42,7 +42,7 @@ module _ (lay : Layout) (h w y z : ℕ) where
   read-is : Read
   read-is = read-near _ _ refl refl
 
--- a first word that is no GOIF, a GOIF to below the base, and one to an address from there on
+-- a first word that is no GOIF; a GOIF to an address below the base; a GOIF to any other address
 module _ (lay : Layout) (h w : ℕ) where
   pub word-other : (kindOf w ≡ command .goif → ⊥) → not (eqb (kindOf w) (command .shl)) ≡ forwardWord lay h w
   unfolding forwardWord

@@ -3,7 +3,7 @@ use Rattle.installer.proofs.Installs.{not-installed, landings-are, tabl
 use Rattle.installer.proofs.install.Statement.{statement}
 use Rattle.installer.proofs.install.Tie as tie
 
--- i is where the answer was found, m, k and b where the landings' cells were made, the state and the table stored
+-- in this proof, i is the point where the answer is known; m, k and b are those after the landing cells, the state and the table
 returns : tie.Need-returns
 returns c = not-installed _ _ _ _ _ _ _ (c .before .before .install-answer .ensures) (c .before .if1 .taken) _ (c .refused .ensures)
 

@@ -1,4 +1,4 @@
--- A policy's numbers, and the bytes of its table, by words.
+-- A policy's numbers, and the bytes of its table, four at a time.
 use Prim.Native.Nat.{ℕ, _+_, _*_, _/_, _≤_}
 use mathlib.Core.Path.{_≡_, sym, ap, ap₂, _∙_}
 use mathlib.Core.Bool.{Bool, true, false, _&&_}
@@ -25,7 +25,7 @@ module _ (s : ℕ) (t : List ℕ) (ok : Bool) (i : ℕ) (e : ok ≡ entriesRight
       ∙ sym (entries-append s (take (wordBytes * i) t) (take wordBytes (drop (wordBytes * i) t)))
       ∙ ap (entriesRight s) (sym (take-add (wordBytes * i) wordBytes t) ∙ ap (λ (k : ℕ). take k t) n)
 
-  -- the table has 16 bytes a state, so its words leave none over
+  -- a table of 16 bytes a state is made of whole words
   pub words-done : length t ≡ events * s → length t / wordBytes ≤ i → i ≤ length t / wordBytes → ok ≡ entriesRight s t
   words-done l h k =
       let n : wordBytes * i ≡ length t = omega arith in

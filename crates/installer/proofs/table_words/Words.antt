@@ -1,4 +1,4 @@
--- A word's four bytes, tested at once: what one byte shows, and that it shows the same among others.
+-- Testing four bytes at once: what the test says about one byte, and that the other bytes do not change it.
 use Prim.Native.Nat.{ℕ, zero, suc, _+_, _-_, _*_, _/_, _%_, _^_, _<_, _≤_}
 use mathlib.Core.Path.{_≡_, refl, sym, ap, ap₂, _∙_}
 use mathlib.Core.Bool.{Bool, true, false, not, _&&_, _||_}
@@ -18,7 +18,7 @@ use Rattle.spec.proofs.Bools.{both}
 
 -- ---- state counts
 
--- a state count that a right layout can have, or not
+-- whether a state count is from 1 to 16
 pub fit : (s : ℕ) (r : Bool) → r ≡ statesRight s → not r ≡ false → (1 ≤ s) × (s ≤ mostStates)
 fit s r e h =
     let b = both (leb 1 s) (leb s mostStates) (sym e ∙ not-false r h) in
@@ -32,7 +32,7 @@ pub word-entries : (s w : ℕ) → 1 ≤ s → s ≤ mostStates → wordRight s 
 unfolding wordRight
 word-entries s w some most = rw (le-leb 1 s some, le-leb s mostStates most)
 
--- ---- d more than a number's low bits m, joined with the number by `&` or by `|`: the top bits t of it
+-- ---- `tops`: d is added to the low bits m of a number, joined with the number by `&` or `|`, and the top bits t are kept
 
 abbrev tops : (ℕ → ℕ → ℕ) → ℕ → ℕ → ℕ → ℕ → ℕ
 tops op m d t w = bitAnd (op (bitAnd w m + d) w) t
@@ -49,7 +49,7 @@ ors : Bitwise bitOr
 ors = record { block = or-block; below = or-lt; shr = or-shr }
 
 module _ {op : ℕ → ℕ → ℕ} (laws : Bitwise op) (x : ℕ) (small : x ≤ 128) where
-  -- the lowest byte is apart from those above it: its sum has eight bits
+  -- the lowest byte does not affect those above it: its sum has eight bits
   apart : (m d t w : ℕ) → tops op (m * 256 + 127) (d * 256 + x) (t * 256 + 128) w ≡ tops op m d t (w / 256) * 256 + tops op 127 x 128 (w % 256)
   apart m d t w =
       let a = w / 256 in
@@ -73,7 +73,7 @@ module _ {op : ℕ → ℕ → ℕ} (laws : Bitwise op) (x : ℕ) (small : x ≤
       ap (λ (v : ℕ). bitAnd (op (v + x) b) 128) (and-mask b 7) ∙ and-high y 1 7
       ∙ ap (λ (v : ℕ). v * 128) (mod-eq-of-lt bit ∙ laws .shr (b % 128 + x) b 7)
 
--- ---- one byte: at S or above, and 255
+-- ---- one byte: S or above, and 255
 
 module _ (s b : ℕ) (some : 1 ≤ s) (most : s ≤ mostStates) (l : b < 256) where
   abbrev above : ℕ
@@ -108,9 +108,9 @@ module _ (s b : ℕ) (some : 1 ≤ s) (most : s ≤ mostStates) (l : b < 256) wh
   one-byte : eqb (tops bitOr 127 (128 - s) 128 b) (tops bitAnd 127 1 128 b) ≡ entryRight s b
   one-byte = ap₂ eqb (one-top ors (128 - s) (omega arith) b l) (one-top ands 1 (lit≤ tt) b l) ∙ by-bits (ltb b s) (eqb b noArrow) refl refl
 
--- ---- each byte of many
+-- ---- all bytes
 
--- a number in each of n bytes
+-- the same number in each of n bytes
 abbrev pub fill : ℕ → ℕ → ℕ
 fill x zero = 0
 fill x (suc n) = fill x n * 256 + x
@@ -123,7 +123,7 @@ pair a b x y h k = by (eqb x y) (eqb a b) refl refl
     by true false e f = ne-eqb (a * 256 + x) (b * 256 + y) (λ g. eqb-false a b f (omega (arith, eqb-true x y e)))
     by false n e f = ne-eqb (a * 256 + x) (b * 256 + y) (λ g. eqb-false x y e (omega arith))
 
--- the top bits of the bytes that are no state, x being 128 − S, and of those that are 255
+-- the top bits of the bytes that are no state, where x is 128 − S, and of those that are 255
 abbrev over : ℕ → ℕ → ℕ → ℕ
 over n x w = tops bitOr (fill 127 n) (fill x n) (fill 128 n) w
 
@@ -142,7 +142,7 @@ module _ (s : ℕ) (some : 1 ≤ s) (most : s ≤ mostStates) where
       (omega (arith, and-le-r (bitAnd (bitAnd b 127 + 1) b) 128))
       ∙ ap₂ _&&_ (one-byte s b some most (mod-lt w (lit< tt))) (each n high)
 
-  -- the test of a word, its four numbers being these
+  -- the test of a word with these four constants
   pub together : (w m t d o : ℕ) → d ≡ fill (128 - s) wordBytes → m ≡ fill 127 wordBytes → t ≡ fill 128 wordBytes → o ≡ fill 1 wordBytes
       → eqb (tops bitOr m d t w) (tops bitAnd m o t w) ≡ wordRight s w
   together w m t d o ed em et eo = rw (em, et, ed, eo) (each wordBytes w ∙ sym (word-entries s w some most))

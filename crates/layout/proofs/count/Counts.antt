@@ -23,14 +23,14 @@ count-bundles n =
     omega (arith, pow-mono h)
 
 module _ (l : Layout) (n : ℕ) where
-  -- of no length, or one past the base, the rest is the base
+  -- if the length is 0 or above the base, the remainder is the base
   pub base-whole : (eqb n 0 || ltb (l .base) n) ≡ true → eqb (l .base) 0 ≡ baseRight l n
   base-whole t =
       ⊎-elim (λ e. let z : n ≡ 0 = eqb-true n 0 e in rw (z, mod-zero (l .base)))
       (λ e. let h : l .base < bundleLength * n = omega (arith, ltb-true (l .base) n e) in rw (mod-eq-of-lt h))
       (either _ _ t)
 
-  -- else it is a length that fits
+  -- else the length is above 0 and fits
   module _ (t : (eqb n 0 || ltb (l .base) n) ≡ false) where
     within-base : (eqb n 0 ≡ false) × (ltb (l .base) n ≡ false)
     within-base = neither (eqb n 0) (ltb (l .base) n) t

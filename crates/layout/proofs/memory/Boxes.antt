@@ -14,7 +14,7 @@ use Rattle.spec.specs.Policies.{statesRight}
 use Rattle.spec.specs.Layouts.{rightLayout, inRange, span, widthOf, inMemory, disjoint}
 use Rattle.spec.proofs.Masks.{one-bit}
 
--- two parts of a number: one is all of it when the other is 0
+-- if q + r is n, then q is n exactly if r is 0
 nothing-left : (q r n : ℕ) → q + r ≡ n → eqb q n ≡ eqb r 0
 nothing-left q zero n e = eq-eqb q n (omega arith)
 nothing-left q (suc r) n e = ne-eqb q n (λ f. absurd (omega (arith, f))) ∙ sym (ne-eqb (suc r) 0 (λ f. absurd (omega (arith, f))))
@@ -33,7 +33,7 @@ module _ (l : Layout) where
   box-uneven h k n =
       rw (le-leb (l .low) (l .high) h, lt-ltb (l .high) (l .size) k, ne-eqb (ones (span l)) 1 n, and-false (inRange l))
 
-  -- the number of cells is 2 to the width
+  -- the sandbox has 2^width cells
   module _ (k : l .high < l .size) (u : l .size < 2 ^ cellBits) (o : ones (span l) ≡ 1) where
     few : span l < 2 ^ cellBits
     few = omega arith
@@ -44,7 +44,7 @@ module _ (l : Layout) where
     pub width-in : widthOf l < cellBits
     width-in = lt-of-not-le (λ h. not-le-of-lt few (subst (λ (x : ℕ). 2 ^ cellBits ≤ x) (sym cells) (pow-mono h)))
 
-    -- a number without a bit below the width is a multiple of the cells
+    -- a number whose lowest `width` bits are 0 is a multiple of 2^width
     pub aligned : (w : ℕ) → w ≡ widthOf l → l .low < 2 ^ cellBits → eqb ((l .low / 2 ^ w * 2 ^ w) % 2 ^ cellBits) (l .low) ≡ eqb (l .low % span l) 0
     aligned w e h =
         let s : l .low / 2 ^ w * 2 ^ w + l .low % 2 ^ w ≡ l .low = split (l .low) w in
@@ -53,7 +53,7 @@ module _ (l : Layout) where
         ∙ nothing-left (l .low / 2 ^ w * 2 ^ w) (l .low % 2 ^ w) (l .low) s
         ∙ ap (λ (x : ℕ). eqb (l .low % x) 0) (ap (λ (x : ℕ). 2 ^ x) e ∙ sym cells)
 
-    -- the tests that are left once those of SL ≤ SH < U and of the single one bit passed; the base has 32 bits by its type
+    -- the tests left after SL ≤ SH < U and the single one bit; the base has 32 bits by its type
     abbrev pub rest : ℕ → Bool
     rest w =
         (leb 1 (l .size) && leb (l .size) mostCells && statesRight (l .states))

@@ -1,4 +1,4 @@
--- `crate::determinise` meets its contract: refused 16, or what is reached is written.
+-- `crate::determinise` meets its contract: bad drawing (16), or the policy is written.
 use mathlib.Core.Path.{sym, _∙_}
 use denote.Ref.{now}
 use borrow.Author.Needs.{needs}

@@ -9,7 +9,7 @@ use Rattle.policy_determinise.proofs.Runs.{arrows}
 use Rattle.policy_determinise.proofs.explore.Statement.{statement}
 use Rattle.policy_determinise.proofs.explore.Tie as tie
 
--- the arrows so far
+-- invariant: the arrows so far were followed
 abbrev Inv-loop : tie.InvT-loop
 Inv-loop states starts arrows found₀ k₀ found k = WorklistInvariant (setAfter (drawingOf states starts arrows)) starts found k
 
@@ -19,7 +19,7 @@ abbrev μ-loop : tie.MeasureT-loop
 loop-holds : tie.Need-loop-holds Inv-loop μ-loop
 loop-holds c = let start = c .before .before in holds-start _ (start .args .starts) (arrows _ (start .pre)) _ (c .begin .ensures)
 
--- an arrow that is to be taken is one of sixteen nodes
+-- an arrow that is still to be followed belongs to one of sixteen nodes
 low : (c : tie.Then1 Inv-loop μ-loop) → (c .before .before .loop .found .count ≤ mostStates) × (c .before .before .loop .k < events * mostStates)
 low c = let at = c .before .before .loop in going (at .found) (at .k) _ (c .before .has-pending .ensures) (c .if1 .taken)
 

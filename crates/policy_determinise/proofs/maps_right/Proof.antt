@@ -8,7 +8,7 @@ use Rattle.policy_determinise.proofs.Laws.{maps-more, maps-done}
 use Rattle.policy_determinise.proofs.maps_right.Statement.{statement}
 use Rattle.policy_determinise.proofs.maps_right.Tie as tie
 
--- the maps that are left
+-- invariant: the sets that are left decide
 abbrev Inv-loop : tie.InvT-loop
 Inv-loop states arrows ok₀ i₀ ok i = ((ok && mapsRight states (drop i arrows)) ≡ mapsRight states arrows) × (i ≤ length arrows)
 

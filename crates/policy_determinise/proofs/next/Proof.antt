@@ -6,7 +6,7 @@ use Rattle.policy_determinise.proofs.Laws.{union-start, union-more, uni
 use Rattle.policy_determinise.proofs.next.Statement.{statement}
 use Rattle.policy_determinise.proofs.next.Tie as tie
 
--- the states so far
+-- invariant: the union over the states so far
 abbrev Inv-loop : tie.InvT-loop
 Inv-loop states arrows x n set₀ k₀ set k = (set ≡ unionOf arrows x n k) × (k ≤ states)
 

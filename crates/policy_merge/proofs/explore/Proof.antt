@@ -11,7 +11,7 @@ use Rattle.policy_merge.proofs.Pairs.{pairs}
 use Rattle.policy_merge.proofs.explore.Statement.{statement}
 use Rattle.policy_merge.proofs.explore.Tie as tie
 
--- the arrows so far
+-- invariant: the arrows so far were followed
 abbrev Inv-loop : tie.InvT-loop
 Inv-loop left right start found₀ k₀ found k = WorklistInvariant (pairAfter (policyOf 0 0 left []) (policyOf 0 0 right [])) start found k
 
@@ -21,7 +21,7 @@ abbrev μ-loop : tie.MeasureT-loop
 loop-holds : tie.Need-loop-holds Inv-loop μ-loop
 loop-holds c = let start = c .before .before .before in holds-start _ (start .args .start) (pairs _ _ _ (λ z. omega (arith, start .pre))) _ (c .begin .ensures)
 
--- an arrow that is to be taken is one of sixteen nodes
+-- an arrow that is still to be followed belongs to one of sixteen nodes
 low : (c : tie.Then1 Inv-loop μ-loop) → (c .before .before .loop .found .count ≤ mostStates) × (c .before .before .loop .k < events * mostStates)
 low c = let at = c .before .before .loop in going (at .found) (at .k) _ (c .before .has-pending .ensures) (c .if1 .taken)
 

@@ -10,7 +10,7 @@ use Rattle.policy_merge.proofs.Laws.{smaller-done}
 use Rattle.policy_merge.proofs.smaller.Statement.{statement}
 use Rattle.policy_merge.proofs.smaller.Tie as tie
 
--- the ceilings so far
+-- invariant: the ceilings so far
 abbrev Inv-loop : tie.InvT-loop
 Inv-loop c d out₀ i₀ out i = (out ≡ build (λ j. min (getD c j 0) (getD d j 0)) i ++ drop i (replicate orders 0)) × (i ≤ orders)
 

@@ -7,7 +7,7 @@ use Rattle.policy_spec.proofs.precedence.Laws.{known-none, known-more, known-do
 use Rattle.policy_precedence.proofs.events_known.Statement.{statement}
 use Rattle.policy_precedence.proofs.events_known.Tie as tie
 
--- the events so far
+-- invariant: the events so far
 abbrev Inv-loop : tie.InvT-loop
 Inv-loop pairs ok₀ i₀ ok i = (ok ≡ knownIn pairs i) × (i ≤ length pairs)
 

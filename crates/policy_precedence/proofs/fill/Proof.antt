@@ -12,7 +12,7 @@ use Rattle.policy_spec.proofs.precedence.Laws.{row-below}
 use Rattle.policy_precedence.proofs.fill.Statement.{statement}
 use Rattle.policy_precedence.proofs.fill.Tie as tie
 
--- the entries so far, over what was there
+-- invariant: the entries so far are written, the rest is as before
 abbrev Inv-loop : tie.InvT-loop
 Inv-loop names pairs table₀ bytes i₀ table i = (table ≡ build (byteOf pairs) i ++ drop i table₀) × (i ≤ bytes) × (length table ≡ length table₀)
 

@@ -1,4 +1,4 @@
--- `crate::make` meets its contract: refused 17, refused 9, taken.
+-- `crate::make` meets its contract: bad pair (17), small hopper (9), or taken (0).
 use denote.Ref.{now}
 use borrow.Author.Needs.{needs}
 use borrow.Author.Tests.{not-true, not-false}

@@ -9,7 +9,7 @@ use Rattle.policy_spec.proofs.precedence.Laws.{names-none, names-more, names-do
 use Rattle.policy_precedence.proofs.named_events.Statement.{statement}
 use Rattle.policy_precedence.proofs.named_events.Tie as tie
 
--- the events so far
+-- invariant: the events so far
 abbrev Inv-loop : tie.InvT-loop
 Inv-loop pairs map₀ i₀ map i = (map ≡ mapWhere (namedIn pairs i) events) × (i ≤ length pairs)
 

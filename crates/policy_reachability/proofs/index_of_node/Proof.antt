@@ -6,7 +6,7 @@ use Rattle.policy_reachability.proofs.Laws.{Sought, sought-none, sought
 use Rattle.policy_reachability.proofs.index_of_node.Statement.{statement}
 use Rattle.policy_reachability.proofs.index_of_node.Tie as tie
 
--- none of the nodes so far
+-- invariant: the node is none of those so far
 abbrev Inv-loop : tie.InvT-loop
 Inv-loop nodes n x i₀ i = Sought (take n nodes) x i × (i ≤ n)
 

@@ -1,4 +1,4 @@
--- Laws of writing, one for each way out.
+-- Laws of writing, one for each return.
 use Prim.Native.Nat.{ℕ, suc, _+_, _*_, _<_, _≤_}
 use mathlib.Core.Path.{_≡_, refl, sym, ap, _∙_}
 use mathlib.Core.List.{List, _++_}

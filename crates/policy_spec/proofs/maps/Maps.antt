@@ -1,4 +1,4 @@
--- Laws of bit maps, and of tests, counts and lists over the numbers below n.
+-- Laws of sets of bits, and of tests, counts and lists over the numbers below n.
 use Prim.Native.Nat.{ℕ, zero, suc, _+_, _-_, _*_, _/_, _%_, _^_, _<_, _≤_, max}
 use mathlib.Core.Path.{_≡_, refl, sym, ap, ap₂, _∙_}
 use mathlib.Core.Bool.{Bool, true, false, _||_, cond}
@@ -65,7 +65,7 @@ unfolding count
 count-mono p zero n = let e : n + 0 ≡ n = omega arith in rw e (omega arith)
 count-mono p (suc d) n = let e : n + suc d ≡ suc (n + d) = omega arith in rw e (omega (arith, count-mono p d n))
 
--- one that passes is counted
+-- a number that passes is counted
 pub count-less : (p : ℕ → Bool) (n i : ℕ) → i < n → p i ≡ true → count p i < count p n
 unfolding count
 count-less p n i h t =
@@ -74,7 +74,7 @@ count-less p n i h t =
     let k : count p (suc i) ≤ count p n = rw e at (count-mono p (n - suc i) (suc i)) in
     omega arith
 
--- as many bits as the number of them
+-- a count is at most n, and the bits of a set are as many as the numbers that pass
 pub count-le : (p : ℕ → Bool) (n : ℕ) → count p n ≤ n
 unfolding count
 count-le p zero = omega arith
@@ -123,7 +123,7 @@ map-lt p (suc n) = map-step p n (p n) (map-lt p n)
 abbrev bit-of : Bool → ℕ
 bit-of b = cond b 1 0
 
--- a map is its top bit and the rest
+-- a set is its top bit and the rest
 top : (p : ℕ → Bool) (n : ℕ) → mapWhere p (suc n) ≡ bit-of (p n) * 2 ^ n + mapWhere p n
 unfolding mapWhere
 top p n = go (p n)
@@ -173,7 +173,7 @@ map-ones p (suc n) = ap ones (top p n) ∙ ones-cat n (bit-of (p n)) (mapWhere p
     go true e = omega (arith, e)
     go false e = omega (arith, e)
 
--- the low bits of a map are the map of the low numbers
+-- the low bits of a set are the set of the low numbers
 pub map-low : (p : ℕ → Bool) (d n : ℕ) → mapWhere p (n + d) % 2 ^ n ≡ mapWhere p n
 map-low p zero n = let e : n + 0 ≡ n = omega arith in rw e (mod-eq-of-lt (map-lt p n))
 map-low p (suc d) n =
@@ -237,7 +237,7 @@ bit-other j k ne = go (ltb j k) refl
         let r : 2 ^ suc d % 2 ≡ 0 = omega (arith, pow-suc 2 d) in
         rw (e, r)
 
--- bit e of a map says whether e passes
+-- bit e of the set says whether e passes
 pub bit-map : (p : ℕ → Bool) (n e : ℕ) → e < n → bit (mapWhere p n) e ≡ p e
 unfolding bit
 bit-map p n e h =
@@ -252,7 +252,7 @@ bit-map p n e h =
     go true = refl
     go false = refl
 
--- a number of n bits has none above
+-- a number of n bits has no bit above them
 pub bit-high : (m n k : ℕ) → m < 2 ^ n → n ≤ k → bit m k ≡ false
 unfolding bit
 bit-high m n k h l =
@@ -261,7 +261,7 @@ bit-high m n k h l =
     let e : m / 2 ^ k ≡ 0 = rw z at (high 0 k {lo = m} b) in
     rw e
 
--- a bit that is set is set again
+-- setting a bit that is set changes nothing
 pub bit-kept : (s k : ℕ) → bit s k ≡ true → bitOr s (2 ^ k) ≡ s
 unfolding bit
 bit-kept s k t =
@@ -299,7 +299,7 @@ build-at f (suc n) i d h = go (eqb i n) refl (λ k. build-at f n i d k)
         let h₁ : i < n = omega (arith, eqb-false i n g) in
         List·getD-append (build f n) (f n ∷ []) d i (omega (arith, length-build f n)) ∙ k h₁
 
--- one more entry over what was there
+-- one more entry, written over the old one
 pub build-more : (f : ℕ → ℕ) (t : List ℕ) (i : ℕ) → i < length t → set (build f i ++ drop i t) i (f i) ≡ build f (i + 1) ++ drop (i + 1) t
 unfolding build
 build-more f t i h =

@@ -1,4 +1,4 @@
--- Tables by their places: filled from the start, and with every entry right.
+-- Tables by index: filled from the start, and with every entry right.
 use Prim.Native.Nat.{ℕ, zero, suc, _+_, _<_, _≤_}
 use mathlib.Core.Path.{_≡_, refl, ap, ap₂, _∙_}
 use mathlib.Core.Bool.{Bool, true, _&&_}

@@ -1,4 +1,4 @@
--- Laws of the code's parts, one for each way out.
+-- Laws of the functions, one for each return.
 use Prim.Native.Nat.{ℕ, zero, suc, _+_, _-_, _*_, _/_, _%_, _^_, _<_, _≤_}
 use mathlib.Core.Path.{_≡_, refl, sym, ap, _∙_}
 use mathlib.Core.Bool.{Bool, true, false, _&&_, _||_, not, cond}
@@ -30,14 +30,14 @@ pub known-more : (ps : List ℕ) (i x : ℕ) (ok : Bool) → ok ≡ knownIn ps i
 unfolding knownIn every
 known-more ps i x ok e f = let n : i + 1 ≡ suc i = omega arith in rw (n, e, f)
 
--- 2 ^ k, shifted in 64 bits
+-- 1 shifted by k in 64 bits is 2 ^ k
 pub shifted : (k : ℕ) → k < events → (1 * 2 ^ k) % 2 ^ 64 ≡ 2 ^ k
 shifted k h = let o : 1 * 2 ^ k ≡ 2 ^ k = omega arith in rw o (mod-eq-of-lt (pow-lt {i = k} {j = 64} (omega arith)))
 
 pub shifted-some : (k : ℕ) → k < events → 1 ≤ (1 * 2 ^ k) % 2 ^ 64
 shifted-some k h = rw (shifted k h) (pow-pos k)
 
--- the map of one event
+-- the set of one event
 pub one-in : (e : ℕ) → e < events → (1 * 2 ^ e) % 2 ^ 64 ≡ mapWhere (eqb e) events
 one-in e h = shifted e h ∙ sym (map-one e events h)
 
@@ -60,7 +60,7 @@ names-done ps i m e h k = let q : i ≡ length ps = omega arith in e ∙ ap (λ 
 pub known-done : (ps : List ℕ) (i : ℕ) (ok : Bool) → ok ≡ knownIn ps i → length ps ≤ i → i ≤ length ps → ok ≡ known ps
 known-done ps i ok e h k = let q : i ≡ length ps = omega arith in e ∙ ap (knownIn ps) q
 
--- the bits of a map below one
+-- how many bits of a set are below bit e
 abbrev pub ones-below : ℕ → ℕ → ℕ
 ones-below m e = ones (bitAnd m (2 ^ e - 1))
 
@@ -74,7 +74,7 @@ pub below-fits : (m e : ℕ) → e < events → ones (bitAnd m ((1 * 2 ^ e) % 2 
 below-fits m e h = rw (shifted e h) (omega (arith, few-below m e))
 
 module _ (ps : List ℕ) (m : ℕ) (fit : ValidPairs ps m) where
-  -- the bits of the map of named events below an event's say its place
+  -- an event's bit index is the number of named events below it
   pub place-is : (e k : ℕ) → e < events → k ≡ ones-below m e → k ≡ bitIndex ps e
   place-is e k h f =
       let s : e + (events - e) ≡ events = omega arith in
@@ -88,7 +88,7 @@ module _ (ps : List ℕ) (m : ℕ) (fit : ValidPairs ps m) where
   pub named-is : (e : ℕ) → e < events → bit m e ≡ isNamed ps e
   named-is e h = ap (λ (x : ℕ). bit x e) (fit .map) ∙ bit-map (isNamed ps) events e h
 
-  -- a named event's bit is one of four
+  -- a named event has one of the bits 0 to 3
   pub place-less : (e : ℕ) → e < events → isNamed ps e ≡ true → bitIndex ps e < mostNamed
   place-less e h t = omega (arith, count-less (isNamed ps) events e h t, fit .few)
 
@@ -148,11 +148,11 @@ module _ (ps : List ℕ) (m : ℕ) (fit : ValidPairs ps m) where
           let w : firstsIn ps s e (pairsIn ps) ≡ false = sym q ∙ t in
           rw (is-named, w) (refl, omega arith)
 
-  -- the state after a named event whose firsts are recorded is a state
+  -- the state after a named event is a state
   pub sets-below : (s e : ℕ) → s < statesOf ps → e < events → isNamed ps e ≡ true → bitOr s (2 ^ bitIndex ps e) < statesOf ps
   sets-below s e h k n = or-lt (namedCount ps) s (2 ^ bitIndex ps e) h (pow-lt {i = bitIndex ps e} {j = namedCount ps} (count-less (isNamed ps) events e k n))
 
-  -- an event goes on exactly if it is named and its firsts are recorded
+  -- the state changes exactly by a named event whose firsts are recorded
   pub on-is : (s e : ℕ) → s < statesOf ps → e < events → advanceOf ps s e ≡ cond (isNamed ps e && firstsIn ps s e (pairsIn ps)) (bitOr s (2 ^ bitIndex ps e)) s
   unfolding arrowOf
   on-is s e h k = go (isNamed ps e) (firstsIn ps s e (pairsIn ps)) refl
@@ -165,7 +165,7 @@ module _ (ps : List ℕ) (m : ℕ) (fit : ValidPairs ps m) where
       go true false t = refl
       go false f t = rw (ne-eqb s noArrow (λ z. omega (arith, states-most)))
 
-  -- an event has no arrow exactly if it is named and a first is not recorded
+  -- an event has no arrow exactly if it is named and one of its firsts is not recorded
   pub blocked-is : (s e : ℕ) → s < statesOf ps → e < events → blocked ps s e ≡ (isNamed ps e && not (firstsIn ps s e (pairsIn ps)))
   unfolding arrowOf
   blocked-is s e h k = go (isNamed ps e) (firstsIn ps s e (pairsIn ps)) refl
@@ -261,7 +261,7 @@ module _ (ps : List ℕ) (m : ℕ) (e : m ≡ mapWhere (isNamed ps) events) (r :
   pub states-are : (s : ℕ) → s ≡ 2 ^ ones m → s ≡ statesOf ps
   states-are s f = f ∙ ap (λ (x : ℕ). 2 ^ x) (ap ones e ∙ map-ones (isNamed ps) events)
 
-  -- what is answered and left
+  -- what is answered and written
   abbrev pub Makes : List ℕ → Made → List ℕ → Type 0
   Makes t made t′ = (made ≡ makeOf ps (length t)) × (t′ ≡ makeTable ps t)
 

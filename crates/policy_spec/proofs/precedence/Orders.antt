@@ -1,4 +1,4 @@
--- The lists that the made policy allows are those in order.
+-- The made policy allows exactly the lists in order.
 use Prim.Native.Nat.{ℕ, zero, suc, _+_, _*_, _^_, _<_, _≤_}
 use mathlib.Core.Path.{_≡_, refl, sym, ap, _∙_, subst}
 use mathlib.Core.Bool.{Bool, true, false, _&&_, _||_, not}
@@ -21,12 +21,12 @@ use Rattle.policy_spec.proofs.maps.Maps.{every-at, every-all, some-at, 
 use Rattle.policy_spec.proofs.precedence.Laws.{on-is, on-below, blocked-is}
 use Rattle.policy_spec.proofs.precedence.Policies.{fit-right, arrow-is, arrow-above}
 
--- an event of the list is named
+-- each event of the pairs is named
 pub is-named : (ps : List ℕ) (i : ℕ) → i < length ps → isNamed ps (getD ps i 0) ≡ true
 unfolding namedIn
 is-named ps i h = some-at _ (length ps) i h (eq-eqb (getD ps i 0) (getD ps i 0) refl)
 
--- two named events have two bits
+-- two different named events have different bits
 pub place-apart : (ps : List ℕ) (e f : ℕ) → isNamed ps e ≡ true → isNamed ps f ≡ true → bitIndex ps e ≡ bitIndex ps f → e ≡ f
 place-apart ps e f m n q = go (eqb e f) refl (ltb e f) refl
   where
@@ -35,7 +35,7 @@ place-apart ps e f m n q = go (eqb e f) refl (ltb e f) refl
     go false t true u = absurd (omega (arith, count-less (isNamed ps) f e (ltb-true e f u) m))
     go false t false u = absurd (omega (arith, count-less (isNamed ps) e f (omega (arith, eqb-false e f t, ltb-false e f u)) n))
 
--- firsts recorded, taken apart and put together
+-- all firsts are recorded, from each first and back
 pub first-recorded : (ps : List ℕ) (s e j : ℕ) → firstsIn ps s e (pairsIn ps) ≡ true → j < pairsIn ps → secondAt ps j ≡ e → bit s (bitIndex ps (firstAt ps j)) ≡ true
 unfolding firstsIn
 first-recorded ps s e j t h q =
@@ -52,7 +52,7 @@ firsts-recorded ps s e f = every-all _ (pairsIn ps) (λ j h. go j h (eqb (second
     go j h true t = f j h (eqb-true (secondAt ps j) e t)
     go j h false t = refl
 
--- an event that has an arrow sets its bit if it is named
+-- an event with an arrow sets its bit if it is named
 module _ (ps : List ℕ) (m : ℕ) (fit : ValidPairs ps m) (s e : ℕ) (h : s < statesOf ps) (k : e < events) where
   pub open-firsts : blocked ps s e ≡ false → isNamed ps e ≡ true → firstsIn ps s e (pairsIn ps) ≡ true
   open-firsts t n =
@@ -79,7 +79,7 @@ module _ (ps : List ℕ) (m : ℕ) (fit : ValidPairs ps m) (s e : ℕ) (h : s < 
   moves-below t = rw (moves t) (on-below ps m fit s e h k)
 
 module _ (ps es : List ℕ) (m : ℕ) (fit : ValidPairs ps m) where
-  -- a state records the named events among the first i
+  -- state s records the named events among the first i
   record SimInvariant (s i : ℕ) : Type 0 where
     state : s < statesOf ps
     heard : (f : ℕ) → isNamed ps f ≡ true → bit s (bitIndex ps f) ≡ true → Among es i f
@@ -88,7 +88,7 @@ module _ (ps es : List ℕ) (m : ℕ) (fit : ValidPairs ps m) where
   later : (i f : ℕ) → Among es i f → Among es (suc i) f
   later i f a = record { at = a .at; below = omega (arith, a .below); is = a .is }
 
-  -- the last or an earlier one
+  -- an event among the first i + 1 is the last of them or an earlier one
   last : (i f : ℕ) → Among es (suc i) f → (getD es i 0 ≡ f) ⊎ Among es i f
   last i f a = go (eqb (a .at) i) refl
     where
@@ -136,12 +136,12 @@ module _ (ps es : List ℕ) (m : ℕ) (fit : ValidPairs ps m) where
     kept = λ f nf a. absurd (omega (arith, a .below));
   }
 
-  -- the event at i stands after its firsts
+  -- the event at index i comes after its firsts
   AtPlace : ℕ → Type 0
   AtPlace i = (j : ℕ) → j < pairsIn ps → secondAt ps j ≡ getD es i 0 → Among es i (firstAt ps j)
 
   module _ (are : AreEvents es) where
-    -- what allows the rest of the list from i on
+    -- the rest of the list, from index i on, is allowed
     abbrev Rest : ℕ → ℕ → Type 0
     Rest s i = allowedFrom (madePolicy ps) s (drop i es) ≡ true
 
@@ -191,7 +191,7 @@ module _ (ps es : List ℕ) (m : ℕ) (fit : ValidPairs ps m) where
       allows = λ a. in-order-allowed (length es) 0 0 (omega arith) starts (λ k h j. a k j h);
     }
 
-    -- the state to which the rest leads records all of the list
+    -- the state after the rest records the named events of the whole list
     records-all : (d s i : ℕ) → i + d ≡ length es → SimInvariant s i → Rest s i → SimInvariant (stateFrom (madePolicy ps) s (drop i es)) (length es)
     records-all zero s i e r t =
         let q : i ≡ length es = omega arith in
@@ -209,7 +209,7 @@ module _ (ps es : List ℕ) (m : ℕ) (fit : ValidPairs ps m) where
     unfolding allowed
     map-laws t = let r = records-all (length es) 0 0 (omega arith) starts t in record { state = r .state; recorded = r .heard; kept = r .kept }
 
--- what a policy allows are events
+-- only events 0 to 15 are allowed
 are-events : (pol : Policy) (s : ℕ) (es : List ℕ) → allowedFrom pol s es ≡ true → AreEvents es
 are-events pol s [] t i h = absurd (omega arith)
 are-events pol s (e ∷ es) t zero h =

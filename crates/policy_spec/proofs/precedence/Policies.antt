@@ -1,4 +1,4 @@
--- The made policy: what is handed back and left, its arrows, and that it is right.
+-- The made policy: what is answered and written, its arrows, and that it is right.
 use Prim.Native.Nat.{ℕ, _+_, _*_, _/_, _%_, _<_, _≤_}
 use mathlib.Core.Path.{_≡_, refl, sym, ap₂, _∙_}
 use mathlib.Core.Bool.{Bool, true, false, _||_, cond}
@@ -39,7 +39,7 @@ taken-makes ps table t = go (pairsRight ps) refl (ltb (length table) (tableBytes
           unreachable = rw (e, f);
         }
 
--- the bytes written are at most those of sixteen states
+-- at most the bytes of sixteen states are written
 pub place-most : (ps : List ℕ) (room : ℕ) → makeOf ps room .answer .place ≤ events * mostStates
 unfolding makeAnswer makeOf
 place-most ps room = go (pairsRight ps) refl (ltb room (tableBytes ps)) refl
@@ -49,7 +49,7 @@ place-most ps room = go (pairsRight ps) refl (ltb room (tableBytes ps)) refl
     go true e true f = rw (e, f) (omega arith)
     go true e false f = rw (e, f) (omega (arith, states-most ps (mapWhere (isNamed ps) events) (fit-right ps e)))
 
--- the policy's arrow is the one defined
+-- the policy's arrow is `arrowOf`
 pub arrow-is : (ps : List ℕ) (s e : ℕ) → s < statesOf ps → e < events → arrow (madePolicy ps) s e ≡ arrowOf ps s e
 arrow-is ps s e h k =
     let i = events * s + e in
@@ -57,7 +57,7 @@ arrow-is ps s e h k =
     let r : i % events ≡ e = omega arith in
     rw (lt-ltb e events k) (build-at (byteOf ps) (tableBytes ps) i noArrow (omega arith) ∙ ap₂ (arrowOf ps) q r)
 
--- an event above 15 has none
+-- an event above 15 has no arrow
 pub arrow-above : (pol : Policy) (s e : ℕ) → events ≤ e → arrow pol s e ≡ noArrow
 arrow-above pol s e h = rw (le-ltb e events h)
 

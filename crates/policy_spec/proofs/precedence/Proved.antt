@@ -1,4 +1,4 @@
--- Every claim of this module is proved.
+-- The proof of all claims of this module.
 use Rattle.policy_spec.specs.precedence.Proved.{Proved}
 use Rattle.policy_spec.proofs.precedence.Policies.{taken-makes, made-right}
 use Rattle.policy_spec.proofs.precedence.Orders.{allowed-in-order, states-are-maps}

@@ -1,4 +1,4 @@
--- The worked samples, by computation.
+-- The examples hold, by computation.
 use mathlib.Core.Path.{refl}
 use Rattle.policy_spec.specs.maps.Maps.{every, some, count, mapWhere, bit, build}
 use Rattle.policy_spec.specs.precedence.Precedence.{namedIn, knownIn, pairsRight, firstsIn, arrowOf, iterate, makeAnswer, makeOf}

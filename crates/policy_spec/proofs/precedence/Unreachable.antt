@@ -1,4 +1,4 @@
--- An event that is blocked in the fixpoint is in no allowed list, and any other is in one.
+-- An event that is blocked at the fixpoint is in no allowed list; any other event is in one.
 use Prim.Native.Nat.{ℕ, zero, suc, _+_, _-_, _*_, _%_, _^_, _<_, _≤_}
 use mathlib.Core.Path.{_≡_, refl, sym, ap, ap₂, _∙_}
 use mathlib.Core.Bool.{Bool, true, false, _&&_, not, cond}
@@ -23,16 +23,16 @@ use Rattle.policy_spec.proofs.precedence.Laws.{on-is, blocked-is, turns
 use Rattle.policy_spec.proofs.precedence.Policies.{fit-right, arrow-is, arrow-above}
 use Rattle.policy_spec.proofs.precedence.Orders.{first-recorded, firsts-recorded, open-firsts, moves, moves-named, moves-unnamed, moves-below}
 
--- every bit of a state is set in another
+-- every bit of s is set in t
 Within : ℕ → ℕ → Type 0
 Within s t = (k : ℕ) → bit s k ≡ true → bit t k ≡ true
 
--- the bits of a state
+-- how many bits of a state are set
 abbrev size : ℕ → ℕ
 size s = count (bit s) mostNamed
 
 module _ (ps : List ℕ) (m : ℕ) (fit : ValidPairs ps m) where
-  -- a step leaves the state as it is, or sets one bit more
+  -- a step keeps the state, or sets one more bit
   grows : (s e : ℕ) → s < statesOf ps → e < events → (advanceOf ps s e ≡ s) ⊎ (size s < size (advanceOf ps s e))
   grows s e h k = go (isNamed ps e) refl (firstsIn ps s e (pairsIn ps)) refl (bit s (bitIndex ps e)) refl
     where
@@ -53,7 +53,7 @@ module _ (ps : List ℕ) (m : ℕ) (fit : ValidPairs ps m) where
           inr (rw (is true true a c) (count-sub-less (bit s) (bit (bitOr s (2 ^ p))) mostNamed p set (place-less ps m fit e k a) d (bit-or s (2 ^ p) p
           ∙ or-right (bit s p) (bit (2 ^ p) p) (bit-same p))))
 
-  -- no event goes on
+  -- no event changes state s
   Closed : ℕ → Type 0
   Closed s = (e : ℕ) → e < events → advanceOf ps s e ≡ s
 
@@ -70,7 +70,7 @@ module _ (ps : List ℕ) (m : ℕ) (fit : ValidPairs ps m) where
   size-turns zero i = let e : i + 0 ≡ i = omega arith in rw e (omega arith)
   size-turns (suc d) i = let e : i + suc d ≡ suc (i + d) = omega arith in rw e (omega (arith, size-turns d i, size-turn (i + d)))
 
-  -- steps that set no bit leave the state
+  -- if steps set no bit, they keep the state
   still : (d i : ℕ) → size (iterate ps (i + d)) ≤ size (iterate ps i) → iterate ps (i + d) ≡ iterate ps i
   still zero i l = let e : i + 0 ≡ i = omega arith in ap (iterate ps) e
   still (suc d) i l =
@@ -85,7 +85,7 @@ module _ (ps : List ℕ) (m : ℕ) (fit : ValidPairs ps m) where
       (λ g. absurd (omega (arith, rw (← turn (i + d)) at g)))
       (grows s ((i + d) % events) (turns-below ps m fit (i + d)) (omega arith)))
 
-  -- after a pass over all events that sets no bit, none goes on
+  -- if a pass over all events sets no bit, no event changes the state
   still-closed : (k : ℕ) → size (iterate ps (events * k + events)) ≤ size (iterate ps (events * k)) → Closed (iterate ps (events * k))
   unfolding Closed
   still-closed k l e h =
@@ -107,7 +107,7 @@ module _ (ps : List ℕ) (m : ℕ) (fit : ValidPairs ps m) where
       let q : i + suc d ≡ suc (i + d) = omega arith in
       ap (iterate ps) q ∙ turn (i + d) ∙ ap (λ (x : ℕ). advanceOf ps x ((i + d) % events)) (closed-stays s c d i e) ∙ c ((i + d) % events) (omega arith)
 
-  -- k passes over all events set k bits, unless none goes on any more
+  -- k passes over all events set k bits, unless no event changes the state any more
   rounds : (k : ℕ) → Closed (iterate ps (events * k)) ⊎ (k ≤ size (iterate ps (events * k)))
   rounds zero = inr (omega arith)
   rounds (suc k) =
@@ -124,7 +124,7 @@ module _ (ps : List ℕ) (m : ℕ) (fit : ValidPairs ps m) where
       (cases (leb (size (iterate ps (events * k + events))) (size (iterate ps (events * k))))))
       (rounds k))
 
-  -- in the full state no event goes on
+  -- at the fixpoint no event changes the state
   full-closed : Closed (fixpointOf ps)
   unfolding Closed
   full-closed e h =
@@ -137,12 +137,12 @@ module _ (ps : List ℕ) (m : ℕ) (fit : ValidPairs ps m) where
       (grows (fixpointOf ps) e (turns-below ps m fit (mostNamed * events)) h))
       (rounds mostNamed)
 
-  -- what can happen in a state can happen in a larger one
+  -- an event with an arrow in a state has one in every larger state
   firsts-within : (s t e : ℕ) → Within s t → firstsIn ps s e (pairsIn ps) ≡ true → firstsIn ps t e (pairsIn ps) ≡ true
   unfolding Within
   firsts-within s t e w f = firsts-recorded ps t e (λ j h q. w (bitIndex ps (firstAt ps j)) (first-recorded ps s e j f h q))
 
-  -- every state on the way lies within the full one
+  -- every state that is reached is within the fixpoint
   stays-within : (s e : ℕ) → s < statesOf ps → e < events → Within s (fixpointOf ps) → blocked ps s e ≡ false → Within (arrowOf ps s e) (fixpointOf ps)
   unfolding Within Closed
   stays-within s e h k w t =
@@ -158,7 +158,7 @@ module _ (ps : List ℕ) (m : ℕ) (fit : ValidPairs ps m) where
       (λ n i b. w i (ap (λ (x : ℕ). bit x i) (sym (moves-unnamed ps m fit s e h k t n)) ∙ b))
       (cases (isNamed ps e))
 
-  -- blocked in the fixpoint, blocked in every state within it
+  -- an event blocked at the fixpoint is blocked in every state within it
   blocked-within : (s e : ℕ) → s < statesOf ps → e < events → Within s (fixpointOf ps) → blocked ps (fixpointOf ps) e ≡ true → blocked ps s e ≡ true
   blocked-within s e h k w t =
       let u = both (isNamed ps e) _ (sym (blocked-is ps m fit (fixpointOf ps) e (turns-below ps m fit (mostNamed * events)) k) ∙ t) in
@@ -232,7 +232,7 @@ module _ (ps : List ℕ) (m : ℕ) (fit : ValidPairs ps m) where
   leads-turns zero = record { word = []; allows = refl; leads = refl }
   leads-turns (suc i) = leads-on (iterate ps i) (i % events) (turns-below ps m fit i) (omega arith) (leads-turns i)
 
-  -- an event that is not blocked in the fixpoint is in an allowed list
+  -- an event that is not blocked at the fixpoint is in an allowed list
   heard : (e : ℕ) → e < events → blocked ps (fixpointOf ps) e ≡ false → Unreachable ps e → ⊥
   unfolding allowed
   heard e k t u =

@@ -1,4 +1,4 @@
--- The loop of the search: it starts, goes on and ends with what the definitions say.
+-- The loop of the search: its invariant holds at the start and after each step, and gives the definitions' result at the end.
 use Prim.Native.Nat.{ℕ, suc, _+_, _-_, _*_, _/_, _%_, _<_, _≤_}
 use mathlib.Core.Path.{_≡_, refl, sym, ap, ap₂, _∙_}
 use mathlib.Core.Bool.{Bool, true, false, _&&_, _||_, cond, and-true}
@@ -20,7 +20,7 @@ use Rattle.policy_spec.specs.reachability.Claims.{Arrows}
 use Rattle.policy_spec.proofs.reachability.Places.{place-le, place-append, place-new, Inserts, none, again, anew, inserts, reached-known}
 use Rattle.policy_spec.proofs.reachability.Reach.{reached-zero, reached-suc, grows, rests}
 
--- a node's number does not change any more once it is met
+-- a node keeps its number once it is found
 number-reached : (ns : List ℕ) (x : ℕ) → nodeState ns x ≡ nodeState (insert ns x) x
 number-reached ns x = go (insert ns x) (inserts ns x)
   where
@@ -36,7 +36,7 @@ number-kept ns ms x h = go (eqb x 0) refl
     go true e = refl
     go false e = sym (place-append ns ms x (h (eqb-false x 0 e)))
 
--- the list of what is found after a step
+-- the nodes after a step
 step-list : (f : Worklist) (k x : ℕ) → f .count < length (f .nodes) → nodesOf (insertTarget f k x) ≡ insert (nodesOf f) x
 unfolding insertTarget insert
 step-list f k x h = go (eqb x 0 || known (nodesOf f) x)
@@ -66,7 +66,7 @@ step-arrows f k x = refl
 more-few : (f : Worklist) (k : ℕ) → hasPending f k ≡ true → (f .count ≤ mostStates) × (k < events * f .count)
 more-few f k t = let b = both (ltb k (events * f .count)) (leb (f .count) mostStates) t in (leb-true (f .count) mostStates (b .1), ltb-true k (events * f .count) (b .0))
 
--- an arrow that is to be taken is one of the first sixteen nodes
+-- an arrow that is still to be followed belongs to one of the first sixteen nodes
 pub going : (f : Worklist) (k : ℕ) (b : Bool) → b ≡ hasPending f k → b ≡ true → (f .count ≤ mostStates) × (k < events * mostStates)
 going f k b e t = let m = more-few f k (sym e ∙ t) in (m .0, omega arith)
 
@@ -97,7 +97,7 @@ module _ (next : ℕ → ℕ → ℕ) (q : ℕ) (ok : Arrows next q) where
           let n : k + 1 ≡ suc k = omega arith in
           rw n (ap₂ insert (h .list) is-target ∙ sym (reached-suc next q k))
 
-      -- the number written stays
+      -- the target that is stored is the final one
       entry : nodeState (nodesOf f) x ≡ byteOf next (nodes next q) k
       entry =
           let all = events * mostStates in
@@ -136,10 +136,10 @@ module _ (next : ℕ → ℕ → ℕ) (q : ℕ) (ok : Arrows next q) where
     pub holds-done : (b : Bool) → b ≡ hasPending f k → b ≡ false → Explored next q f
     holds-done b e t = record { arrows = k; holds = h; all = sym e ∙ t }
 
--- ---- what is written
+-- ---- the policy that is written
 
 module _ (next : ℕ → ℕ → ℕ) (q : ℕ) (ok : Arrows next q) (f : Worklist) (ex : Explored next q f) where
-  -- few nodes: all are found, with all their arrows
+  -- at most sixteen nodes: all are found, with all their arrows
   record Whole : Type 0 where
     pub few : leb (f .count) mostStates ≡ true
     pub few-nodes : leb (statesOf next q) mostStates ≡ true
@@ -201,6 +201,6 @@ module _ (next : ℕ → ℕ → ℕ) (q : ℕ) (ok : Arrows next q) (f : Workli
       go true t = let w = whole t in rw (t, w .few-nodes, w .table, w .count)
       go false t = let w = many t in rw (t, w .many-nodes)
 
-  -- what the code asks of it
+  -- what the code needs of it
   pub explored-sized : WorklistSized f
   explored-sized = ex .holds .sized

@@ -1,4 +1,4 @@
--- Laws of the place of a number in a list, and of meeting a node.
+-- Laws of a number's index in a list, and of adding a node.
 use Prim.Native.Nat.{ℕ, zero, suc, _+_, _<_, _≤_}
 use mathlib.Core.Path.{_≡_, refl, sym, ap, _∙_}
 use mathlib.Core.Bool.{Bool, true, false, _||_, cond}
@@ -25,7 +25,7 @@ place-at (y ∷ ns) x h = go (eqb y x) refl h (place-at ns x)
     go true e l f = eqb-true y x e
     go false e l f = f (omega arith)
 
--- a number that stands in a list is known
+-- an element of a list has an index
 pub place-of : (ns : List ℕ) (i : ℕ) → i < length ns → indexOf ns (getD ns i 0) ≤ i
 place-of [] i h = absurd (omega arith)
 place-of (y ∷ ns) zero h = rw (eq-eqb y y refl) (omega arith)
@@ -35,7 +35,7 @@ place-of (y ∷ ns) (suc i) h = go (eqb y (getD ns i 0)) (place-of ns i (omega a
     go true l = omega arith
     go false l = omega arith
 
--- more at the end leaves the places
+-- appending keeps the indices
 pub place-append : (ns ms : List ℕ) (x : ℕ) → indexOf ns x < length ns → indexOf (ns ++ ms) x ≡ indexOf ns x
 place-append [] ms x h = absurd (omega arith)
 place-append (y ∷ ns) ms x h = go (eqb y x) h (place-append ns ms x)
@@ -54,7 +54,7 @@ place-new (y ∷ ns) x h = go (eqb y x) h (place-new ns x)
     go true l f = absurd (omega arith)
     go false l f = ap suc (f (omega arith))
 
--- n + 1 numbers below n are not all apart
+-- pigeonhole: n + 1 numbers below n are not all different
 pub pigeonhole : (n : ℕ) (f : ℕ → ℕ) → ((i : ℕ) → i ≤ n → f i < n) → ((i j : ℕ) → i ≤ n → j ≤ n → f i ≡ f j → i ≡ j) → ⊥
 pigeonhole zero f below apart = let h = below 0 (omega arith) in omega arith
 pigeonhole (suc n) f below apart = pigeonhole n g g-below g-apart
@@ -62,7 +62,7 @@ pigeonhole (suc n) f below apart = pigeonhole n g g-below g-apart
     top : ℕ
     top = f (suc n)
 
-    -- the last one's number in the place of n
+    -- the last number takes the place of n
     pick : Bool → ℕ → ℕ
     pick b i = cond b top (f i)
 
@@ -92,7 +92,7 @@ pigeonhole (suc n) f below apart = pigeonhole n g g-below g-apart
         go false x true y w = absurd (other i h w)
         go false x false y w = apart i j (omega arith) (omega arith) w
 
--- what meeting a node does: nothing for 0 and for a known one
+-- adding a node does nothing for 0 and for a known node
 pub data Inserts (ns : List ℕ) (x : ℕ) : List ℕ → Type 0 where
   none : x ≡ 0 → Inserts ns x ns
   again : indexOf ns x < length ns → Inserts ns x ns
@@ -111,7 +111,7 @@ pub insert-none : (ns : List ℕ) → insert ns 0 ≡ ns
 unfolding insert
 insert-none ns = refl
 
--- a node met is known, unless it is 0
+-- a node that was added is known, unless it is 0
 pub reached-known : (ns : List ℕ) (x : ℕ) → (x ≡ 0 → ⊥) → indexOf (insert ns x) x < length (insert ns x)
 reached-known ns x h = go (insert ns x) (inserts ns x)
   where

@@ -1,4 +1,4 @@
--- Every claim of this module is proved.
+-- The proof of all claims of this module.
 use Rattle.policy_spec.specs.reachability.Proved.{Proved}
 use Rattle.policy_spec.proofs.reachability.Reach.{nodes-exact, taken-reaches, reach-right, allowed-reaches}
 use Rattle.policy_spec.proofs.reachability.Samples.{worked-examples}

@@ -1,4 +1,4 @@
--- The nodes are those reached, each once; their policy is right and allows what leads to a node.
+-- The nodes found are exactly those that can be reached, each once. Their policy is right and allows what leads to a node.
 use Prim.Native.Nat.{ℕ, zero, suc, _+_, _-_, _*_, _/_, _%_, _<_, _≤_}
 use mathlib.Core.Path.{_≡_, refl, sym, ap, ap₂, _∙_}
 use mathlib.Core.Bool.{Bool, true, false, _&&_, not}
@@ -18,17 +18,17 @@ use Rattle.policy_spec.specs.reachability.Claims.{Arrows, Reached, Exact
 use Rattle.policy_spec.proofs.reachability.Places.{pigeonhole, place-at, place-of, place-append, place-new, Inserts, none, again, anew, inserts, insert-none, reached-known, More, insert-more}
 use Rattle.spec.proofs.Bools.{or-left, or-right}
 
--- one event more
+-- after one more event
 pub after-snoc : (next : ℕ → ℕ → ℕ) (x : ℕ) (es : List ℕ) (e : ℕ) → nodeAfter next x (es ++ (e ∷ [])) ≡ next (nodeAfter next x es) e
 after-snoc next x [] e = refl
 after-snoc next x (d ∷ es) e = after-snoc next (next x d) es e
 
--- from 0 nothing is reached
+-- from 0 no node is reached
 pub after-none : (next : ℕ → ℕ → ℕ) → ((e : ℕ) → next 0 e ≡ 0) → (es : List ℕ) → nodeAfter next 0 es ≡ 0
 after-none next z [] = refl
 after-none next z (e ∷ es) = ap (λ (x : ℕ). nodeAfter next x es) (z e) ∙ after-none next z es
 
--- each node of a list is reached, and has its place for its number
+-- each node of the list can be reached, and its index is its number
 pub record Good (next : ℕ → ℕ → ℕ) (q : ℕ) (ns : List ℕ) : Type 0 where
   pub reached : (i : ℕ) → i < length ns → Reached next q (getD ns i 0)
   pub own : (i : ℕ) → i < length ns → indexOf ns (getD ns i 0) ≡ i
@@ -79,7 +79,7 @@ module _ (next : ℕ → ℕ → ℕ) (q : ℕ) (ok : Arrows next q) where
                 h;
           }
 
-  -- what an arrow of a good list leads to is reached
+  -- an arrow from a good list leads to a node that can be reached
   target-reached : (ns : List ℕ) (k : ℕ) → Good next q ns → (target next ns k ≡ 0 → ⊥) → Reached next q (target next ns k)
   target-reached ns k g z = go (ltb (k / events) (length ns)) refl
     where
@@ -94,7 +94,7 @@ module _ (next : ℕ → ℕ → ℕ) (q : ℕ) (ok : Arrows next q) where
   good zero = good-start
   good (suc k) = good-more (reachedBy next q k) (target next (reachedBy next q k) k) (good k) (target-reached (reachedBy next q k) k (good k))
 
-  -- met lists only grow
+  -- the list of nodes only grows
   pub grows : (k d : ℕ) → More (reachedBy next q k) (reachedBy next q (k + d))
   unfolding reachedBy
   grows k zero = let e : k + 0 ≡ k = omega arith in rw e (record { rest = []; is = sym (nil (reachedBy next q k)) })
@@ -108,7 +108,7 @@ module _ (next : ℕ → ℕ → ℕ) (q : ℕ) (ok : Arrows next q) where
       let n = insert-more (reachedBy next q (k + d)) (target next (reachedBy next q (k + d)) (k + d)) in
       rw e (record { rest = m .rest ++ n .rest; is = n .is ∙ ap (λ (l : List ℕ). l ++ n .rest) (m .is) ∙ append-assoc (reachedBy next q k) (m .rest) (n .rest) })
 
-  -- with no arrow left, none is met any more
+  -- once no arrow is left, no node is added
   pub rests : (k d : ℕ) → events * length (reachedBy next q k) ≤ k → reachedBy next q (k + d) ≡ reachedBy next q k
   unfolding reachedBy
   rests k zero h = let e : k + 0 ≡ k = omega arith in rw e
@@ -120,7 +120,7 @@ module _ (next : ℕ → ℕ → ℕ) (q : ℕ) (ok : Arrows next q) where
       (List·getD-eq-default (reachedBy next q k) 0 {n = i} (omega arith)) ∙ ok .none ((k + d) % events) in
       rw (e, r, z) (insert-none (reachedBy next q k))
 
-  -- of a node with a number, so has each next one
+  -- every successor of a numbered node has a number
   pub closed : statesOf next q ≤ mostStates → (i e : ℕ) → i < statesOf next q → e < events → (next (getD (nodes next q) i 0) e ≡ 0 → ⊥)
       → indexOf (nodes next q) (next (getD (nodes next q) i 0) e) < statesOf next q
   closed s i e h l z = go (ltb i (length now)) refl
@@ -157,7 +157,7 @@ module _ (next : ℕ → ℕ → ℕ) (q : ℕ) (ok : Arrows next q) where
           omega (arith, ap length b, length-append (reachedBy next q (suc k)) (m₁ .rest))
 
   module _ (s : statesOf next q ≤ mostStates) where
-    -- where an event leads from a node with a number: nowhere, or to a node with a number
+    -- an event leads from a numbered node nowhere, or to a numbered node
     pub data Leads (i e y : ℕ) : Type 0 where
       nowhere : y ≡ 0 → Leads i e y
       on : (y ≡ 0 → ⊥) → indexOf (nodes next q) y < statesOf next q → getD (nodes next q) (indexOf (nodes next q) y) 0 ≡ y → Leads i e y
@@ -176,7 +176,7 @@ module _ (next : ℕ → ℕ → ℕ) (q : ℕ) (ok : Arrows next q) where
             let p = closed s i e h (ltb-true e events g) z in
             on z p (place-at (nodes next q) y p)
 
-    -- what is reached from a node has a number
+    -- every node reached from a numbered node has a number
     on-from : (es : List ℕ) (i : ℕ) → i < statesOf next q → (nodeAfter next (getD (nodes next q) i 0) es ≡ 0 → ⊥)
         → indexOf (nodes next q) (nodeAfter next (getD (nodes next q) i 0) es) < statesOf next q
     on-from [] i h z = omega (arith, place-of (nodes next q) i h)
@@ -231,7 +231,7 @@ nodes-exact = exactly
 -- ---- the policy
 
 module _ (next : ℕ → ℕ → ℕ) (q : ℕ) where
-  -- the policy's arrow is the number of where the event leads
+  -- the policy's arrow is the number of the node that the event leads to
   pub arrow-is : (i e : ℕ) → i < statesOf next q → e < events → arrow (policyFrom next q) i e ≡ nodeState (nodes next q) (next (getD (nodes next q) i 0) e)
   unfolding tableOf
   arrow-is i e h k =
@@ -303,7 +303,7 @@ taken-reaches next q table t = go (nodesFit next q) refl (ltb (length table) (ev
           leaves = rw (e, f) (take-at (tableOf next q) (drop (length (tableOf next q)) table) (events * statesOf next q) (length-table next q));
         }
 
--- the bytes written are 256 at most
+-- at most 256 bytes are written
 pub place-most : (next : ℕ → ℕ → ℕ) (q room : ℕ) → reachOf next q room .answer .place ≤ events * mostStates
 unfolding reachOf reachAnswer
 place-most next q room = go (nodesFit next q) refl (ltb room (events * statesOf next q)) refl

@@ -1,4 +1,4 @@
--- The worked sample, by computation.
+-- The example holds, by computation.
 use mathlib.Core.Path.{refl}
 use Rattle.policy_spec.specs.maps.Maps.{build}
 use Rattle.policy_spec.specs.reachability.Reach.{insert, reachedBy, tableOf}

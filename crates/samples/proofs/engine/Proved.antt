@@ -1,4 +1,4 @@
--- Every claim of this module is proved.
+-- The proof of all claims of this module.
 use Rattle.samples.specs.engine.Proved.{Proved}
 use Rattle.samples.proofs.engine.Samples.{sample-holds}
 

@@ -50,7 +50,7 @@ paired-with x y =
       readings = λ i m n. absurd (let z : i < length (after layout policy code (memory x) (runs y) .consumed) = n in omega (arith, ap (λ (us : List ℕ). length us) (nothing-used x y)));
     }
 
--- the machine, given no log
+-- the machine without a log
 machine-waits : (x : ℕ) → Waiting layout commands (machineAfter layout policy commands (memory x) (pausedRun x ∷ []) .machine)
     × (machineAfter layout policy commands (memory x) (pausedRun x ∷ []) .begun ≡ 2)
 unfolding ones leadingZeros rightLayout rightPolicy rightLandings bitsFrom landingsOf instrOf routine bundlesFor wordOf shapeOf decodeBundle bundleAt isCommand
@@ -58,14 +58,14 @@ unfolding ones leadingZeros rightLayout rightPolicy rightLandings bitsFrom landi
     afterAll
 machine-waits x = (record { running = refl; event = 0; third = refl }, refl)
 
--- the machine, after SET
+-- the machine after SET
 machine-boundary : (x : ℕ) → let c = machineAfter layout policy commands (memory x) (machineOne x ∷ []) in AtBoundary layout (c .machine) × (c .machine .status ≡ Running) × (c .begun ≡ 1)
 unfolding ones leadingZeros rightLayout rightPolicy rightLandings bitsFrom landingsOf instrOf routine bundlesFor wordOf shapeOf decodeBundle bundleAt isCommand
     commandOf fetchOf plainOf installAnswer installMemory installMachine effectOf applyOf loopFrom machineRunOf begins machineOn machineTaken machineRun
     afterAll
 machine-boundary x = (inl refl, refl, refl)
 
--- and the engine's one run uses no reading
+-- the engine's run uses no reading
 unread : (x : ℕ) → (after layout policy code (memory x) (pausedRun x ∷ []) .consumed ≡ []) × (after layout policy code (memory x) (engineOne x ∷ []) .consumed ≡ [])
 unfolding ones leadingZeros rightLayout rightPolicy rightLandings bitsFrom landingsOf fieldsRefusal refusalAt firstRefused instrOf routine bundlesFor plainOf
     installAnswer installMemory applyOf checkedEvent instrEffect instrEffectAt withState applyEffect loopFrom refusalBy runOf runOn afterTaken afterRun afterAll

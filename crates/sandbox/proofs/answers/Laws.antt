@@ -1,4 +1,4 @@
--- Laws of the answer to a routine's bytes, one for each way out of the code.
+-- Laws of the answer for a routine's bytes, one for each return.
 use Prim.Native.Nat.{ℕ, zero, suc, _+_, _-_, _≤_, _<_}
 use mathlib.Core.Path.{_≡_, refl, sym, ap, _∙_}
 use mathlib.Core.Bool.{Bool, true, false, cond}
@@ -45,7 +45,7 @@ module _ (lay : Layout) (n past room : ℕ) (b : Bool) (e : b ≡ rightLayout la
     unfolding landingsAnswer
     based l a ea = ea ∙ rw (← e, h, le-ltb past n l)
 
--- words that are instructions are refused at the first bad landing, if at all
+-- words that are instructions can only be refused as bad landing (8)
 first-refused : (n : ℕ) (ws : List ℕ) (i : ℕ) → TakesEach wordRefusal ws → i + length ws ≤ n → (z : Answer)
     → firstRefused (refusalAt n) ws i z ≡ cond (ltb (firstPast n ws i) n) (refusal BadLanding (firstPast n ws i)) z
 unfolding firstRefused firstPast refusalAt
@@ -58,7 +58,7 @@ first-refused n (w ∷ ws) i all h z = go (badLanding n w) refl (λ l. first-ref
     go true e ih = rw (all 0 (omega arith), e, lt-ltb i n (omega arith))
     go false e ih = rw (all 0 (omega arith), e) (ih (omega arith))
 
--- words that are read are instructions
+-- words that were read are instructions
 read-clean : (n : ℕ) (s : List ℕ) → TakesEach wordRefusal (wordsOf n s)
 unfolding wordsOf
 read-clean zero s = λ j h. absurd (omega arith)
@@ -68,7 +68,7 @@ read-clean (suc n) s = go (decodeOne s) refl (λ u. read-clean n (drop u s))
     go (Word w u) eo ih = elim [ zero ↦ λ h. one-clean s w u eo | suc j ↦ λ h. ih u j (omega arith) ]
     go (RefusedWith x) eo ih = λ j h. absurd (omega arith)
 
--- the checker refuses nothing that the rewriter writes
+-- the checker passes what the rewriter writes
 nothing-checked : (lay : Layout) (ws : List ℕ) (room : ℕ) → rewriteAnswer lay ws room
     ≡ orElse (rewriteAnswer lay ws room) (orElse (checkAnswer lay (commandsOf lay ws)) (answer 0 (commandCount (length ws))))
 nothing-checked lay ws room =

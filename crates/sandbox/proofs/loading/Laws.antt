@@ -1,4 +1,4 @@
--- Laws of loading, one for each way out of the code.
+-- Laws of loading, one for each return.
 use Prim.Native.Nat.{ℕ, _≤_}
 use mathlib.Core.Path.{_≡_, refl, sym, ap, _∙_}
 use mathlib.Core.List.{List}
@@ -27,13 +27,13 @@ module _ (lay : Layout) (pol : Policy) (s out mem : List ℕ) where
   abbrev loads : Answer
   loads = loadAnswer lay pol s (length out) mem
 
-  -- a loaded routine has the answer that translating gave
+  -- a load that is taken has the answer of translating
   loads-are : (a : Answer) → a ≡ translateAnswer lay s (length out) → loads ≡ orElse a (orElse (installAnswer lay pol mem) a)
   unfolding loadAnswer
   loads-are a e = rw (← e)
 
   module _ (a : Answer) (e : a ≡ translateAnswer lay s (length out)) where
-    -- what a caller learns of the record, the commands and the memory
+    -- what is promised about record, commands and memory
     abbrev Loaded : Installed → List ℕ → List ℕ → Type 0
     Loaded i out′ mem′ =
         (i ≡ loadOf lay pol s (length out) mem) × ((out′ ≡ loadCommands lay pol s out mem)
@@ -59,7 +59,7 @@ module _ (lay : Layout) (pol : Policy) (s out mem : List ℕ) where
       unfolding translateAnswer
       rewritten = else-none (rewriteAnswer lay code (length out)) _ (else-none (readAnswer s mostInstructions) _ taken .1) .0
 
-      -- the checker refuses nothing here
+      -- the checker passes these commands
       unchecked : checkAnswer lay (commandsOf lay code) .number ≡ 0
       unfolding translateAnswer
       unchecked = else-none (checkAnswer lay (commandsOf lay code)) _ (else-none (rewriteAnswer lay code (length out)) _ (else-none (readAnswer s mostInstructions) _ taken .1) .1) .0

@@ -1,4 +1,4 @@
--- `crate::print_events` meets its contract: it reads the log within the pairs that it is given.
+-- `crate::print_events` meets its contract: it reads the log only within its pairs.
 use Prim.Native.Nat.{_≤_, _-_}
 use native.Mathlib.Omega.{arith}
 use borrow.Author.Needs.{needs}

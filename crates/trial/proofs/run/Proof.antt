@@ -24,7 +24,7 @@ run-value-requires c κs = search needs
 slice-aggregate-print-events : tie.Need-slice-aggregate-print-events
 slice-aggregate-print-events c = search needs
 
--- a run's pairs lie within its log
+-- a run's pairs are within its log
 within : (o : Outcome) (mem log : List ℕ) (r : RunResult) (g rd : List ℕ) (n : ℕ) → runResultOf o mem log ≡ r → RunCounts g rd n r → pairCells * o .answer .pairs ≤ length log
 within o mem log r g rd n e k =
     let c : RunCounts g rd n (runResultOf o mem log) = subst (λ (x : RunResult). RunCounts g rd n x) (sym e) k in

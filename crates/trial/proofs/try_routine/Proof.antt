@@ -1,4 +1,4 @@
--- `crate::try_routine` meets its contract: a loaded routine's commands lie within the list lent for them.
+-- `crate::try_routine` meets its contract: a loaded routine's commands are within their list.
 use mathlib.Core.Path.{sym}
 use lib.Seq.{length-take-le}
 use borrow.Author.Needs.{needs}

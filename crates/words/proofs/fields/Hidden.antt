@@ -1,4 +1,4 @@
--- A register field is the hidden register where its four bits stand: three fields by one AND. Assumes nothing.
+-- A register field names the hidden register if its four bits are 1: one AND tests all three fields. Assumes nothing.
 use Prim.Native.Nat.{ℕ, _+_, _/_, _%_, _^_, _<_}
 use mathlib.Core.Path.{_≡_, refl, sym, _∙_, ap}
 use mathlib.Core.Bool.{Bool, true, false, _&&_}
@@ -14,11 +14,11 @@ use Rattle.words.specs.fields.Guests.{onlyGuestRegisters}
 use Rattle.spec.proofs.Tables.{all, each}
 use Rattle.words.proofs.fields.Masks.{field, all-zero}
 
--- the AND of the four bits of a field
+-- the AND of a field's four bits
 unfoldable four : ℕ → ℕ
 four x = bitAnd (bitAnd (x % 2 ^ 1) (x / 2 % 2 ^ 1)) (bitAnd (x / 4 % 2 ^ 1) (x / 8 % 2 ^ 1))
 
--- two truth values that agree
+-- whether two truth values are equal
 unfoldable same : Bool → Bool → Bool
 same true b = b
 same false true = false
@@ -34,7 +34,7 @@ four-is : (x : ℕ) → x < 16 → eqb (four x) 0 ≡ ltb x guestRegisters
 unfolding all four same
 four-is x h = same-is _ _ (each (λ (x : ℕ). same (eqb (four x) 0) (ltb x guestRegisters)) x 16 refl h)
 
--- two bits at a time, then two of those: at the place k of a field, the four bits of the field from k on
+-- two bits at a time, then two of those: at bit k, the AND of the four bits from k on
 module _ (w : ℕ) where
   abbrev pairs : ℕ
   pairs = bitAnd w (w / 2 ^ 1)
@@ -56,7 +56,7 @@ module _ (w : ℕ) where
   abbrev masked : ℕ
   masked = bitAnd fours lowest
 
-  -- a register field under the mask is the AND of the field's bits
+  -- a masked register field is the AND of the field's bits
   at-four : (k : ℕ) → lowest / 2 ^ k % 2 ^ 4 ≡ 1 → masked / 2 ^ k % 2 ^ 4 ≡ four (w / 2 ^ k % 2 ^ 4)
   at-four k e =
       field 4 k fours lowest

@@ -17,11 +17,11 @@ use Rattle.words.specs.fields.Guests.{onlyGuestRegisters}
 use Rattle.words.proofs.fields.Masks.{bool-ext, Within}
 use Rattle.words.proofs.guest.Masks.{guest-within, within-guest}
 
--- what is said of the fields, said of the word
+-- from the fields to the word
 pub word-refusal : (w z : ℕ) (f : Fields) → z ≡ zeroOf w → f ≡ fieldsOf w → (x : ℕ) → x ≡ fieldsRefusal (ltb 0 z) f → x ≡ wordRefusal w
 word-refusal w z f ez e x ex = ex ∙ rw (ez, e)
 
--- ---- a word without a stray bit, of the guest's registers
+-- ---- a word without a stray bit that names only guest registers
 
 is-guest : (x : ℕ) → x ≤ topGuest → ltb x guestRegisters ≡ true
 is-guest x h = lt-ltb x guestRegisters (omega arith)

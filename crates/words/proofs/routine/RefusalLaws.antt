@@ -17,7 +17,7 @@ at-refused n w x e h = rw (← e, ne-eqb x 0 h)
 pub lands : (n w k v : ℕ) → k ≡ kindOf w → v ≡ vOf w → (eqb k (guest .goif) && ltb n v) ≡ badLanding n w
 lands n w k v ek ev = rw (ek, ev)
 
--- whether it is a GOIF that leads past the words
+-- `beyond` says whether it is a GOIF past the end
 module _ (n w : ℕ) (beyond : Bool) (eb : beyond ≡ badLanding n w) where
   module _ (x : ℕ) (e : x ≡ wordRefusal w) (z : x ≡ 0) where
     pub at-landing : beyond ≡ true → numberOf BadLanding ≡ refusalAt n w
@@ -28,6 +28,6 @@ module _ (n w : ℕ) (beyond : Bool) (eb : beyond ≡ badLanding n w) where
     unfolding refusalAt
     at-taken h = rw (← e, ← eb, eq-eqb x 0 z, h)
 
-  -- a clean word, and no landing past the words
+  -- a word that is an instruction, and no GOIF past the end
   pub clean-at : (r : Bool) → r ≡ eqb (wordRefusal w) 0 → (r && not beyond) ≡ true → numberOf Taken ≡ refusalAt n w
   clean-at r f t = let u = both r (not beyond) t in at-taken 0 (clean-judged w r f (u .0)) refl (not-true beyond (u .1))

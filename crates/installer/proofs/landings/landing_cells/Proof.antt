@@ -7,7 +7,7 @@ use Rattle.installer.proofs.landings.Marks.{no-marks, below-most, mark-
 use Rattle.installer.proofs.landings.landing_cells.Statement.{statement}
 use Rattle.installer.proofs.landings.landing_cells.Tie as tie
 
--- the cells of the entries so far
+-- invariant: the cells of the entries so far
 abbrev Inv-loop : tie.InvT-loop
 Inv-loop landings cells₀ i₀ cells i = (cells ≡ landingsOf (take i landings)) × (i ≤ length landings)
 

@@ -7,7 +7,7 @@ use Rattle.installer.proofs.landings.Marks.{rising-start, not-rising, t
 use Rattle.installer.proofs.landings.landings_right.Statement.{statement}
 use Rattle.installer.proofs.landings.landings_right.Tie as tie
 
--- the entries that are left decide
+-- invariant: the entries that are left decide
 abbrev Inv-loop : tie.InvT-loop
 Inv-loop landings low₀ i₀ low i = (risingFrom low (drop i landings) ≡ rightLandings landings) × (i ≤ length landings)
 

@@ -8,7 +8,7 @@ use Rattle.policy_spec.proofs.precedence.Laws.{firsts-none, firsts-more, firsts
 use Rattle.policy_precedence.proofs.arrows.firsts_recorded.Statement.{statement}
 use Rattle.policy_precedence.proofs.arrows.firsts_recorded.Tie as tie
 
--- the pairs so far
+-- invariant: the pairs so far
 abbrev Inv-loop : tie.InvT-loop
 Inv-loop names pairs s e ok₀ i₀ ok i = (ok ≡ firstsIn pairs s e i) × (i ≤ length pairs / 2)
 

@@ -9,7 +9,7 @@ use Rattle.policy_spec.proofs.precedence.Laws.{all-none, all-more, all-fits, al
 use Rattle.policy_precedence.proofs.unreachable.blocked_events.Statement.{statement}
 use Rattle.policy_precedence.proofs.unreachable.blocked_events.Tie as tie
 
--- the events so far
+-- invariant: the events so far
 abbrev Inv-loop : tie.InvT-loop
 Inv-loop names pairs s map₀ e₀ map e = (map ≡ mapWhere (blocked pairs s) e) × (e ≤ events)
 

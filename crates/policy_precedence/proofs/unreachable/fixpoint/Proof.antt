@@ -8,7 +8,7 @@ use Rattle.policy_spec.proofs.precedence.Laws.{turns-none, turns-more, turns-do
 use Rattle.policy_precedence.proofs.unreachable.fixpoint.Statement.{statement}
 use Rattle.policy_precedence.proofs.unreachable.fixpoint.Tie as tie
 
--- the steps so far
+-- invariant: the steps so far
 abbrev Inv-loop : tie.InvT-loop
 Inv-loop names pairs s₀ i₀ s i = (s ≡ iterate pairs i) × (i ≤ mostNamed * events)
 

@@ -9,7 +9,7 @@ use Rattle.policy_reachability.proofs.writing.Laws.{copy-more, copy-don
 use Rattle.policy_reachability.proofs.writing.copy.Statement.{statement}
 use Rattle.policy_reachability.proofs.writing.copy.Tie as tie
 
--- the bytes so far
+-- invariant: the bytes so far are copied
 abbrev Inv-loop : tie.InvT-loop
 Inv-loop from to₀ n i₀ to i = (to ≡ take i from ++ drop i to₀) × (i ≤ n) × (length to ≡ length to₀)
 

@@ -7,7 +7,7 @@ use borrow.Author.Needs.{needs}
 use Rattle.sandbox.proofs.loading.load.Statement.{statement}
 use Rattle.sandbox.proofs.loading.load.Tie as tie
 
--- j is where the bytes were judged, v where the installation was, w where the commands were written, k where they were checked
+-- in this proof, j is the point after the bytes were tested, v after the installation was, w after the commands were written, k after they were checked
 returns : tie.Need-returns
 returns c =
     let j = c .before .before in

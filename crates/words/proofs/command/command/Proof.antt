@@ -7,7 +7,7 @@ use Rattle.words.proofs.command.Laws.{named-is, named-plain, named-stra
 use Rattle.words.proofs.command.command.Statement.{statement}
 use Rattle.words.proofs.command.command.Tie as tie
 
--- where the match begins
+-- at the match, the word is a command
 ok : (c : tie.Else1) → isCommand (c .before .before .args .w) ≡ true
 ok c = sym (c .before .is-command .ensures) ∙ not-false _ (c .if1 .left)
 
