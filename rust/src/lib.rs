@@ -1,13 +1,14 @@
-//! Guest routines on a drum controller, kept to their sandbox by rewriting and
-//! checking.
+//! Runs guest routines on a drum controller, and keeps them to their sandbox by
+//! rewriting and checking.
 //!
-//! [`native`] (feature `native`) wraps the C library that firmware links.
-//! [`model`] is a second implementation of the same rules in plain Rust,
-//! written from the rules alone and to be read beside them, so that tests can
-//! hold the library against it. Both speak the types of this module and the
-//! numbers of [`names`], and their answers compare directly. [`text`] holds the
-//! text forms of routines, drums and policies, which the command `hemdroas`
-//! (feature `native`) reads and prints.
+//! - [`native`] (feature `native`) wraps the C library that firmware links.
+//! - [`model`] implements the same rules a second time, in plain Rust, written
+//!   from the rules alone. Tests compare the library with it.
+//! - [`text`] reads and prints the text forms of routines, drums and policies, for
+//!   the command `hemdroas` (feature `native`).
+//!
+//! Library and model share the types of this module and the numbers of [`names`],
+//! so their answers can be compared directly.
 
 #![deny(missing_docs)]
 

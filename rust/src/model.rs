@@ -1,8 +1,7 @@
 //! The rules in plain Rust, to be read beside them.
 //!
-//! Each function renders the sentence that stands above it, in its words and
-//! its order: numbers of 64 bits where nothing may wrap, fields one by one,
-//! ranges and sets of addresses. Nothing here is meant to be quick.
+//! Each function does what the quoted sentence above it says, in the same order.
+//! Numbers have 64 bits where nothing may wrap. Nothing here is meant to be fast.
 
 mod arithmetic;
 mod bundles;

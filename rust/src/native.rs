@@ -1,10 +1,10 @@
 //! Safe wrappers of the C library (`include/hemdroas.h`).
 //!
-//! A number that the header does not define makes a wrapper panic: a library
-//! that answers so is not the one this package was written for.
+//! A wrapper panics if the library answers a number that the header does not
+//! define: then it is not the library that this package was written for.
 //!
-//! Lengths have 64 bits on every machine, as in the header. A pointer to a
-//! record is one to an array of the header's length.
+//! Lengths have 64 bits on every machine, as in the header. A pointer to a record
+//! points to an array of the header's length.
 
 #![deny(clippy::undocumented_unsafe_blocks)]
 

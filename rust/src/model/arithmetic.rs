@@ -1,5 +1,4 @@
-//! What registers hold after arithmetic, and conditions; guest and machine have
-//! them in common.
+//! Arithmetic and conditions, which guest and machine share.
 
 const MODULUS: u64 = 1 << 32;
 
@@ -23,8 +22,7 @@ pub fn or(x: u32, y: u32) -> u32 {
     x | y
 }
 
-/// A cell as two's complement: from 2^31 on it stands for that number less
-/// 2^32.
+/// A cell as a signed number: from 2^31 on, the cell less 2^32.
 fn signed(x: u32) -> i64 {
     let x = i64::from(x);
     if x < 1 << 31 {

@@ -1,4 +1,4 @@
-//! Bundles: their number, their addresses, and the one that ends a list.
+//! Bundles: how many a routine has, their addresses, and the one that ends a list.
 
 use super::commands::Command;
 use crate::names::BUNDLE_LENGTH;
@@ -26,7 +26,7 @@ pub fn pch(layout: &Layout, bundles: usize) -> u32 {
 }
 
 /// 'Instruction g becomes four commands at addresses B + 4g to B + 4g + 3.'
-/// This is the first, summed without wrap.
+/// Returns the first of these, summed without wrap.
 pub fn address(layout: &Layout, g: usize) -> u64 {
     u64::from(layout.base) + (BUNDLE_LENGTH * g) as u64
 }
@@ -39,8 +39,7 @@ pub fn bundles(instructions: usize) -> usize {
         .expect("powers of two have no end")
 }
 
-/// Whether a list of so many bundles can be: 'N a power of two from 1 to
-/// 1,024'.
+/// Whether a list may have so many bundles: 'N a power of two from 1 to 1,024'.
 pub fn count_right(bundles: usize) -> bool {
     (0..=10).any(|power| bundles == 1 << power)
 }

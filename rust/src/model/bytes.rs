@@ -1,4 +1,4 @@
-//! Reading and writing the byte form.
+//! Reads and writes the byte form of a routine.
 
 use super::instructions::{judge, judge_fields};
 use super::outputs::{deliver, refuse, room_for, Refused};
@@ -6,11 +6,11 @@ use super::words::{fields, word, Fields};
 use crate::names::MOST_INSTRUCTIONS;
 use crate::{Answer, Refusal};
 
-/// The bytes of a routine not read yet.
+/// The bytes that have not been read yet.
 struct Rest<'a>(&'a [u8]);
 
 impl Rest<'_> {
-    /// So many bytes as a number, 'low first'. '1: bytes end early.'
+    /// Reads so many bytes as a number, 'low first'. '1: bytes end early.'
     fn number(&mut self, bytes: usize) -> Result<u32, Refusal> {
         if self.0.len() < bytes {
             return Err(Refusal::Short);
@@ -50,7 +50,7 @@ impl Rest<'_> {
                 present_zero = present_zero || *field == 0;
             }
         }
-        // 2 for a present field that is 0 stands between 3 and 4.
+        // A present field that is 0 is foreign matter (2), which comes between 3 and 4.
         let judged = judge_fields(read);
         if present_zero && judged != Err(Refusal::UnknownKind) {
             return Err(Refusal::Foreign);

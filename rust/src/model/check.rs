@@ -1,4 +1,4 @@
-//! Checking command lists, from whatever producer.
+//! Checks command lists, whoever wrote them.
 
 use super::bundles::{address, base_right, count_right, pch, pcl, Bundle, HALT};
 use super::commands::Command::{self, *};
@@ -7,16 +7,16 @@ use super::outputs::{answer, refuse, Refused};
 use crate::names::{BUNDLE_LENGTH, GUEST_REGISTERS, HIDDEN};
 use crate::{Answer, Layout, Refusal};
 
-/// The commands of four words, if they are commands.
+/// The four commands, if all four words are commands.
 fn commands_of(words: &[u64]) -> Option<Bundle> {
     let commands: Option<Vec<Command>> = words.iter().map(|&word| Command::of_word(word)).collect();
     commands?.try_into().ok()
 }
 
 /// 'Shapes, of words that are commands by the step rule below, with t = NOP and
-/// guest registers 0 to 7.' Each arm is one of them; request [6]: guest
-/// registers are 0 to 14, and 'all shapes that named 8 now name 15'; request
-/// [12]: 'the event bundle becomes LOOK, STOPIF, EVENT, KEEP'.
+/// guest registers 0 to 7.' Each arm is one shape. Request [6]: guest registers
+/// are 0 to 14, and 'all shapes that named 8 now name 15'. Request [12]: 'the event
+/// bundle becomes LOOK, STOPIF, EVENT, KEEP'.
 #[rustfmt::skip]
 fn has_shape(layout: &Layout, bundles: usize, bundle: Bundle) -> bool {
     let guests = |registers: &[u32]| registers.iter().all(|&r| r < GUEST_REGISTERS);
@@ -76,7 +76,7 @@ fn checked(layout: &Layout, commands: &[u64]) -> Result<(), Refused> {
     Ok(())
 }
 
-/// Checks a command list, from whatever producer.
+/// Checks a command list, whoever wrote it.
 pub fn check(layout: &Layout, commands: &[u64]) -> Answer {
     answer(checked(layout, commands).map(|()| 0))
 }

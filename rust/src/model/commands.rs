@@ -30,8 +30,8 @@ pub enum Command {
 }
 
 impl Command {
-    /// The command of a kind, with those of the fields that the kind has; none
-    /// of a kind above 19.
+    /// The command of a kind, from the fields that the kind has; `None` for a kind
+    /// above 19.
     pub fn of_kind(fields: Fields) -> Option<Command> {
         let Fields { d, a, b, c, v, .. } = fields;
         Some(match fields.kind {
@@ -87,14 +87,14 @@ impl Command {
         }
     }
 
-    /// Its word.
+    /// The command's word.
     pub fn word(self) -> u64 {
         word(self.fields())
     }
 
     /// 'Register above 8, c above 3, v above its kind's bound': 31 for SAR and
-    /// SHL, 15 for LOOK and EVENT. Request [6]: no register of a word is above
-    /// 15, now the last.
+    /// SHL, 15 for LOOK and EVENT. Since request [6] every register of four bits is
+    /// in range.
     fn is_off_range(self) -> bool {
         let Fields { d, a, b, c, .. } = self.fields();
         let out_of_bound = match self {
@@ -109,8 +109,8 @@ impl Command {
             || out_of_bound
     }
 
-    /// 'A word that is no command (stray bit, kind above 19, register above
-    /// 8', now 15, 'c above 3, v above its kind's bound)' is none.
+    /// `None` for 'a word that is no command (stray bit, kind above 19, register
+    /// above 8', now 15, 'c above 3, v above its kind's bound)'.
     pub fn of_word(word: u64) -> Option<Command> {
         let fields = fields(word);
         let command = Command::of_kind(fields)?;

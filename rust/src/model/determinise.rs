@@ -1,5 +1,5 @@
-//! Request [8], a policy from a drawing with several arrows: its states are
-//! sets of the drawing's states.
+//! Request [8], a policy from a drawing with several arrows. Each state of the
+//! policy is a set of the drawing's states.
 
 use std::collections::BTreeSet;
 
@@ -8,10 +8,10 @@ use super::outputs::{deliver, refuse, room_for, Refused};
 use crate::names::{CELL_BITS, EVENTS, MOST_STATES};
 use crate::{Answer, Determinised, Drawing, Refusal};
 
-/// States of a drawing.
+/// A set of the drawing's states.
 type Set = BTreeSet<u32>;
 
-/// The states whose bit is set in a map.
+/// The set of states whose bit is set.
 fn set_of(map: u32) -> Set {
     let stands = |bit: &u32| map / (1 << bit) % 2 == 1;
     (0..CELL_BITS).filter(stands).collect()
@@ -33,8 +33,8 @@ fn is_bad_drawing(drawing: &Drawing) -> bool {
         || arrows.iter().any(|&map| has_bit_above(u32::from(map)))
 }
 
-/// 'Entry 16 × s + n such a map of the successors of state s under event n'; of
-/// a set, all of its states' successors.
+/// 'Entry 16 × s + n such a map of the successors of state s under event n'. For
+/// a set: the successors of all its states.
 fn successors(drawing: &Drawing, from: &Set, event: u32) -> Set {
     let of_state = |&state: &u32| drawing.arrows[(EVENTS * state + event) as usize];
     from.iter()
@@ -56,7 +56,7 @@ fn policy_of(drawing: &Drawing, room: usize) -> Result<Vec<u8>, Refused> {
     Ok(table)
 }
 
-/// Makes the policy of a drawing; its start is the set that was met first.
+/// Makes the policy of a drawing. Its start is the set of starts, found first.
 /// 'After a reject all else handed back is 0.'
 pub fn determinise(drawing: &Drawing, table: &mut [u8]) -> Determinised {
     let answer = deliver(policy_of(drawing, table.len()), table);

@@ -1,11 +1,10 @@
-//! Policies whose states are numbered as they are first met: requests [7] and
-//! [8].
+//! Searches for all states that events lead to, for requests [7] and [8].
 
 use super::outputs::{refuse, Refused};
 use crate::names::{EVENTS, MOST_STATES, NO_ARROW};
 use crate::Refusal;
 
-/// The number of something met, which now is, if it never was.
+/// The number of a state; a new state is added at the end.
 fn number_of<T: PartialEq>(met: &mut Vec<T>, one: T) -> usize {
     match met.iter().position(|other| *other == one) {
         Some(number) => number,
@@ -17,8 +16,8 @@ fn number_of<T: PartialEq>(met: &mut Vec<T>, one: T) -> usize {
 }
 
 /// 'Numbered as first met, events taken in rising order from the lowest
-/// numbered': the bytes of the policy of these numbers. '15 (too many states:
-/// more than 16)', which can be said as soon as it is known.
+/// numbered': the bytes of the table. '15 (too many states: more than 16)' is
+/// answered as soon as it is known.
 pub fn explored<T: PartialEq>(
     start: T,
     after: impl Fn(&T, u32) -> Option<T>,

@@ -17,8 +17,8 @@ fn is_forward(place: usize, instr: Instr) -> bool {
     }
 }
 
-/// The same of the command that a bundle's word is: a GOIF goes to an address,
-/// and only a GOX has a GOXR.
+/// The same for a bundle's command: a GOIF goes to an address, and only a GOX has
+/// a GOXR.
 fn is_forward_command(layout: &Layout, place: usize, word: u64) -> bool {
     match Command::of_word(word) {
         Some(Command::GoReg { .. }) => false,
@@ -42,7 +42,7 @@ fn of_words(words: &[u64]) -> Result<(), Refused> {
     lowest(places.map(|(place, &instr)| is_forward(place, instr)))
 }
 
-/// Checks that a routine's words are of the class.
+/// Checks that a routine's words are forward.
 pub fn forward(words: &[u64]) -> Answer {
     answer(of_words(words).map(|()| 0))
 }
@@ -62,7 +62,7 @@ pub fn check_forward(layout: &Layout, commands: &[u64]) -> Answer {
     answer(lowest(forward).map(|()| 0))
 }
 
-/// '4 × (N − 1) + 1', the most steps of a list of N bundles of the class.
+/// '4 × (N − 1) + 1', the most steps of a forward list of N bundles.
 pub fn most_steps(bundles: usize) -> u64 {
     (BUNDLE_LENGTH * (bundles - 1) + 1) as u64
 }

@@ -1,4 +1,4 @@
-//! Installing a policy and a list of landings.
+//! Installs a policy and a list of landings.
 
 use super::landings::{are_bad_landings, landing_cells};
 use super::layout::lent_right;

@@ -26,8 +26,8 @@ pub enum Instr {
 }
 
 impl Instr {
-    /// The instruction of a kind, with those of the fields that the kind has;
-    /// none of a kind above 12.
+    /// The instruction of a kind, from the fields that the kind has; `None` for a
+    /// kind above 12.
     pub fn of_kind(fields: Fields) -> Option<Instr> {
         let Fields { d, a, b, c, v, .. } = fields;
         Some(match fields.kind {
@@ -69,7 +69,7 @@ impl Instr {
         }
     }
 
-    /// Its word.
+    /// The instruction's word.
     pub fn word(self) -> u64 {
         word(self.fields())
     }
@@ -91,8 +91,8 @@ impl Instr {
     }
 }
 
-/// What one of the kinds 1 to 7 puts into which register: 'rd becomes v', 'rd
-/// becomes ra', and so on.
+/// The register that one of the kinds 1 to 7 sets, and its new value: 'rd becomes
+/// v', 'rd becomes ra', and so on.
 pub fn outcome(instr: Instr, regs: &[u32; GUEST_REGISTERS as usize]) -> (u32, u32) {
     let get = |register: u32| regs[register as usize];
     match instr {
@@ -108,7 +108,7 @@ pub fn outcome(instr: Instr, regs: &[u32; GUEST_REGISTERS as usize]) -> (u32, u3
 }
 
 /// '3: kind above 12', '2: present field not the kind's; stray bit in a word',
-/// then 4.
+/// then off grade (4).
 pub fn judge_fields(fields: Fields) -> Result<Instr, Refusal> {
     let Some(instr) = Instr::of_kind(fields) else {
         return Err(Refusal::UnknownKind);

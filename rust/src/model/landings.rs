@@ -1,4 +1,4 @@
-//! Request [1], a list of landings.
+//! Request [1]: the list of landings, the instructions that GOX may go to.
 
 use crate::names::{CELL_BITS, LANDING_CELLS, MOST_BUNDLES};
 use crate::Layout;
@@ -26,7 +26,7 @@ pub fn landing_cells(landings: &[u32]) -> [u32; LANDING_CELLS as usize] {
     cells
 }
 
-/// Whether the bit of an instruction, 0 to 1,023, is set.
+/// Whether the bit of an instruction from 0 to 1,023 is set.
 pub fn is_landing(layout: &Layout, memory: &[u32], instruction: u32) -> bool {
     let (k, j) = place(instruction);
     memory[(layout.landings + k) as usize] / (1 << j) % 2 == 1

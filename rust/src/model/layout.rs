@@ -1,4 +1,4 @@
-//! Right layouts and the mask.
+//! Tests whether a layout is right, and computes the mask.
 
 use std::ops::Range;
 
@@ -67,8 +67,8 @@ pub fn entry_address(layout: &Layout, state: u32, event: u32) -> u64 {
     u64::from(layout.table) + u64::from(EVENTS) * u64::from(state) + u64::from(event)
 }
 
-/// What an event records of r0. Request [2]: 'an order now records the smaller
-/// of r0 and its ceiling', 'readings are untouched'.
+/// What an event records for r0. Request [2]: 'an order now records the smaller of
+/// r0 and its ceiling', 'readings are untouched'.
 pub fn recorded(layout: &Layout, event: u32, r0: u32) -> u32 {
     match layout.ceilings.get(event as usize) {
         Some(&ceiling) => r0.min(ceiling),

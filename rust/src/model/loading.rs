@@ -1,12 +1,12 @@
-//! A routine's bytes made into an installed machine and its commands.
+//! Loads a routine: turns its bytes into commands and an installed machine.
 
 use super::{check, install, read, rewrite};
 use crate::names::{MOST_COMMANDS, MOST_INSTRUCTIONS};
 use crate::{Answer, Layout, Machine, Policy};
 
-/// 'The first reject of reading, rewriting, checking, installing, or 0', with
-/// the commands at the start of the list; a refusal leaves list and memory as
-/// they were.
+/// 'The first reject of reading, rewriting, checking, installing, or 0'. The
+/// commands go to the start of the list. A refusal leaves list and memory as they
+/// were.
 pub fn load(
     layout: &Layout,
     policy: &Policy,

@@ -1,5 +1,5 @@
-//! Request [7], two policies at once: the merged one's states are pairs of
-//! theirs.
+//! Request [7], two policies at once. Each state of the merged policy is a pair of
+//! their states.
 
 use super::exploration::explored;
 use super::outputs::{deliver, refuse, room_for, Refused};
@@ -13,7 +13,7 @@ fn is_bad(side: &Side) -> bool {
 }
 
 /// '10', then '15 (too many states: more than 16 reachable pairs) follows it. 9
-/// comes last.' A pair has an arrow where both of its states have one.
+/// comes last.' A pair has an arrow if both of its states have one.
 fn pairs_of(one: &Side, other: &Side, room: usize) -> Result<Vec<u8>, Refused> {
     if is_bad(one) || is_bad(other) {
         return refuse(Refusal::BadPolicy);
@@ -31,8 +31,8 @@ fn smaller(one: &Ceilings, other: &Ceilings) -> Ceilings {
     std::array::from_fn(|event| one[event].min(other[event]))
 }
 
-/// Merges two policies; the start is the pair of the two starts, which was met
-/// first. 'After a reject all else handed back is 0.'
+/// Merges two policies. The start is the pair of the two starts, found first.
+/// 'After a reject all else handed back is 0.'
 pub fn merge(one: &Side, other: &Side, table: &mut [u8]) -> Merged {
     let answer = deliver(pairs_of(one, other, table.len()), table);
     let (states, ceilings) = match answer {

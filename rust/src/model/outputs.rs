@@ -1,12 +1,12 @@
-//! What a refusal and a success do to a lent output.
+//! What a refusal and a success do to an output buffer.
 
 use crate::{Answer, Refusal};
 
 /// A refusal with its place.
 pub type Refused = (Refusal, usize);
 
-/// 'Each comes with a place: the instruction for 1 to 4 and 8, the bundle for
-/// 11, else 0.' This one is such a 0.
+/// A refusal without a place. 'Each comes with a place: the instruction for 1 to 4
+/// and 8, the bundle for 11, else 0.'
 pub fn refuse<T>(refusal: Refusal) -> Result<T, Refused> {
     Err((refusal, 0))
 }

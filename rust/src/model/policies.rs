@@ -1,4 +1,4 @@
-//! What makes a policy right.
+//! Tests whether a policy is right.
 
 use crate::names::{EVENTS, NO_ARROW};
 use crate::Policy;
@@ -10,7 +10,7 @@ pub fn is_entry(states: u32, byte: u8) -> bool {
 }
 
 /// '10: length not 16 × S, start not below S, or a byte neither below S nor
-/// 255'; what S must be, the part that is given the policy says.
+/// 255'. The caller tests S.
 pub fn is_bad_policy(policy: &Policy) -> bool {
     let Policy {
         states,

@@ -9,10 +9,10 @@ use crate::{Made, Refusal};
 /// 'More than four named events' are too many.
 const MOST_NAMED: usize = 4;
 
-/// Events recorded, of those that the pairs name.
+/// The named events that were recorded.
 type Recorded = BTreeSet<u8>;
 
-/// A list of pairs that is not refused.
+/// A list of pairs that is right.
 struct Pairs {
     pairs: Vec<(u8, u8)>,
     named: BTreeSet<u8>,
@@ -66,7 +66,7 @@ impl Pairs {
         Some(after)
     }
 
-    /// The policy's bytes, 16 for each state.
+    /// The table, 16 bytes for each state.
     fn table(&self) -> Vec<u8> {
         let mut table = Vec::new();
         for state in 0..self.states() {
@@ -81,9 +81,8 @@ impl Pairs {
         table
     }
 
-    /// 'A 16-bit map of the events that no allowed word holds': all but those
-    /// with an arrow in a state to which allowed words lead from the start,
-    /// where nothing is recorded.
+    /// 'A 16-bit map of the events that no allowed word holds': all events but those
+    /// with an arrow in some state that events lead to from the start.
     fn never(&self) -> u16 {
         let mut never: BTreeSet<u8> = (0..EVENTS as u8).collect();
         let mut met = vec![Recorded::new()];
@@ -111,9 +110,9 @@ fn made(events: &[u8], room: usize) -> Result<(Pairs, Vec<u8>), Refused> {
     Ok((pairs, table))
 }
 
-/// Makes the policy in which the second of each pair has an arrow only once
-/// the first has been recorded; 'the start state is 0'. 'After a reject all
-/// else handed back is 0.'
+/// Makes the policy in which the second event of each pair has an arrow only once
+/// the first has been recorded. 'The start state is 0'. 'After a reject all else
+/// handed back is 0.'
 pub fn precedence(pairs: &[u8], table: &mut [u8]) -> Made {
     match made(pairs, table.len()) {
         Ok((pairs, bytes)) => Made {

@@ -1,12 +1,11 @@
-//! What a run records and the readings that it takes; machine and engine have
-//! it in common.
+//! What a run records, and the readings that it uses. Machine and engine share it.
 
 use super::layout::recorded;
 use crate::names::ORDERS;
 use crate::{Ending, Layout, Status};
 
-/// 'A machine already ended, stopped or faulted answers that.' Request [1]: 26
-/// is 'lasting'.
+/// 'A machine already ended, stopped or faulted answers that.' Request [1]: no
+/// landing (26) is 'lasting' too.
 pub fn lasting(status: Status) -> Option<Ending> {
     match status {
         Status::Running => None,
@@ -17,9 +16,9 @@ pub fn lasting(status: Status) -> Option<Ending> {
     }
 }
 
-/// A run's readings and log, and how many of the readings and pairs it has
-/// behind it: 'a run writes log pairs, two cells each, from cell 0, takes
-/// readings from cell 0'.
+/// A run's readings and log, and how many readings and pairs it has used so far:
+/// 'a run writes log pairs, two cells each, from cell 0, takes readings from cell
+/// 0'.
 pub struct Records<'a> {
     readings: &'a [u32],
     log: &'a mut [u32],
@@ -30,7 +29,7 @@ pub struct Records<'a> {
 }
 
 impl<'a> Records<'a> {
-    /// None yet.
+    /// At the start of a run.
     pub fn new(readings: &'a [u32], log: &'a mut [u32]) -> Self {
         Records {
             readings,

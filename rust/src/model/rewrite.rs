@@ -1,4 +1,4 @@
-//! Rewriting instructions into bundles.
+//! Rewrites instructions into bundles.
 
 use super::bundles::{address, alone, base_right, bundles, pch, pcl, Bundle, HALT};
 use super::commands::Command;
@@ -85,7 +85,7 @@ fn rewritten(layout: &Layout, words: &[u64], room: usize) -> Result<Vec<u64>, Re
         .collect())
 }
 
-/// Rewrites a routine's words into commands that keep to the layout.
+/// Rewrites a routine's words into commands.
 pub fn rewrite(layout: &Layout, words: &[u64], commands: &mut [u64]) -> Answer {
     deliver(rewritten(layout, words, commands.len()), commands)
 }

@@ -1,6 +1,6 @@
-//! Words and their fields.
+//! Packs and unpacks the fields of a word.
 
-/// The fields of an instruction or command word, each as a number of its own.
+/// The fields of an instruction or command word.
 #[derive(Clone, Copy, Debug, PartialEq, Eq, Default)]
 #[allow(missing_docs)]
 pub struct Fields {
@@ -14,7 +14,7 @@ pub struct Fields {
     pub v: u32,
 }
 
-/// The number that stands in bits `first` to `last` of a word.
+/// Bits `first` to `last` of a word, as a number.
 fn bits(word: u64, first: u32, last: u32) -> u32 {
     let above = u128::from(word) / (1 << first);
     (above % (1 << (last - first + 1))) as u32
@@ -34,7 +34,7 @@ pub fn fields(word: u64) -> Fields {
     }
 }
 
-/// The word of fields that fit in their bits.
+/// Packs fields that fit their bits.
 pub fn word(fields: Fields) -> u64 {
     let at = |field: u32, first: u32| u64::from(field) * (1 << first);
     at(fields.kind, 0)

@@ -1,4 +1,4 @@
-//! Policies from drawings with several arrows.
+//! Makes policies from drawings with several arrows for one event.
 
 use super::{answer, length};
 use crate::{Determinised, Drawing};
@@ -9,8 +9,8 @@ extern "C" {
                             table: *mut u8, room: u64, made: *mut [u32; 4]);
 }
 
-/// Makes the policy of a drawing: its table at the start of the one lent, its
-/// states and its start.
+/// Makes the policy of a drawing: writes its table to the start of `table`, and
+/// answers its states and its start.
 pub fn determinise(drawing: &Drawing, table: &mut [u8]) -> Determinised {
     let mut four = [0; 4];
     // SAFETY: arrows and table are live slices of the lengths given; table and `four` are borrowed for this call alone.

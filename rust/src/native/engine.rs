@@ -1,4 +1,4 @@
-//! Running a routine as it is written.
+//! Runs a routine's words without rewriting them.
 
 use super::length;
 use crate::{Ending, Engine, EngineAnswer, EngineRecord, Layout, LayoutArray, Refusal};
@@ -29,7 +29,7 @@ fn engine_answer([number, place, instructions, pairs, readings]: [u32; 5]) -> En
     }
 }
 
-/// Which function of the library a call takes.
+/// Which function of the library is called.
 #[derive(Clone, Copy)]
 enum Entry {
     /// `hemdroas_engine_run`
@@ -72,7 +72,7 @@ fn call(entry: Entry, layout: &Layout, words: &[u64], budget: u32, lent: Lent) -
     engine_answer(five)
 }
 
-/// A call on the record of an engine.
+/// Calls the library with an engine's record.
 fn call_on(
     engine: &mut Engine,
     call: impl FnOnce(&mut EngineRecord) -> EngineAnswer,
@@ -83,8 +83,8 @@ fn call_on(
     answer
 }
 
-/// Runs a routine's words as they are written, until they end, pause or have
-/// used up the budget of instructions.
+/// Runs a routine's words until it ends, pauses or has used up its budget of
+/// instructions.
 pub fn engine(
     layout: &Layout,
     words: &[u64],
@@ -99,8 +99,8 @@ pub fn engine(
     })
 }
 
-/// [`engine`] on a record of the C interface, whose status may be any number:
-/// one above all counts as faulted and comes back as it was.
+/// [`engine`] on a record of the C interface. Its status may be any number: one
+/// above 4 counts as faulted, and the record stays as it was.
 pub fn engine_record(
     layout: &Layout,
     words: &[u64],
@@ -119,9 +119,8 @@ pub fn engine_record(
     call(Entry::Run, layout, words, budget, lent)
 }
 
-/// Goes on with words that [`engine`] took before, without judging all of them
-/// again: each is judged as it is reached, and one that is no instruction
-/// faults.
+/// Does what [`engine`] does, but tests each word only when its turn comes. A word
+/// that is no instruction faults.
 pub fn engine_continue(
     layout: &Layout,
     words: &[u64],
@@ -136,7 +135,7 @@ pub fn engine_continue(
     })
 }
 
-/// [`engine_continue`] on a record of the C interface, as [`engine_record`].
+/// [`engine_continue`] on a record of the C interface, like [`engine_record`].
 pub fn engine_continue_record(
     layout: &Layout,
     words: &[u64],

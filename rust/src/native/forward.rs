@@ -1,4 +1,4 @@
-//! Checks of the class that always finishes.
+//! Checks for forward routines, which always finish.
 
 use super::{answer, length};
 use crate::{Answer, Layout, LayoutArray};
@@ -9,8 +9,8 @@ extern "C" {
     fn hemdroas_check_forward(layout: *const LayoutArray, commands: *const u64, n: u64, answer: *mut [u32; 2]);
 }
 
-/// Checks that a routine's words have no GOX and no GOIF to its own or a lower
-/// instruction.
+/// Checks that a routine's words are forward: no GOX, and each GOIF goes to a
+/// higher instruction.
 pub fn forward(words: &[u64]) -> Answer {
     let mut pair = [0; 2];
     // SAFETY: words are a live slice of the length given; the call writes `pair` alone.
@@ -20,7 +20,7 @@ pub fn forward(words: &[u64]) -> Answer {
     answer(pair)
 }
 
-/// Checks a command list, and the same of its bundles.
+/// Checks a command list, and that its bundles are forward.
 pub fn check_forward(layout: &Layout, commands: &[u64]) -> Answer {
     let mut pair = [0; 2];
     // SAFETY: layout and commands are live, commands of the length given; the call writes `pair` alone.

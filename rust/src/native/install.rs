@@ -1,4 +1,4 @@
-//! Installing and loading.
+//! Installs policies and loads routines.
 
 use super::{answer, length};
 use crate::{Answer, Layout, LayoutArray, Machine, Policy, Record};
@@ -14,8 +14,8 @@ extern "C" {
                      memory: *mut u32, cells: u64, machine: *mut [u32; Record::LENGTH], answer: *mut [u32; 2]);
 }
 
-/// Whether there are 1 to 16 states and each of a word's four bytes is one of
-/// them or no arrow: the test of a policy's table, four bytes together.
+/// Tests four bytes of a policy's table as one word: whether `states` is 1 to 16
+/// and each byte is a state or no arrow.
 #[inline]
 pub fn word_right(states: u32, word: u32) -> bool {
     // SAFETY: the call takes two numbers and no pointer.
@@ -26,9 +26,8 @@ pub fn word_right(states: u32, word: u32) -> bool {
     }
 }
 
-/// Writes the policy and the bits of the landings, a rising list, into memory
-/// and yields a machine at the first command; after a refusal,
-/// [`Machine::REFUSED`].
+/// Writes the policy and the landings, a rising list, into memory, and yields a
+/// machine at the first command. After a refusal it yields [`Machine::REFUSED`].
 pub fn install(
     layout: &Layout,
     policy: &Policy,
@@ -68,9 +67,8 @@ pub fn install_record(
     answer(pair)
 }
 
-/// Loads a routine: reads its bytes, rewrites, checks and installs, and yields
-/// a machine at the first of its commands; after a refusal of any of the four,
-/// [`Machine::REFUSED`].
+/// Loads a routine: reads its bytes, rewrites, checks and installs. It yields a
+/// machine at the first command, or [`Machine::REFUSED`] after a refusal.
 pub fn load(
     layout: &Layout,
     policy: &Policy,

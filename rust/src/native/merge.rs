@@ -1,9 +1,9 @@
-//! Two policies at once.
+//! Merges two policies.
 
 use super::{answer, length};
 use crate::{Merged, Side};
 
-/// A state count, a start state and eight ceilings.
+/// A policy's numbers: states, start and eight ceilings.
 type Ten = [u32; 10];
 
 #[rustfmt::skip]
@@ -18,8 +18,8 @@ fn ten(side: &Side) -> Ten {
     [states, start, a, b, c, d, e, f, g, h]
 }
 
-/// Merges two policies into one that allows what both allow: its table at the
-/// start of the one lent, its states, its start and its ceilings.
+/// Merges two policies into one that allows what both allow: writes its table to
+/// the start of `table`, and answers its states, start and ceilings.
 pub fn merge(one: &Side, other: &Side, table: &mut [u8]) -> Merged {
     let (table1, table2) = (one.policy.table, other.policy.table);
     let (mut merged, mut pair) = ([0; 10], [0; 2]);

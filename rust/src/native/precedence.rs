@@ -1,4 +1,4 @@
-//! Policies from pairs of events.
+//! Makes policies from pairs of events.
 
 use super::{answer, length};
 use crate::Made;
@@ -19,9 +19,9 @@ fn made([number, place, states, never]: [u32; 4]) -> Made {
     }
 }
 
-/// Makes the policy of pairs of events, each first before its second: its table
-/// at the start of the one lent, its states, of which 0 is the start, and the
-/// events that it never allows.
+/// Makes a policy from pairs of events, in which the first must come before the
+/// second. Writes its table to the start of `table`, and answers its states, of
+/// which 0 is the start, and the events that it never allows.
 pub fn precedence(pairs: &[u8], table: &mut [u8]) -> Made {
     let mut four = [0; 4];
     // SAFETY: pairs and table are live slices of the lengths given; table and `four` are borrowed for this call alone.

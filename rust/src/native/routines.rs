@@ -1,4 +1,4 @@
-//! Reading, writing, rewriting and checking.
+//! Reads, writes, rewrites and checks routines.
 
 use super::{answer, length};
 use crate::{Answer, Layout, LayoutArray};
@@ -43,7 +43,7 @@ pub fn write(words: &[u64], bytes: &mut [u8]) -> Answer {
     answer(pair)
 }
 
-/// Rewrites a routine's words into commands that keep to the layout.
+/// Rewrites a routine's words into commands.
 pub fn rewrite(layout: &Layout, words: &[u64], commands: &mut [u64]) -> Answer {
     let mut pair = [0; 2];
     // SAFETY: layout, words and commands are live and of the lengths given; commands and `pair` are borrowed for this call alone.
@@ -60,7 +60,7 @@ pub fn rewrite(layout: &Layout, words: &[u64], commands: &mut [u64]) -> Answer {
     answer(pair)
 }
 
-/// Checks a command list, from whatever producer.
+/// Checks a command list, whoever wrote it.
 pub fn check(layout: &Layout, commands: &[u64]) -> Answer {
     let mut pair = [0; 2];
     // SAFETY: layout and commands are live, commands of the length given; the call writes `pair` alone.

@@ -1,4 +1,4 @@
-//! Running, and looking ahead.
+//! Runs machines, and previews runs.
 
 use super::{length, run_answer};
 use crate::{Layout, LayoutArray, Machine, Record, RunAnswer};
@@ -30,8 +30,8 @@ pub fn run(
     answer
 }
 
-/// [`run`] on a record of the C interface, whose status may be any number: one
-/// above all counts as faulted and comes back as it was.
+/// [`run`] on a record of the C interface. Its status may be any number: one above
+/// 4 counts as faulted, and the record stays as it was.
 pub fn run_record(
     layout: &Layout,
     commands: &[u64],
@@ -62,8 +62,8 @@ pub fn run_record(
     run_answer(four)
 }
 
-/// What [`run`] would answer and write to the log, and the machine that it
-/// would leave; machine and memory stay as they are.
+/// What [`run`] would answer and write to the log, and the machine that it would
+/// leave. Machine and memory do not change.
 pub fn preview(
     layout: &Layout,
     commands: &[u64],
@@ -82,9 +82,9 @@ pub fn preview(
     (answer, after.to_machine())
 }
 
-/// [`preview`] with records of the C interface: `after` becomes what
-/// [`run_record`] would make of `record`, `work` what it would make of
-/// `memory`. A `work` of another length than the layout's size is refused.
+/// [`preview`] with records of the C interface. It leaves in `after` what
+/// [`run_record`] would leave in `record`, and in `work` what it would leave in
+/// `memory`. It refuses a `work` of another length than the layout's size.
 #[allow(clippy::too_many_arguments)]
 pub fn preview_record(
     layout: &Layout,

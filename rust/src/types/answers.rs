@@ -2,7 +2,7 @@
 
 use std::fmt;
 
-/// The cases of a table of the rules, each with its number and its word.
+/// Makes an enum from a table of the rules: each case has a number and a name.
 macro_rules! table {
     ($(#[$about:meta])* $name:ident: $($(#[$when:meta])* $case:ident = $number:literal $word:literal,)*) => {
         $(#[$about])*
@@ -12,15 +12,15 @@ macro_rules! table {
         }
 
         impl $name {
-            /// Every case, in the order of their numbers.
+            /// Every case, in the order of the numbers.
             pub const ALL: &'static [$name] = &[$($name::$case,)*];
 
-            /// The number of the table.
+            /// The case's number.
             pub fn number(self) -> u32 {
                 self as u32
             }
 
-            /// The case of a number, if there is one.
+            /// The case with this number, if there is one.
             pub fn from_number(number: u32) -> Option<Self> {
                 $name::ALL.iter().copied().find(|case| case.number() == number)
             }
@@ -37,83 +37,83 @@ macro_rules! table {
 }
 
 table! {
-    /// Why something was refused. It prints as the word of the rules' table.
+    /// Why a call was refused. It prints as the name in the rules' table.
     Refusal:
-    /// 1: bytes end early.
+    /// 1: the bytes end too early.
     Short = 1 "short weight",
-    /// 2: a map of 64 or more, a present field that is 0 or not the kind's, or
-    /// a stray bit in a word.
+    /// 2: a map of 64 or more, a present field that is 0 or not of the kind, or a
+    /// stray bit in a word.
     Foreign = 2 "foreign matter",
-    /// 3: a kind above 12.
+    /// 3: the kind is above 12.
     UnknownKind = 3 "unknown variety",
-    /// 4: a register, condition, shift or event out of its range.
+    /// 4: a register, condition, shift or event is out of range.
     OffRange = 4 "off grade",
     /// 5: more than 1,023 instructions.
     Oversize = 5 "oversize",
-    /// 6: bytes after the last instruction.
+    /// 6: bytes follow the last instruction.
     Trailing = 6 "overweight",
-    /// 7: a layout that is not right, or a memory of another length.
+    /// 7: the layout is not right, or memory has another length.
     BadLayout = 7 "bad layout",
-    /// 8: a jump behind the end of the routine.
+    /// 8: a GOIF jumps past the end of the routine.
     BadLanding = 8 "bad landing",
     /// 9: the output is too short.
     SmallOutput = 9 "small hopper",
-    /// 10: a policy that cannot be installed.
+    /// 10: the policy is not right, or does not fit the layout.
     BadPolicy = 10 "bad policy",
-    /// 11: a bundle of no allowed shape, or a last one that is not HALT.
+    /// 11: four commands that are no allowed bundle, or the last bundle is not HALT.
     BadBundle = 11 "bad bundle",
-    /// 12: not the commands of 1, 2, 4, ... 1,024 bundles.
+    /// 12: the number of commands is not that of 1, 2, 4, ... 1,024 bundles.
     BadCount = 12 "bad count",
-    /// 13: a code base that is no multiple of the list's length.
+    /// 13: the base is not a multiple of the number of commands.
     BadBase = 13 "bad base",
-    /// 14: landings that do not rise strictly, or one above 1,023.
+    /// 14: the landings are not strictly rising, or one is above 1,023.
     BadLandings = 14 "bad landing list",
-    /// 15: a policy that would have more than 16 states.
+    /// 15: the policy would have more than 16 states.
     TooManyStates = 15 "too many states",
-    /// 16: a drawing with no start, a state count outside 1 to 16, the wrong
-    /// length, or a bit at or above the state count.
+    /// 16: the drawing has no start, not 1 to 16 states, the wrong length, or a bit
+    /// for a state that does not exist.
     BadDrawing = 16 "bad drawing",
-    /// 17: a pair with an event above 15 or without its partner, or more than
-    /// four named events.
+    /// 17: an event above 15, an odd number of events, or more than four different
+    /// ones.
     BadPair = 17 "bad pair",
-    /// 18: a GOX, or a GOIF to its own or a lower instruction.
+    /// 18: a GOX, or a GOIF to its own instruction or a lower one.
     NotForward = 18 "not forward",
 }
 
 table! {
-    /// How a run came back. It prints as the word of the rules' table.
+    /// How a run ended. It prints as the name in the rules' table.
     Ending:
-    /// 7: the run was refused, for its layout or its memory's length.
+    /// 7: the run was refused: layout not right, or memory of another length.
     Refused = 7 "bad layout",
-    /// 20: the routine ended.
+    /// 20: the routine finished.
     Done = 20 "ended",
-    /// 21: the policy had no arrow, and the routine was stopped.
+    /// 21: the policy stopped the routine: the event was not allowed.
     NoArrow = 21 "no arrow",
-    /// 22: the machine faulted.
+    /// 22: a bad address or a bad command.
     Fault = 22 "fault",
-    /// 23: the next event has no room in the log. The machine can go on.
+    /// 23: a pause: the log has no room for the next event.
     LogFull = 23 "log full",
-    /// 24: the next event has no reading. The machine can go on.
+    /// 24: a pause: there is no reading for the next event.
     Silent = 24 "probe silent",
-    /// 25: the budget is used up. The machine can go on.
+    /// 25: a pause: the budget is used up.
     Spent = 25 "spent",
-    /// 26: a jump through a register to no landing, and the routine was
-    /// stopped.
+    /// 26: the routine was stopped: a jump through a register to an instruction that
+    /// is no landing.
     NoLanding = 26 "no landing",
 }
 
-/// The answer of every operation but running.
+/// What every operation but running answers.
 #[derive(Clone, Copy, Debug, PartialEq, Eq)]
 #[must_use]
 pub enum Answer {
-    /// Taken: so many words, bytes or commands were written. Checking and
-    /// installing, which write none of these, give 0.
+    /// Success: how many words, bytes or commands were written. Checking and
+    /// installing give 0.
     Taken(u32),
-    /// Refused; nothing that was lent has changed.
+    /// A refusal: nothing that was lent has changed.
     Refused {
         /// Why.
         refusal: Refusal,
-        /// The instruction or bundle at fault, else 0.
+        /// The number of the bad instruction or bundle, else 0.
         place: u32,
     },
 }
@@ -141,16 +141,16 @@ impl Answer {
     }
 }
 
-/// The answer of a run. A refused run has three zeros beside its ending.
+/// What a run answers. A refused run has three zeros after its ending.
 #[derive(Clone, Copy, Debug, PartialEq, Eq)]
 #[must_use]
 pub struct RunAnswer {
-    /// How the run came back.
+    /// How the run ended.
     pub ending: Ending,
-    /// Steps done, a fault counted too.
+    /// Commands executed, a fault included.
     pub steps: u32,
-    /// Pairs written to the log, two cells each.
+    /// Events recorded; each takes two log cells.
     pub pairs: u32,
-    /// Readings taken.
+    /// Readings used.
     pub readings: u32,
 }

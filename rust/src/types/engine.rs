@@ -1,4 +1,4 @@
-//! Engines, which run a routine as it is written.
+//! Engines, which run a routine's words without rewriting them.
 
 use super::answers::{Ending, Refusal};
 use super::machine::{numbers, parts, Status};
@@ -13,45 +13,45 @@ pub struct Engine {
     pub regs: [u32; REGISTERS],
     /// The index of the next instruction.
     pub at: u32,
-    /// What the engine is doing.
+    /// Whether it runs, and how it ended if not.
     pub status: Status,
 }
 
 impl Engine {
-    /// An engine before its first run.
+    /// The engine before its first run.
     pub const FIRST: Engine = Engine {
         regs: [0; REGISTERS],
         at: 0,
         status: Status::Running,
     };
 
-    /// The engine as the C interface holds it.
+    /// The engine as the C interface stores it.
     pub fn to_record(&self) -> EngineRecord {
         EngineRecord(numbers(&self.regs, self.at, self.status))
     }
 }
 
-/// An engine as the C interface holds it: its registers, the index of the next
+/// An engine as the C interface stores it: registers, index of the next
 /// instruction, status. A host may have written any number into any of them.
 #[derive(Clone, Copy, Debug, PartialEq, Eq)]
 pub struct EngineRecord(pub [u32; EngineRecord::LENGTH]);
 
 impl EngineRecord {
-    /// The place of the index, which follows the registers.
+    /// Where the index is: after the registers.
     pub const AT: usize = REGISTERS;
-    /// The place of the status.
+    /// Where the status is.
     pub const STATUS: usize = REGISTERS + 1;
-    /// The numbers of a record.
+    /// How many numbers a record has.
     pub const LENGTH: usize = REGISTERS + 2;
 
-    /// The engine that this record stands for.
+    /// The engine that the record means.
     pub fn to_engine(&self) -> Engine {
         let (regs, at, status) = parts(&self.0);
         Engine { regs, at, status }
     }
 
-    /// Runs the engine that this record stands for, and keeps what becomes of
-    /// it. One that is not running stays as it is, with a status above all too.
+    /// Runs the engine that the record means, and stores it after the run. A record
+    /// that is not running stays as it was, also with a status above 4.
     pub fn run(&mut self, run: impl FnOnce(&mut Engine) -> EngineAnswer) -> EngineAnswer {
         let mut engine = self.to_engine();
         let is_running = engine.status == Status::Running;
@@ -63,22 +63,22 @@ impl EngineRecord {
     }
 }
 
-/// The answer of an engine's run. A refused run has three zeros behind it.
+/// What a run of the engine answers. A refused run has three zeros.
 #[derive(Clone, Copy, Debug, PartialEq, Eq)]
 #[must_use]
 pub struct EngineAnswer {
-    /// How the run came back, or why it was refused, with the place.
+    /// How the run ended, or why it was refused, with the place.
     pub came: Result<Ending, (Refusal, u32)>,
-    /// Instructions done, a fault or a stop counted too.
+    /// Instructions executed, a fault or a stop included.
     pub instructions: u32,
-    /// Pairs written to the log, two cells each.
+    /// Events recorded; each takes two log cells.
     pub pairs: u32,
-    /// Readings taken.
+    /// Readings used.
     pub readings: u32,
 }
 
 impl EngineAnswer {
-    /// The number of the ending or of the refusal.
+    /// The number of the ending or the refusal.
     pub fn number(&self) -> u32 {
         match self.came {
             Ok(ending) => ending.number(),

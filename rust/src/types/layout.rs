@@ -4,9 +4,8 @@ use super::policies::Ceilings;
 
 /// Where everything lies in the memory of one drum.
 ///
-/// Any numbers may be written here; whether they make a right layout is for
-/// the operations to say, which refuse a wrong one with
-/// [`Refusal::BadLayout`].
+/// Any numbers may be written here. Each operation tests them, and refuses a
+/// layout that is not right with [`Refusal::BadLayout`].
 #[derive(Clone, Copy, Debug, PartialEq, Eq)]
 pub struct Layout {
     /// U, the number of memory cells.
@@ -21,18 +20,17 @@ pub struct Layout {
     pub table: u32,
     /// S, the number of policy states.
     pub states: u32,
-    /// B, the address of the first command: any number, but for a list a
-    /// multiple of its length.
+    /// B, the address of the first command. It must be a multiple of the number of
+    /// commands.
     pub base: u32,
     /// Q, the first of 32 cells with a bit for each landing.
     pub landings: u32,
-    /// What the orders record at most: an order records the smaller of r0 and
-    /// its event's ceiling.
+    /// The ceilings: an order records r0, but at most the ceiling of its event.
     pub ceilings: Ceilings,
 }
 
 /// A layout as the C interface takes it: U, SL, SH, M, P, S, B, Q, and the
-/// ceilings of events 0 to 7.
+/// ceilings of orders 0 to 7.
 pub type LayoutArray = [u32; 16];
 
 impl Layout {
@@ -59,7 +57,7 @@ impl Layout {
         ]
     }
 
-    /// The layout that an array of the C interface stands for.
+    /// The layout that an array of the C interface means.
     pub fn from_array(array: LayoutArray) -> Self {
         let [size, low, high, cell, table, states, base, landings, ceilings @ ..] = array;
         Layout {

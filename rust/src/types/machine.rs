@@ -1,25 +1,25 @@
-//! Machines.
+//! Machines, which run commands.
 
 use super::answers::RunAnswer;
 use crate::names::REGISTERS;
 
-/// What a machine or an engine is doing.
+/// Whether a machine or an engine runs, and how it ended if not.
 #[derive(Clone, Copy, Debug, PartialEq, Eq)]
 pub enum Status {
-    /// 0: it has steps left to do.
+    /// 0: it can run.
     Running,
-    /// 1: it came to a HALT.
+    /// 1: the routine finished.
     Ended,
-    /// 2: the policy had no arrow for its event.
+    /// 2: the policy stopped it.
     Stopped,
-    /// 3: it left its list, its memory or the command words.
+    /// 3: a bad address or a bad command.
     Faulted,
-    /// 4: it took a jump through a register to no landing.
+    /// 4: it stopped at a jump through a register to no landing.
     Strayed,
 }
 
 impl Status {
-    /// Every status, in the order of their numbers from 0.
+    /// Every status, in the order of the numbers from 0.
     pub const ALL: [Status; 5] = [
         Status::Running,
         Status::Ended,
@@ -28,12 +28,12 @@ impl Status {
         Status::Strayed,
     ];
 
-    /// The number in a record.
+    /// The status's number in a record.
     pub fn number(self) -> u32 {
         self as u32
     }
 
-    /// The status of a record's number: one above all counts as faulted.
+    /// The status with this number; a number above 4 counts as faulted.
     pub fn from_number(number: u32) -> Self {
         match Status::ALL.get(number as usize) {
             Some(&status) => status,
@@ -42,7 +42,7 @@ impl Status {
     }
 }
 
-/// A record's numbers: registers, the place of what comes next, status.
+/// A record's numbers: registers, pc or index, status.
 pub(super) fn numbers<const REGISTERS: usize, const LENGTH: usize>(
     regs: &[u32; REGISTERS],
     place: u32,
@@ -54,7 +54,7 @@ pub(super) fn numbers<const REGISTERS: usize, const LENGTH: usize>(
     numbers
 }
 
-/// What a record's numbers stand for.
+/// The registers, pc or index, and status that a record's numbers mean.
 pub(super) fn parts<const REGISTERS: usize, const LENGTH: usize>(
     numbers: &[u32; LENGTH],
 ) -> ([u32; REGISTERS], u32, Status) {
@@ -66,16 +66,16 @@ pub(super) fn parts<const REGISTERS: usize, const LENGTH: usize>(
 /// A machine between two runs.
 #[derive(Clone, Copy, Debug, PartialEq, Eq)]
 pub struct Machine {
-    /// The guest's registers, and the hidden one, which is the last.
+    /// The guest's registers, and last the hidden one.
     pub regs: [u32; REGISTERS],
     /// The address of the next command.
     pub pc: u32,
-    /// What the machine is doing.
+    /// Whether it runs, and how it ended if not.
     pub status: Status,
 }
 
 impl Machine {
-    /// What installing yields: at the first command, with registers 0.
+    /// The machine that installing yields: at the first command, with registers 0.
     pub fn new(base: u32) -> Self {
         Machine {
             regs: [0; REGISTERS],
@@ -84,40 +84,40 @@ impl Machine {
         }
     }
 
-    /// What installing yields after a refusal: no machine to run.
+    /// The machine that installing yields after a refusal: zeros, and faulted.
     pub const REFUSED: Machine = Machine {
         regs: [0; REGISTERS],
         pc: 0,
         status: Status::Faulted,
     };
 
-    /// The machine as the C interface holds it.
+    /// The machine as the C interface stores it.
     pub fn to_record(&self) -> Record {
         Record(numbers(&self.regs, self.pc, self.status))
     }
 }
 
-/// A machine as the C interface holds it: its registers, pc, status. A host may
-/// have written any number into any of them.
+/// A machine as the C interface stores it: registers, pc, status. A host may have
+/// written any number into any of them.
 #[derive(Clone, Copy, Debug, PartialEq, Eq)]
 pub struct Record(pub [u32; Record::LENGTH]);
 
 impl Record {
-    /// The place of the pc, which follows the registers.
+    /// Where the pc is: after the registers.
     pub const PC: usize = REGISTERS;
-    /// The place of the status.
+    /// Where the status is.
     pub const STATUS: usize = REGISTERS + 1;
-    /// The numbers of a record.
+    /// How many numbers a record has.
     pub const LENGTH: usize = REGISTERS + 2;
 
-    /// The machine that this record stands for.
+    /// The machine that the record means.
     pub fn to_machine(&self) -> Machine {
         let (regs, pc, status) = parts(&self.0);
         Machine { regs, pc, status }
     }
 
-    /// Runs the machine that this record stands for, and keeps what becomes of
-    /// it. One that is not running stays as it is, with a status above all too.
+    /// Runs the machine that the record means, and stores it after the run. A record
+    /// that is not running stays as it was, also with a status above 4.
     pub fn run(&mut self, run: impl FnOnce(&mut Machine) -> RunAnswer) -> RunAnswer {
         let mut machine = self.to_machine();
         let is_running = machine.status == Status::Running;
