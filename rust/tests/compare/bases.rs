@@ -1,4 +1,4 @@
-//! Code bases, from 0 to the last: request [9].
+//! Code bases from 0 to the last possible one: request [9].
 
 use crate::check::check;
 use crate::common::inputs::{
@@ -11,8 +11,7 @@ use crate::rewrite::rewrite;
 use crate::run::{self, run, run_on, some_log};
 use hemdroas::{Answer, Ending, Record};
 
-/// A routine or a list of so many bundles at a base: rewritten, checked, loaded
-/// and run.
+/// Rewrites, checks, loads and runs a routine or list of so many bundles at a base.
 fn at_base(tally: &mut Tally, rng: &mut Rng, bundles: usize, base: u32) {
     let size = 4 * bundles as u32;
     let fits = base.is_multiple_of(size);
@@ -55,8 +54,8 @@ fn at_base(tally: &mut Tally, rng: &mut Rng, bundles: usize, base: u32) {
         let answer = run_on(tally, rng, &layout, &list, &mut lent);
         assert!(!fits || answer.ending != Ending::Fault);
     }
-    // From the last command, and from the address after it, which would be 0
-    // where the list ends with the last address of all; and from 0.
+    // From the last command; from the address after it, which is 0 if the list ends
+    // at the last address; and from 0.
     let last = base.wrapping_add(size - 1);
     for pc in [last, last.wrapping_add(1), 0] {
         lent.record.0[Record::PC] = pc;
@@ -65,7 +64,7 @@ fn at_base(tally: &mut Tally, rng: &mut Rng, bundles: usize, base: u32) {
     }
 }
 
-/// For each number of bundles the first bases, those about 65,536, the last,
+/// For each number of bundles: the first bases, those near 65,536, the last,
 /// 2^32 − 4N, and odd ones.
 #[test]
 fn bases() {

@@ -8,7 +8,7 @@ use hemdroas::names::{EVENTS, ORDERS};
 use hemdroas::{Ending, Record};
 use std::cmp::Ordering;
 
-/// What an order may find in r0.
+/// How r0 compares with the order's ceiling.
 pub fn beside_its_ceiling(r0: u32, ceiling: u32) -> &'static str {
     match r0.cmp(&ceiling) {
         Ordering::Less => "orders with r0 below the ceiling",
@@ -17,14 +17,14 @@ pub fn beside_its_ceiling(r0: u32, ceiling: u32) -> &'static str {
     }
 }
 
-/// Numbers about a ceiling, and far from it.
+/// Numbers near a ceiling, and far from it.
 pub fn about(ceiling: u32) -> [u32; 5] {
     let (below, above) = (ceiling.wrapping_sub(1), ceiling.wrapping_add(1));
     [below, ceiling, above, 0, u32::MAX]
 }
 
-/// Each event with r0 about its ceiling: an order records the smaller of the
-/// two, and r0 keeps its content; a reading records what was read, whatever the
+/// Each event with r0 near its ceiling. An order records the smaller of the two,
+/// and r0 does not change. A reading event records the reading, whatever the
 /// ceilings.
 #[test]
 fn orders_about_their_ceilings() {

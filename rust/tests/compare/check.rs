@@ -19,7 +19,7 @@ pub fn check(tally: &mut Tally, layout: &Layout, commands: &[u64]) -> Answer {
     answer
 }
 
-/// Each shape with each single bit of its four words turned.
+/// Each shape with each single bit of its four words flipped.
 fn each_bit_of_a_bundle(tally: &mut Tally, rng: &mut Rng) {
     for _ in 0..cases(150) {
         let bundles = 1 << rng.between(1, 4);
@@ -37,7 +37,7 @@ fn each_bit_of_a_bundle(tally: &mut Tally, rng: &mut Rng) {
     }
 }
 
-/// Writes a bundle into a list, at the bundle of a command.
+/// Writes a bundle into a list, over the bundle that contains command `at`.
 fn put(list: &mut [u64], at: usize, bundle: [u64; 4]) {
     let from = at / 4 * 4;
     if let Some(place) = list.get_mut(from..from + 4) {

@@ -36,14 +36,14 @@ impl Drawn {
         }
     }
 
-    /// The states of a map and their successors under an event, as maps.
+    /// The states that an event leads to from a set of states.
     fn after(&self, map: u16, event: usize) -> u16 {
         (0..16)
             .filter(|state| map >> state & 1 == 1)
             .fold(0, |all, state| all | self.arrows[16 * state + event])
     }
 
-    /// How many sets events lead to, if they are not more than 17.
+    /// How many sets events lead to, if there are at most 17.
     fn sets(&self) -> Option<usize> {
         let mut met = HashSet::from([self.starts as u16]);
         let mut open = vec![self.starts as u16];
@@ -62,7 +62,7 @@ impl Drawn {
     }
 }
 
-/// A right drawing: of few or many arrows, over few or all events.
+/// A right drawing with few or many arrows, over few or all events.
 fn some_drawing(rng: &mut Rng) -> Drawn {
     let states = rng.between(1, MOST_STATES as usize);
     let events = rng.pick(&[1, 2, 2, 3, EVENTS as usize]);
@@ -90,9 +90,9 @@ fn some_drawing(rng: &mut Rng) -> Drawn {
     }
 }
 
-/// An event leads from each state to the next one, in any order of theirs;
-/// where `more`, another leads from the last to the last two: one set beside
-/// those of one state.
+/// A chain: an event leads from each state to the next, in random order. With
+/// `more`, another event leads from the last state to the last two, which gives one
+/// more set.
 fn chain(rng: &mut Rng, states: usize, more: bool) -> Drawn {
     let mut order: Vec<usize> = (0..states).collect();
     for at in 1..states {
@@ -113,7 +113,7 @@ fn chain(rng: &mut Rng, states: usize, more: bool) -> Drawn {
     }
 }
 
-/// 'The k-th event from the end is event 1': 2^k sets of k + 1 states.
+/// 'The k-th event from the end is event 1': k + 1 states, 2^k sets.
 fn from_the_end(k: usize) -> Drawn {
     let mut arrows = vec![0; 16 * (k + 1)];
     arrows[0] = 1;
@@ -132,8 +132,8 @@ fn from_the_end(k: usize) -> Drawn {
 const SIXTEEN: &str = "exactly 16 sets, taken";
 const SEVENTEEN: &str = "exactly 17 sets, refused";
 
-/// A right drawing with tables of all lengths that matter; what is made goes to
-/// the installer as it is.
+/// A right drawing with tables of all lengths that matter. The policy that is made
+/// is installed.
 fn with_each_room(tally: &mut Tally, rng: &mut Rng, drawn: &Drawn) {
     let (made, mut table) = determinise(tally, drawn, &[rng.byte(); 256]);
     let sets = drawn.sets();
@@ -184,7 +184,7 @@ fn allows_what_is_followed(tally: &mut Tally, rng: &mut Rng, drawn: &Drawn, poli
 
 type Damage = fn(&mut Rng, &mut Drawn);
 
-/// Each cause of 16, alone.
+/// Each cause of bad drawing (16), alone.
 const CAUSES: [(&str, Damage); 9] = [
     ("16 for no start", |_, drawn| drawn.starts = 0),
     ("16 for no state", |rng, drawn| {
@@ -219,7 +219,7 @@ const CAUSES: [(&str, Damage); 9] = [
     }),
     ("16 for an arrow of a state not reached", |rng, drawn| {
         one_state_fewer(drawn);
-        // The last state is now one that nothing leads to.
+        // Now nothing leads to the last state.
         let last = drawn.states as usize - 1;
         for map in &mut drawn.arrows {
             *map &= !(1 << last);
@@ -230,8 +230,8 @@ const CAUSES: [(&str, Damage); 9] = [
     }),
 ];
 
-/// Without its last state, so that there is a bit above the others; but two
-/// states are left at least.
+/// Removes the last state, so that a bit above the others is set. At least two
+/// states are left.
 fn one_state_fewer(drawn: &mut Drawn) {
     drawn.states = (drawn.states - 1).max(2);
     drawn.arrows.resize(16 * drawn.states as usize, 0);

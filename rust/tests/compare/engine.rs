@@ -1,4 +1,4 @@
-//! Running a routine as it is written, request [5]; and beside the machine.
+//! The engine, request [5]: against the model, and beside the machine.
 
 use crate::ceilings::{about, beside_its_ceiling};
 use crate::common::inputs::{
@@ -14,13 +14,13 @@ use hemdroas::{
     native, Answer, Ending, Engine, EngineAnswer, EngineRecord, Layout, Refusal, Status,
 };
 
-/// Refusals 2, 3, 4, 5, 7 and 8, and every ending.
+/// The refusals and endings that `hemdroas_engine_run` can answer.
 const NUMBERS: [u32; 13] = [2, 3, 4, 5, 7, 8, 20, 21, 22, 23, 24, 25, 26];
 
-/// Of the second entry refusals 5 and 7 alone, and every ending.
+/// Those of `hemdroas_engine_continue`: only oversize (5) and bad layout (7), and every ending.
 const CONTINUE_NUMBERS: [u32; 9] = [5, 7, 20, 21, 22, 23, 24, 25, 26];
 
-/// With a status above all, if it is not refused: it counts as faulted.
+/// A status above 4 counts as faulted, unless the run is refused.
 const ABOVE: (&str, &[u32]) = ("engine with a status above 4", &[22]);
 
 /// What a run is lent beside layout, words and readings.
@@ -31,10 +31,10 @@ pub struct Lent {
     pub log: Vec<u32>,
 }
 
-/// A run of the model's or the library's engine, on `R`.
+/// A run of the engine, of the model or of the library, on a record `R`.
 type Run<R> = fn(&Layout, &[u64], &mut R, &mut [u32], u32, &[u32], &mut [u32]) -> EngineAnswer;
 
-/// What the library answers and leaves, which the model does too.
+/// Compares what library and model answer and leave.
 fn compared(
     (modelled, given): (Run<Engine>, Run<EngineRecord>),
     layout: &Layout,
@@ -57,8 +57,8 @@ fn compared(
     (answer, left)
 }
 
-/// The second entry on what a run was lent; and, where judging takes the words,
-/// beside what that run answered and left.
+/// Compares `hemdroas_engine_continue`; if the words are taken, also with what
+/// `hemdroas_engine_run` answered and left.
 fn continues(
     tally: &mut Tally,
     layout: &Layout,
@@ -128,7 +128,7 @@ pub fn engine(
     answer
 }
 
-/// A memory with a policy and landings installed.
+/// A memory with policy and landings installed.
 fn installed(rng: &mut Rng, layout: &Layout) -> Vec<u32> {
     let mut memory = rng.cells(layout.size as usize);
     let arrows = rng.between(60, 100);
@@ -139,8 +139,8 @@ fn installed(rng: &mut Rng, layout: &Layout) -> Vec<u32> {
     memory
 }
 
-/// A record about a routine of `n`: any registers, the index inside it more
-/// often than not, any status.
+/// A record for a routine of `n` words: any registers and status, the index mostly
+/// inside it.
 fn some_record(rng: &mut Rng, n: usize) -> EngineRecord {
     let mut record = EngineRecord(std::array::from_fn(|_| rng.word() >> rng.below(32)));
     let bundles = bundles(n);
@@ -156,8 +156,8 @@ fn some_record(rng: &mut Rng, n: usize) -> EngineRecord {
     record
 }
 
-/// Routines, some of them damaged, with records and memories as they are after
-/// installing or made by hand, run several times.
+/// Routines, some damaged, with records and memories as after installing or made
+/// by hand, each run several times.
 fn routines(tally: &mut Tally, rng: &mut Rng) {
     for _ in 0..cases(20_000) {
         let n = length(rng);
@@ -178,7 +178,7 @@ fn routines(tally: &mut Tally, rng: &mut Rng) {
                 let cells = memory.len();
                 memory.resize(rng.pick(&[cells - 1, cells + 1, 0, 2 * cells]), 0);
             }
-            // The engine looks at no code base.
+            // The engine does not use the code base.
             2 => layout.base = rng.word(),
             _ => {}
         }
@@ -203,9 +203,9 @@ fn routines(tally: &mut Tally, rng: &mut Rng) {
     }
 }
 
-/// Each event with each table cell that matters, each pause at its bound and
-/// budget or none. Whatever the log and the readings, a table address of U or
-/// more faults, and then no arrow stops.
+/// Each event with each table cell that matters, each pause at its bound, and some
+/// budget or none. Whatever the log and the readings, a table address of U or more
+/// faults first, then an event that is not allowed stops.
 fn each_event(tally: &mut Tally, rng: &mut Rng) {
     let layout = right_layout(rng, 2);
     let rows = (layout.size - layout.table) / EVENTS;
@@ -247,8 +247,8 @@ fn each_event(tally: &mut Tally, rng: &mut Rng) {
     }
 }
 
-/// Each index about N, of routines of each length about a power of two: HALT
-/// from n on, a fault from N on.
+/// Each index near N, in routines of each length near a power of two: HALT from n
+/// on, a fault from N on.
 fn each_index(tally: &mut Tally, rng: &mut Rng) {
     for n in [0, 1, 2, 3, 4, 7, 8, 255, 256, 1022, 1023] {
         let bundles = bundles(n);
@@ -279,7 +279,7 @@ fn each_index(tally: &mut Tally, rng: &mut Rng) {
     }
 }
 
-/// Request [2]: each order with r0 about its ceiling.
+/// Request [2]: each order with r0 near its ceiling.
 fn each_ceiling(tally: &mut Tally, rng: &mut Rng) {
     for _ in 0..cases(60) {
         let layout = right_layout(rng, 2);
@@ -340,7 +340,7 @@ fn the_engine_beside_the_machine() {
         let mut world = World::new(native::run, &layout, &commands, machine, cells.clone());
         let (mut engine, mut records, mut used) = (Engine::FIRST, Vec::new(), 0);
         for _ in 0..300 {
-            // Now and then no reading, or too little room in the log.
+            // Sometimes there is no reading, or too little room in the log.
             let known = if rng.chance(20) { used } else { readings.len() };
             let room = rng.pick(&[0, 1, 2, 2, 2, 3]);
             let mut log = vec![0; room];

@@ -1,5 +1,5 @@
-//! Routines that always finish, request [13]: the two checks, and routines of
-//! the class run to their end.
+//! Routines that always finish, request [13]: the two checks, and forward routines
+//! run to their end.
 
 use crate::common::inputs::{
     altered_layout, any_command, any_record, damage_word, damaged_routine, instr_word, landings,
@@ -32,8 +32,8 @@ fn check_forward(tally: &mut Tally, layout: &Layout, commands: &[u64]) -> Answer
     answer
 }
 
-/// Of an instruction at a place of a routine of `n`: itself, but a GOX becomes
-/// an order and a GOIF goes to a higher instruction.
+/// Makes an instruction of a routine of `n` forward: a GOX becomes an order, and a
+/// GOIF goes to a higher instruction.
 fn turned_forward(rng: &mut Rng, place: usize, n: usize, word: u64) -> u64 {
     match Instr::of_kind(fields(word)) {
         Some(Instr::GoX { .. }) => Instr::Event { v: rng.under(8) }.word(),
@@ -45,7 +45,7 @@ fn turned_forward(rng: &mut Rng, place: usize, n: usize, word: u64) -> u64 {
     }
 }
 
-/// A routine of the class.
+/// A forward routine.
 fn forward_routine(rng: &mut Rng, layout: &Layout, n: usize) -> Vec<u64> {
     let words = routine(rng, layout, n);
     let turned = words.iter().enumerate();
@@ -54,9 +54,8 @@ fn forward_routine(rng: &mut Rng, layout: &Layout, n: usize) -> Vec<u64> {
         .collect()
 }
 
-/// Every routine of up to three words out of these: right ones of each sort, a
-/// GOIF of each condition to each place and past the end, and one of each
-/// refusal.
+/// Every routine of up to three of these words: right ones of each sort, a GOIF of
+/// each condition to each place and past the end, and one for each refusal.
 fn small_routines() -> Vec<Vec<u64>> {
     let mut words = vec![
         Instr::Halt.word(),
@@ -85,7 +84,7 @@ fn small_routines() -> Vec<Vec<u64>> {
     all
 }
 
-/// Puts a GOX or a jump to its own or a lower instruction into a routine.
+/// Puts a GOX, or a jump to its own instruction or a lower one, into a routine.
 fn break_class(rng: &mut Rng, words: &mut [u64]) {
     let place = rng.below(words.len());
     words[place] = if rng.chance(40) {
@@ -182,7 +181,7 @@ fn lists_of_the_class() {
     tally.conclude(&[("check_forward", &OF_LISTS)]);
 }
 
-/// A routine of the class, installed, and all the steps of its runs.
+/// An installed forward routine, and how many steps its runs took.
 struct Installed {
     layout: Layout,
     list: Vec<u64>,
@@ -192,9 +191,8 @@ struct Installed {
     steps: u64,
 }
 
-/// A routine of the class under a layout of its own, of so many instructions at
-/// most; some do nothing but send events, so that they reach the most steps that
-/// there can be.
+/// A forward routine of at most so many instructions, under a layout of its own.
+/// Some only send events, so that they reach the bound.
 fn installed(tally: &mut Tally, rng: &mut Rng, longest: usize, arrows: usize) -> Installed {
     let n = if rng.chance(30) {
         (1 << rng.below(6)) - 1
@@ -234,7 +232,7 @@ fn installed(tally: &mut Tally, rng: &mut Rng, longest: usize, arrows: usize) ->
 }
 
 impl Installed {
-    /// One run more, which stays within the bound.
+    /// Runs it once more, and tests the bound.
     fn run(
         &mut self,
         tally: &mut Tally,
@@ -262,17 +260,16 @@ impl Installed {
         matches!(status, Status::Ended | Status::Stopped)
     }
 
-    /// Whether a routine of more than one instruction took all the steps that
-    /// there can be.
+    /// Whether a routine of more than one instruction reached the bound.
     fn note_bound(&self, tally: &mut Tally) {
         let reached = self.steps == self.most && self.most > 5;
         tally.note("longer routines that reached the bound", u64::from(reached));
     }
 }
 
-/// Over several runs with small logs, few readings and small budgets. Some are
-/// lent too little to go on: those count nothing towards the end. A run that is
-/// lent a free pair, a reading and a budget takes a step.
+/// Several runs with small logs, few readings and small budgets. Some get too
+/// little to continue, and need not take a step. A run with a free pair, a reading
+/// and a budget takes a step.
 #[test]
 fn resumed_until_over() {
     let (mut tally, mut rng) = Tally::new("forward routines, resumed", 19);
@@ -305,8 +302,8 @@ fn resumed_until_over() {
     tally.conclude(&[("run", &[20, 21, 23, 24, 25])]);
 }
 
-/// By one run with budget, log and readings for every step and event that can
-/// be left, after another or at first: it does not pause.
+/// One run with budget, log and readings for all that can be left does not pause,
+/// at first or after another run.
 #[test]
 fn over_at_once() {
     let (mut tally, mut rng) = Tally::new("forward routines, at once", 20);

@@ -1,4 +1,4 @@
-//! The guest rule against rewriting, checking, installing and running, on the
+//! The guest rule against rewriting, checking, installing and running, all in the
 //! model: they agree at each first command of a bundle and at every end.
 
 use crate::common::inputs::{landings, layout_and_routine, policy, rewritten};

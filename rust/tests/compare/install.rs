@@ -9,7 +9,7 @@ use hemdroas::{model, native, Answer, Layout, Policy, Record};
 
 const NUMBERS: [u32; 4] = [0, 7, 10, 14];
 
-/// Installs into the memory given, and yields the record.
+/// Installs into `memory`, and gives the record.
 pub fn install(
     tally: &mut Tally,
     layout: &Layout,
@@ -36,7 +36,7 @@ pub fn install(
     (answer, given)
 }
 
-/// A policy that was made goes to the installer as it is.
+/// Installs a policy that was made.
 pub fn made_installs(tally: &mut Tally, rng: &mut Rng, policy: &SomePolicy) {
     let layout = layout_of_states(rng, 1, policy.states);
     let mut memory = rng.cells(layout.size as usize);
@@ -45,7 +45,7 @@ pub fn made_installs(tally: &mut Tally, rng: &mut Rng, policy: &SomePolicy) {
     assert_eq!(answer, Answer::Taken(0), "installing {policy:?}");
 }
 
-/// What is installed where, and in how many cells.
+/// What is installed, where, and in how many cells.
 pub struct Installation {
     pub layout: Layout,
     pub policy: SomePolicy,
@@ -53,7 +53,7 @@ pub struct Installation {
     pub cells: usize,
 }
 
-/// An entry too large, two alike or two the wrong way round, at either end of
+/// An entry too large, two equal ones, or two in the wrong order; at either end of
 /// the list or inside.
 fn damage_landings(rng: &mut Rng, landings: &mut Vec<u32>) {
     let length = landings.len();
@@ -75,7 +75,7 @@ fn damage_landings(rng: &mut Rng, landings: &mut Vec<u32>) {
     }
 }
 
-/// A policy and landings for a layout, with up to two things about them spoiled.
+/// A policy and landings for a layout, with up to two things spoiled.
 pub fn some_installation(rng: &mut Rng, mut layout: Layout) -> Installation {
     let mut policy = policy(rng, layout.states, 80);
     let mut landings = landings(rng);
@@ -111,7 +111,7 @@ pub fn some_installation(rng: &mut Rng, mut layout: Layout) -> Installation {
     }
 }
 
-/// Each number of states, with bytes at the bounds in each place of the table.
+/// Each number of states, with bytes at the bounds at each place of the table.
 fn each_byte_of_a_table(tally: &mut Tally, rng: &mut Rng) {
     for states in 1..=16 {
         let layout = layout_of_states(rng, 1, states);

@@ -1,7 +1,6 @@
-//! Isolation by running: whatever a passed list does in a row of runs, the
-//! cells outside its sandbox stay as the host has them, table and landings stay
-//! as installed, the state cell follows the policy, and nothing that the list
-//! does depends on the free cells or on what the logs held before.
+//! Isolation, tested by running passed lists several times. Cells outside the sandbox
+//! stay as the host left them, and table and landings as installed. The state cell
+//! follows the policy. Nothing depends on free cells or on old log contents.
 
 use crate::common::inputs::{
     altered_layout, any_command, damage_word, is_free, landings, layout_and_routine, policy,
@@ -13,15 +12,15 @@ use hemdroas::names::{CELL_BITS, LANDING_CELLS};
 use hemdroas::native::{check, install, rewrite, run};
 use hemdroas::{Answer, Ending, Layout, Machine, RunAnswer, Status};
 
-/// What one run is given; budgets, readings and log lengths are the same in
-/// both worlds.
+/// What one run is given. Budgets, readings and log lengths are the same in both
+/// worlds.
 struct Given {
     budget: u32,
     readings: Vec<u32>,
     log: usize,
 }
 
-/// What may be seen of one run.
+/// What a run shows.
 #[derive(Debug, PartialEq)]
 struct Seen {
     answer: RunAnswer,
@@ -31,8 +30,8 @@ struct Seen {
     sandbox: Vec<u32>,
 }
 
-/// Installs and runs a list in a world of its own canaries, and checks the
-/// protection of every cell on the way.
+/// Installs and runs a list in a memory with its own free cells, and tests that
+/// every cell is protected.
 #[allow(clippy::too_many_arguments)]
 fn world(
     rng: &mut Rng,
@@ -79,7 +78,7 @@ fn world(
         );
         let written = 2 * answer.pairs as usize;
         assert_eq!(log[written..], old[written..], "the log past its pairs");
-        // All but sandbox and state cell is as it was.
+        // All cells but sandbox and state cell are as before.
         canaries[inside.clone()].copy_from_slice(&memory[inside.clone()]);
         canaries[layout.cell as usize] = memory[layout.cell as usize];
         assert_eq!(memory, canaries, "under {layout:?}, list {list:x?}");
@@ -93,9 +92,9 @@ fn world(
             }
         }
 
-        // The recorded events are allowed, and the state cell is where they
-        // lead, at any pause too; on the fourth command of an event bundle,
-        // which only a spent budget shows, it is behind by the last of them.
+        // The policy allows the recorded events, and the state cell has the state after
+        // them, also at pauses. On the fourth command of an event bundle, which only
+        // spent (25) shows, the last event is missing.
         events.extend(log[..written].chunks_exact(2).map(|pair| pair[0]));
         let behind =
             machine.status == Status::Running && is_keep(list[(machine.pc - layout.base) as usize]);
@@ -108,7 +107,7 @@ fn world(
         assert_eq!(follow(policy, policy.start, &events[..kept]), state);
         let _ = follow(policy, state, &events[kept..]);
 
-        // Lists that do nothing would be isolated too.
+        // Lists that do nothing would be isolated too, so the endings are counted.
         tally.count("run", answer.ending.number());
         tally.note("steps", u64::from(answer.steps));
         tally.note("pairs", u64::from(answer.pairs));
@@ -123,7 +122,7 @@ fn world(
             sandbox: memory[inside.clone()].to_vec(),
         });
 
-        // The host writes free cells, in each world others.
+        // The host writes free cells, different ones in each world.
         for _ in 0..rng.below(8) {
             let cell = rng.under(layout.size);
             if is_free(layout, cell) {
@@ -174,7 +173,7 @@ fn is_keep(word: u64) -> bool {
     matches!(Command::of_word(word), Some(Command::Keep { .. }))
 }
 
-/// The state to which events, which all have an arrow, lead from another.
+/// The state after events that are all allowed.
 fn follow(policy: &SomePolicy, from: u32, events: &[u32]) -> u32 {
     events.iter().fold(from, |state, &event| {
         let to = policy.lend().after(state, event);
@@ -182,7 +181,7 @@ fn follow(policy: &SomePolicy, from: u32, events: &[u32]) -> u32 {
     })
 }
 
-/// The endings of passed lists: all but a fault.
+/// The endings of passed lists: all but fault (22).
 const ENDINGS: [u32; 6] = [20, 21, 23, 24, 25, 26];
 
 fn rewritten(layout: &Layout, words: &[u64]) -> Vec<u64> {
@@ -239,7 +238,7 @@ fn mutate(rng: &mut Rng, layout: &Layout, list: &mut [u64]) {
         7 => list.swap(x, y),
         8 => list[x] = list[y],
         9 => {
-            // The first command of one bundle before the rest of another.
+            // The first command of one bundle replaces that of another.
             list[x & !3] = list[y & !3];
         }
         10 => {

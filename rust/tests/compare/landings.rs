@@ -9,7 +9,7 @@ use hemdroas::names::{CELL_BITS, LANDING_CELLS, REGISTERS};
 use hemdroas::{Ending, Layout, Record};
 
 /// Each landing alone, all, one too many; and lists that rise, stay or fall, at
-/// their end, behind entries that rise and before such.
+/// the end, after rising entries and before them.
 fn lists() -> Vec<Vec<u32>> {
     let mut lists = vec![vec![], all_landings(), (0..1025).collect()];
     lists.extend((0..1024).map(|landing| vec![landing]));
@@ -26,8 +26,8 @@ fn lists() -> Vec<Vec<u32>> {
     lists
 }
 
-/// Each cause of 14, and the lists beside it; what the cells held before makes
-/// no difference.
+/// Each cause of bad landing list (14), and lists that are just right. The old
+/// contents of the cells make no difference.
 #[test]
 fn landing_lists() {
     let (mut tally, mut rng) = Tally::new("landing lists", 13);
@@ -45,7 +45,7 @@ fn landing_lists() {
             let refused = equal || falling || above;
             assert_eq!(answer.number(), if refused { 14 } else { 0 }, "{list:?}");
         }
-        // Alone, so that no other cause can have given the answer.
+        // Alone, so that nothing else can have caused the answer.
         tally.note(
             "14 for two alike",
             cases(3) * u64::from(equal && !falling && !above),
@@ -69,7 +69,7 @@ const CAUSES: [&str; 4] = [
     "26 for a bit that is clear",
 ];
 
-/// Why a jump to a target has no landing, if it has none.
+/// Why a jump's target is no landing, if it is none.
 fn cause(layout: &Layout, memory: &[u32], target: u32) -> Option<&'static str> {
     let Some(offset) = target.checked_sub(layout.base) else {
         return Some(CAUSES[0]);
@@ -90,7 +90,7 @@ const LATER: &str = "26 again in a later run";
 const UNTAKEN: &str = "not taken, to no landing";
 const LANDS: &str = "to a landing";
 
-/// A base and a target about it, with the instruction that it would be.
+/// A base and a target near it, with the instruction that it would be.
 fn some_target(rng: &mut Rng, base: u32) -> (u32, u32) {
     let j = match rng.below(6) {
         0 => rng.between(1022, 1026) as u32,
@@ -106,9 +106,9 @@ fn some_target(rng: &mut Rng, base: u32) -> (u32, u32) {
     (target, j)
 }
 
-/// Jumps through a register, taken and not, to landings and to each kind of
-/// target that is none; the machine is run again from where it was left. A jump
-/// to a landing goes on, past the list's end too.
+/// Jumps through a register, taken and not, to landings and to each kind of target
+/// that is none. The machine then runs on from where it is. A jump to a landing is
+/// taken even past the list's end.
 #[test]
 fn jumps() {
     let (mut tally, mut rng) = Tally::new("jumps", 14);
@@ -139,7 +139,7 @@ fn jumps() {
         }
         record.0[d as usize] = target;
         record.0[Record::PC] = layout.base.wrapping_add(at as u32);
-        // All bits set or none, but for that of the target now and then.
+        // All bits are set or none, sometimes except the target's.
         let mut memory = rng.cells(layout.size as usize);
         let cells = layout.landings as usize..(layout.landings + LANDING_CELLS) as usize;
         memory[cells.clone()].fill(if turn % 2 == 0 { u32::MAX } else { 0 });

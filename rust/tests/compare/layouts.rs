@@ -1,4 +1,4 @@
-//! Right layouts and wrong ones, by checking a list that is right under any.
+//! Right and wrong layouts, by checking a list that is right under any of them.
 
 use crate::check::check;
 use crate::common::inputs::{altered_layout, right_layout};
@@ -8,8 +8,8 @@ use hemdroas::Layout;
 
 const LIST: [u64; 4] = [1, 0, 0, 0];
 
-/// Small layouts with one state, table and landings at either end or next to
-/// each other, the rest everywhere.
+/// Small layouts with one state, with table and landings at either end or side by
+/// side, and all else at every place.
 fn small_layouts(tally: &mut Tally) {
     let places = [
         (0, 16),
@@ -46,8 +46,8 @@ fn small_layouts(tally: &mut Tally) {
     }
 }
 
-/// One right layout with table, landings, state cell and sandbox in turn
-/// everywhere, and about the end of 32 bits.
+/// A right layout in which table, landings, state cell and sandbox in turn are at
+/// every place, and near the end of 32 bits.
 fn moved_regions(tally: &mut Tally) {
     let right = Layout {
         size: 60,

@@ -9,8 +9,8 @@ use hemdroas::model::{self, bundles};
 use hemdroas::names::MOST_INSTRUCTIONS;
 use hemdroas::{native, Answer, Layout, Policy, Record};
 
-/// 1 to 6 by reading, 7 to 9 and 13 by rewriting, 7, 10 and 14 by installing;
-/// the checker refuses nothing that was rewritten.
+/// What loading can answer. The checker passes all that was rewritten, so bad bundle
+/// (11) and bad count (12) are missing.
 const NUMBERS: [u32; 13] = [0, 1, 2, 3, 4, 5, 6, 7, 8, 9, 10, 13, 14];
 
 /// What a load is lent.

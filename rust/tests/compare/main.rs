@@ -1,11 +1,11 @@
-//! The C library and the benchmark's baseline against the model, on random and
-//! damaged inputs. A case is one call of each on the same input; it passes when
-//! the answers and the whole final content of everything lent are the same.
+//! Compares the C library, and the benchmark's baseline, with the model on random
+//! and damaged inputs. A case is one call of each on the same input. It passes if the
+//! answers, and all that was lent, are the same afterwards.
 //!
-//! Each part has a file: the comparison of its function, which other parts call
-//! too, and its cases. It asks that every number that the function can answer
-//! has been seen. Isolation by running stands beside them. Without the library,
-//! the sample tray of the rules and the guest rule are tried on the model.
+//! Each part has a file with the comparison of its function, which other parts call
+//! too, and its cases. It requires that every number that the function can answer was
+//! seen. Without the library, only the sample tray of the rules and the guest rule
+//! are tested, on the model.
 
 #[path = "../common/mod.rs"]
 mod common;

@@ -9,8 +9,7 @@ use std::collections::HashSet;
 
 const NUMBERS: [u32; 4] = [0, 9, 10, 15];
 
-/// Merges, and the other way round too: 'swapping the inputs gives the same
-/// policy'.
+/// Merges in both orders: 'swapping the inputs gives the same policy'.
 fn merge(tally: &mut Tally, one: &Held, other: &Held, table: &[u8]) -> (Merged, Vec<u8>) {
     let (one, other) = (&one.lend(), &other.lend());
     let mut expected = table.to_vec();
@@ -53,7 +52,7 @@ impl Held {
     }
 }
 
-/// A right policy with so many states at most, over few or all events.
+/// A right policy with at most so many states, over few or all events.
 fn some_side(rng: &mut Rng, most: usize) -> Held {
     let states = rng.between(1, most);
     let events = rng.pick(&[1, 2, 3, 16]);
@@ -68,7 +67,7 @@ fn some_side(rng: &mut Rng, most: usize) -> Held {
     Held::new(rng, start, table)
 }
 
-/// Event 0 counted round so many states.
+/// Event 0 counted modulo so many states.
 fn round(rng: &mut Rng, states: usize) -> Held {
     let mut table = vec![255; 16 * states];
     for state in 0..states {
@@ -77,8 +76,8 @@ fn round(rng: &mut Rng, states: usize) -> Held {
     Held::new(rng, 0, table)
 }
 
-/// Sixteen pairs of event 0 counted round 16 states and round 1; on event 1,
-/// which only the last of the sixteen has, the other goes to a second state: one
+/// Event 0 counted modulo 16 and modulo 1: sixteen pairs. Event 1, allowed only in
+/// the last of the sixteen states, leads the other policy to a second state: one
 /// pair more.
 fn seventeen(rng: &mut Rng) -> (Held, Held) {
     let (mut one, mut other) = (round(rng, 16), round(rng, 1));
@@ -89,7 +88,7 @@ fn seventeen(rng: &mut Rng) -> (Held, Held) {
     (one, other)
 }
 
-/// The pair after an event, if it has an arrow on both sides.
+/// The pair after an event, if both policies allow it.
 fn after(one: &Held, other: &Held, (s, t): (u32, u32), event: u32) -> Option<(u32, u32)> {
     let (one, other) = (one.policy.lend(), other.policy.lend());
     one.after(s, event).zip(other.after(t, event))
@@ -115,8 +114,8 @@ fn pairs(one: &Held, other: &Held) -> usize {
 const SIXTEEN: &str = "exactly 16 pairs, taken";
 const SEVENTEEN: &str = "exactly 17 pairs, refused";
 
-/// Two right policies with tables of all lengths that matter; what is made goes
-/// to the installer as it is.
+/// Two right policies with tables of all lengths that matter. The policy that is
+/// made is installed.
 fn with_each_room(tally: &mut Tally, rng: &mut Rng, one: &Held, other: &Held) {
     let (merged, mut table) = merge(tally, one, other, &[rng.byte(); 256]);
     let pairs = pairs(one, other);
@@ -172,7 +171,7 @@ fn allows_what_both_allow(
 
 type Damage = fn(&mut Rng, &mut SomePolicy);
 
-/// Each cause of 10, alone.
+/// Each cause of bad policy (10), alone.
 const CAUSES: [(&str, Damage); 7] = [
     ("10 for no state", |rng, policy| {
         (policy.states, policy.start) = (0, 0);
@@ -201,7 +200,7 @@ const CAUSES: [(&str, Damage); 7] = [
         policy.table[at] = policy.states as u8;
     }),
     ("10 for a byte of a state not reached", |rng, policy| {
-        // A state more, to which no arrow leads and which is not the start.
+        // One more state, to which no arrow leads and which is not the start.
         policy.states += 1;
         policy.table.extend([255; 16]);
         let last = policy.table.len() - 1 - rng.below(16);

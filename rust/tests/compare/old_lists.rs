@@ -1,5 +1,5 @@
-//! Lists written before. Request [6]: those that hide register 8 are refused
-//! 'with 11, whenever they hold a LOAD, STORE, GOX or EVENT bundle'; request
+//! Lists written before two requests. Request [6]: those that hide register 8 are
+//! refused 'with 11, whenever they hold a LOAD, STORE, GOX or EVENT bundle'. Request
 //! [12]: 'lists in the old order that contain an event are refused with 11'.
 
 use crate::check::check;
@@ -13,7 +13,7 @@ use hemdroas::{Answer, Layout, Refusal};
 /// The register that was hidden before.
 const HIDDEN_BEFORE: u32 = 8;
 
-/// A word with each register by another name.
+/// A word with each register renamed.
 pub fn renamed(old: u64, name: fn(u32) -> u32) -> u64 {
     let old = fields(old);
     word(Fields {
@@ -24,7 +24,7 @@ pub fn renamed(old: u64, name: fn(u32) -> u32) -> u64 {
     })
 }
 
-/// A list with register 8 where the hidden one is.
+/// A list with register 8 as the hidden register.
 fn hide_register_8(list: &mut [u64]) {
     for command in list {
         *command = renamed(*command, |register| match register {
@@ -43,7 +43,7 @@ fn keep_before_event(list: &mut [u64]) {
     }
 }
 
-/// What the tally calls a bundle that names the hidden register.
+/// The tally's name for a bundle that names the hidden register.
 fn hides(instruction: u64) -> Option<&'static str> {
     match Instr::of_kind(fields(instruction))? {
         Instr::Load { .. } => Some("refused at a LOAD"),
@@ -54,7 +54,7 @@ fn hides(instruction: u64) -> Option<&'static str> {
     }
 }
 
-/// The same of one that has an order.
+/// The tally's name for an event bundle.
 fn is_ordered(instruction: u64) -> Option<&'static str> {
     match Instr::of_kind(fields(instruction))? {
         Instr::Event { .. } => hides(instruction),
@@ -62,8 +62,8 @@ fn is_ordered(instruction: u64) -> Option<&'static str> {
     }
 }
 
-/// A routine over the registers that guests had before; `bare` ones have
-/// nothing that was written otherwise.
+/// A routine over the guest's old registers. A `bare` one has only bundles that did
+/// not change.
 fn old_routine(rng: &mut Rng, bare: bool) -> (Layout, Vec<u64>) {
     let (layout, mut words) = layout_and_routine(rng);
     for instruction in &mut words {
@@ -76,8 +76,8 @@ fn old_routine(rng: &mut Rng, bare: bool) -> (Layout, Vec<u64>) {
     (layout, words)
 }
 
-/// Checks lists as they were, of which those that hold a bundle `written`
-/// otherwise are refused at the first such.
+/// Checks old lists. Those that contain a bundle `written` differently before are
+/// refused at the first such bundle.
 fn old_lists(
     part: &'static str,
     own: u64,

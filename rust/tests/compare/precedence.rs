@@ -22,15 +22,15 @@ pub fn precedence(tally: &mut Tally, pairs: &[u8], table: &[u8]) -> (Made, Vec<u
     (made, expected)
 }
 
-/// The bytes of a table for as many states as a right list of pairs has.
+/// The bytes of the table for a right list of pairs.
 fn table_bytes(pairs: &[u8]) -> usize {
     let named: BTreeSet<&u8> = pairs.iter().collect();
     16 << named.len().min(4)
 }
 
-/// All lists of 0 to 3 pairs, and those with an event left over, of five events
-/// and one above 15: a byte short of their table, with the right room, and with
-/// some to spare; the longest with one of these rooms.
+/// All lists of 0 to 3 pairs, with and without an odd event, over five events and
+/// one above 15. The table is one byte short, just right, or longer; the longest
+/// lists try only one of these.
 fn each_list_of_pairs(tally: &mut Tally, rng: &mut Rng) {
     let events = [0, 4, 9, 12, 15, 16];
     let mut lists = vec![Vec::new()];
@@ -58,7 +58,7 @@ fn each_list_of_pairs(tally: &mut Tally, rng: &mut Rng) {
     }
 }
 
-/// Every number as an event, first and second, alone and without its partner.
+/// Every number as an event, as first and as second, alone and in a pair.
 fn each_event_of_a_pair(tally: &mut Tally, rng: &mut Rng) {
     for event in 0..=255 {
         for other in 0..=16 {
@@ -70,8 +70,8 @@ fn each_event_of_a_pair(tally: &mut Tally, rng: &mut Rng) {
     }
 }
 
-/// Longer lists of few events, rings among them, spoiled now and then; what is
-/// made goes to the installer as it is.
+/// Longer lists of few events, with rings, sometimes spoiled. The policy that is
+/// made is installed.
 fn lists_of_pairs(tally: &mut Tally, rng: &mut Rng) {
     for _ in 0..cases(20_000) {
         let most = if rng.chance(15) { 6 } else { 4 };

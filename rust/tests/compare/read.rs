@@ -1,4 +1,4 @@
-//! Reading bytes.
+//! Reading a routine's bytes.
 
 use crate::common::inputs::{announced, output, room, some_bytes};
 use crate::common::{cases, Tally};
@@ -29,7 +29,7 @@ fn reading() {
         let room = room(&mut rng, needed);
         let words = output(&mut rng, room);
         if let (Answer::Taken(count), words) = read(&mut tally, &bytes, &words) {
-            // What reading takes is written again as the same bytes.
+            // Bytes that reading takes are written again as the same bytes.
             let mut again = vec![0; bytes.len()];
             let size = native::write(&words[..count as usize], &mut again);
             assert_eq!((size, &again), (Answer::Taken(bytes.len() as u32), &bytes));

@@ -24,7 +24,7 @@ fn field<'a>(fields: &'a mut Fields, name: &str) -> &'a mut u32 {
     }
 }
 
-/// What the tallies call a register in a field.
+/// The tally's names for a register in a field.
 const TAKEN: [(&str, &str); 3] = [
     ("d", "register 14 taken in field d"),
     ("a", "register 14 taken in field a"),
@@ -36,7 +36,7 @@ const REFUSED: [(&str, &str); 3] = [
     ("b", "register 15 refused with 4 in field b"),
 ];
 
-/// The bytes of a routine of one instruction, its fields bytes of any size.
+/// The bytes of a routine of one instruction, whose fields may be any byte.
 fn bytes_of(fields: Fields) -> Vec<u8> {
     let Fields {
         kind,
@@ -63,8 +63,8 @@ fn bytes_of(fields: Fields) -> Vec<u8> {
     bytes
 }
 
-/// A list that names register 14 somewhere passes, and is refused if it names
-/// register 15 there.
+/// A list that names register 14 passes; with register 15 in its place it is
+/// refused.
 fn checked(tally: &mut Tally, layout: &Layout, mut list: Vec<u64>) {
     assert_eq!(check(tally, layout, &list), Answer::Taken(0), "{list:x?}");
     for command in &mut list {
@@ -78,8 +78,8 @@ fn checked(tally: &mut Tally, layout: &Layout, mut list: Vec<u64>) {
 }
 
 /// Every kind of instruction with each register in each of its fields: written,
-/// rewritten and checked, run as written, and read from bytes, where a field can
-/// hold more than 15.
+/// rewritten and checked, run by the engine, and read from bytes, where a field can
+/// be above 15.
 #[test]
 fn registers_of_instructions() {
     let (mut tally, mut rng) = Tally::new("registers of instructions", 25);
@@ -87,7 +87,7 @@ fn registers_of_instructions() {
     for _ in 0..cases(20) {
         for kind in 0..=12 {
             for ((name, taken), (_, refused)) in TAKEN.into_iter().zip(REFUSED) {
-                // Register 1 in a field that the kind lacks would be stray.
+                // Register 1 in a field that the kind lacks would be a stray bit.
                 let ones = fields(instr_word(kind, 1, 1, 1, rng.under(4), 1));
                 let mut right = Instr::of_kind(ones).expect("kinds 0 to 12").fields();
                 if *field(&mut right, name) == 0 {
@@ -129,8 +129,8 @@ fn registers_of_instructions() {
     tally.conclude(&[("read", both), ("write", both), ("rewrite", both), checks]);
 }
 
-/// One step of every kind of command with each register in each of its fields:
-/// a machine has all sixteen.
+/// One step of every kind of command with each register in each of its fields. A
+/// machine has all sixteen registers.
 #[test]
 fn registers_of_commands() {
     let (mut tally, mut rng) = Tally::new("registers of commands", 26);

@@ -1,4 +1,4 @@
-//! Running, and looking ahead.
+//! Running and previewing.
 
 use crate::check::check;
 use crate::common::inputs::{
@@ -25,9 +25,8 @@ pub struct Lent {
 
 const ABOVE: &str = "run and preview of a status above 4";
 
-/// Runs, and before that previews, what is lent. A preview is 'equal to a run
-/// on a copy of memory and record'; 'the real memory and record remain
-/// untouched'.
+/// Previews, then runs. A preview is 'equal to a run on a copy of memory and
+/// record'; 'the real memory and record remain untouched'.
 pub fn run(
     tally: &mut Tally,
     layout: &Layout,
@@ -90,7 +89,7 @@ pub fn run(
 
     let number = answer.ending.number();
     if lent.record.0[Record::STATUS] > Status::Strayed.number() {
-        // It counts as faulted, and comes back as it was.
+        // It counts as faulted, and stays as it was.
         let zeros = (answer.steps, answer.pairs, answer.readings);
         assert_eq!((&left, zeros), (&*lent, (0, 0, 0)), "{}", input());
         tally.count(ABOVE, number);
@@ -134,7 +133,7 @@ pub fn some_readings(rng: &mut Rng) -> Vec<u32> {
     rng.cells(length)
 }
 
-/// Runs what is lent with any budget and readings.
+/// Runs with any budget and readings.
 pub fn run_on(
     tally: &mut Tally,
     rng: &mut Rng,
@@ -147,7 +146,7 @@ pub fn run_on(
     run(tally, layout, list, lent, budget, &readings)
 }
 
-/// A memory and a record at the first command, with most registers addresses
+/// A memory, and a record at the first command whose registers are mostly addresses
 /// of cells.
 fn at_first_command(rng: &mut Rng, layout: &Layout, log: usize) -> Lent {
     let mut memory = rng.cells(layout.size as usize);
@@ -167,8 +166,8 @@ fn at_first_command(rng: &mut Rng, layout: &Layout, log: usize) -> Lent {
     }
 }
 
-/// One step of each kind of command with each single bit of its word turned,
-/// with field v at its bounds too.
+/// One step of each kind of command with each single bit of its word flipped, and
+/// with field v at its bounds.
 fn each_bit_of_a_command(tally: &mut Tally, rng: &mut Rng) {
     let layout = right_layout(rng, 1);
     for kind in 0..256 {
@@ -233,7 +232,7 @@ fn hand_made_list(rng: &mut Rng, layout: &Layout) -> Vec<u64> {
     list
 }
 
-/// A record about a list, its pc inside it more often than not.
+/// A record for a list, its pc mostly inside it.
 fn hand_made_record(rng: &mut Rng, layout: &Layout, length: usize) -> Record {
     let at = |offset: usize| layout.base.wrapping_add(offset as u32);
     let mut record = Record([0; Record::LENGTH]);
@@ -263,13 +262,13 @@ fn hand_made_record(rng: &mut Rng, layout: &Layout, length: usize) -> Record {
 fn hand_made_runs(tally: &mut Tally, rng: &mut Rng) {
     for _ in 0..cases(40_000) {
         let mut layout = right_layout(rng, 1);
-        // A run asks for no multiple of 4.
+        // A run does not need a multiple of 4.
         if rng.chance(20) {
             layout.base = layout.base.wrapping_add(rng.under(8));
         }
         let list = hand_made_list(rng, &layout);
         let mut memory = rng.cells(layout.size as usize);
-        // A state that LOOK can use, as it is on every installed layout.
+        // A state that LOOK can use, as under every installed layout.
         if rng.chance(70) {
             memory[layout.cell as usize] = rng.under(layout.states + 1);
         }
@@ -288,14 +287,14 @@ fn hand_made_runs(tally: &mut Tally, rng: &mut Rng) {
             memory,
             log,
         };
-        // Again from where the last one left off.
+        // Again from where the last run stopped.
         for _ in 0..rng.between(1, 2) {
             let _ = run_on(tally, rng, &layout, &list, &mut lent);
         }
     }
 }
 
-/// Memories of about the most cells that a layout can have.
+/// Memories near the largest size.
 fn long_memories(tally: &mut Tally, rng: &mut Rng) {
     for _ in 0..cases(2_000) {
         let mut layout = right_layout(rng, 1);
@@ -315,8 +314,8 @@ fn long_memories(tally: &mut Tally, rng: &mut Rng) {
     }
 }
 
-/// Passed lists, installed and run several times, with the host writing free
-/// cells in between.
+/// Passed lists, installed and run several times. The host writes free cells in
+/// between.
 fn runs_in_a_row(tally: &mut Tally, rng: &mut Rng) {
     for _ in 0..cases(12_000) {
         let (layout, list) = if rng.chance(70) {

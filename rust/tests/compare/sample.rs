@@ -1,4 +1,4 @@
-//! `trial`'s sample through the wrappers for users.
+//! The sample of `trial`, through the wrappers.
 
 use crate::common::inputs::{all_landings, trial_policy, SAMPLE, TRIAL, TRIAL_READINGS};
 use hemdroas::native::{check, install, load, preview, read, rewrite, run};

@@ -1,4 +1,4 @@
-//! A well-behaved routine is not disturbed, request [14]: its raw run beside the
+//! Transparency, request [14]: the raw run of a well-behaved routine beside the
 //! library's machine and engine.
 
 use crate::common::inputs::{landings, length, policy, rewritten, right_layout, routine};
@@ -9,13 +9,13 @@ use hemdroas::model::{bundles, Guest, Instr};
 use hemdroas::names::{GUEST_REGISTERS, ORDERS};
 use hemdroas::{native, Answer, Ending, Engine, Layout, Status};
 
-/// Registers from this one on hold addresses of the sandbox, but for the last,
-/// which holds a landing.
+/// Registers from this one on have addresses of the sandbox, except the last, which
+/// has a landing.
 const FIRST_ADDRESS: u32 = 9;
 const LANDING: u32 = GUEST_REGISTERS - 1;
 
-/// A routine that mostly behaves: it goes to memory and jumps through registers
-/// that it has set so at first and keeps.
+/// A routine that mostly behaves well: it accesses memory and jumps only through
+/// registers that it has set at the start.
 fn honest_routine(rng: &mut Rng, layout: &Layout, n: usize, landings: &[u32]) -> Vec<u64> {
     let mut words = routine(rng, layout, n);
     for instruction in &mut words {
@@ -51,7 +51,7 @@ fn honest_routine(rng: &mut Rng, layout: &Layout, n: usize, landings: &[u32]) ->
     words
 }
 
-/// What could be disturbed.
+/// Counts the instructions that the sandbox could alter.
 fn note_instruction(tally: &mut Tally, words: &[u64], at: u32) {
     let instr = words
         .get(at as usize)
@@ -64,8 +64,8 @@ fn note_instruction(tally: &mut Tally, words: &[u64], at: u32) {
 
 /// 'The caged run, newly installed, from the same registers, sandbox and
 /// readings has after equally many instructions the same records, the same r0 to
-/// r14 and sandbox, and the same ending or none.' It is so for as long as the
-/// routine has behaved, whatever it does then.
+/// r14 and sandbox, and the same ending or none.' This holds while the routine
+/// behaves well, whatever it does afterwards.
 #[test]
 fn honest_routines_are_not_disturbed() {
     let (mut tally, mut rng) = Tally::new("honest routines", 32);

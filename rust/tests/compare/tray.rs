@@ -115,16 +115,16 @@ fn a_layout_is_right_up_to_each_of_its_bounds() {
     for layout in wrong {
         assert!(!layout_right(&layout), "{layout:?}");
     }
-    // No code base makes a layout wrong, an odd one neither.
+    // Every code base is right in a layout, odd ones too.
     for base in [1, 65_532, 65_535, 65_536, 65_537, u32::MAX - 3, u32::MAX] {
         assert!(layout_right(&Layout { base, ..right }));
     }
-    // No ceiling does.
+    // So is every ceiling.
     for ceiling in [0, 1, u32::MAX] {
         let ceilings = [ceiling; 8];
         assert!(layout_right(&Layout { ceilings, ..right }));
     }
-    // The largest of all.
+    // The largest numbers of all.
     assert!(layout_right(&Layout {
         size: 4096,
         low: 2048,
@@ -138,7 +138,7 @@ fn a_layout_is_right_up_to_each_of_its_bounds() {
     }));
 }
 
-/// Rewrites, checks, installs and runs a routine under a layout, and gives the
+/// Rewrites, checks, installs and runs a routine under a layout. Gives the
 /// registers, the pc and the run's answer.
 fn perform(
     layout: &Layout,
@@ -193,15 +193,15 @@ fn a_jump_through_a_register_reaches_the_first_command_of_a_bundle() {
     };
     for target in [3, 11, 0x4000_0003] {
         let routine = jump_to(target);
-        // One command and its filling, then the four of the jump.
+        // One command and three NOPs, then the four of the jump.
         let (_, pc, answer) = perform(&layout, &routine, &[3], 8);
         assert_eq!((pc, answer.ending), (44, Ending::Spent));
-        // Without landing 3 it stops on the jump, which is a step.
+        // Without landing 3 it stops at the jump, which counts as a step.
         let (regs, pc, answer) = perform(&layout, &routine, &[4], 100);
         assert_eq!((pc, answer.ending), (39, Ending::NoLanding));
         assert_eq!((answer.steps, regs[HIDDEN as usize]), (8, 44));
     }
-    // Landing 3 alone: 4 stops.
+    // With landing 3 only, a jump to 4 stops.
     let (_, pc, answer) = perform(&layout, &jump_to(4), &[3], 100);
     assert_eq!((pc, answer.ending), (39, Ending::NoLanding));
     let base = Layout { base: 16, ..layout };
@@ -251,7 +251,7 @@ fn shifts_and_comparisons_know_the_sign() {
 
 #[test]
 fn a_silent_probe_is_reported_before_a_full_log() {
-    // With neither log nor readings an order waits for the log, a reading for the probe.
+    // Without log and readings, an order pauses for the log, a reading event for the probe.
     for (event, ending) in [
         (0, Ending::LogFull),
         (7, Ending::LogFull),
@@ -327,7 +327,7 @@ fn the_longest_routine_has_1023_instructions() {
     assert_eq!(write(&words, &mut []), refused(Refusal::Oversize, 0));
 }
 
-/// What `trial` prints of a routine, with the model beneath.
+/// What `trial` prints for a routine, computed by the model.
 fn trial(bytes: &[u8]) -> String {
     let rejected = |answer: Answer| format!("answer {}\n", answer.number());
     let mut words = [0; 1023];
@@ -377,7 +377,7 @@ fn trial_prints_the_sample() {
     );
     assert_eq!(trial(&SAMPLE[..17]), "answer 1\n");
     assert_eq!(trial(&[0, 0]), "answer 0\nend 20 steps 1 state 0\n");
-    // 1,023 instructions ask for a code base that is a multiple of 4,096.
+    // 1,023 instructions need a code base that is a multiple of 4,096.
     let mut longest = vec![0xff, 0x03];
     longest.resize(1025, 0);
     assert_eq!(trial(&longest), "answer 0\nend 20 steps 1 state 0\n");

@@ -1,4 +1,4 @@
-//! The test of one word of a table.
+//! The test of four bytes of a policy's table as one word.
 
 use crate::common::{cases, Tally};
 use hemdroas::{model, native};
@@ -11,8 +11,8 @@ fn word_right(tally: &mut Tally, states: u32, bytes: [u8; 4]) {
     tally.count("word_right", u32::from(answer));
 }
 
-/// Each byte in each place of a word, beside bytes that are right and one that
-/// may be wrong, for every number of states from 0 to 20 and some far ones.
+/// Each byte at each place of a word, beside right bytes and one that may be wrong,
+/// for 0 to 20 states and some larger numbers.
 #[test]
 fn testing_a_word() {
     let (mut tally, mut rng) = Tally::new("testing a word", 6);

@@ -1,4 +1,4 @@
-//! Writing bytes.
+//! Writing a routine's bytes.
 
 use crate::common::inputs::{damaged_routine, instr_word, length, room, TRIAL};
 use crate::common::{cases, Tally};
@@ -19,8 +19,8 @@ pub fn write(tally: &mut Tally, words: &[u64], bytes: &[u8]) -> (Answer, Vec<u8>
     (answer, expected)
 }
 
-/// Every instruction kind alone, with each single bit of its word turned, and
-/// with each pair of a bit and a field at its end.
+/// Every kind of instruction alone, with each single bit of its word flipped, and
+/// with each bit flipped beside a field at its limit.
 pub fn each_bit_of_an_instruction() -> Vec<u64> {
     let mut words: Vec<u64> = (0..256)
         .map(|kind| instr_word(kind, 0, 0, 0, 0, 0))
@@ -53,7 +53,7 @@ fn writing() {
         let room = room(&mut rng, needed);
         let mark = rng.byte();
         if let (Answer::Taken(size), bytes) = write(&mut tally, &words, &vec![mark; room]) {
-            // What writing takes is read again as the same words.
+            // Words that writing takes are read again as the same words.
             let mut again = vec![0; words.len()];
             let count = native::read(&bytes[..size as usize], &mut again);
             assert_eq!((count, &again), (Answer::Taken(words.len() as u32), &words));
