@@ -11,9 +11,13 @@
  *   bundle    the four commands that one word becomes
  *   event     an order to the drum (0 to 7) or a reading of a probe (8 to 15)
  *   log       where a run records each event and its value
- *   policy    a table of states: which event is allowed in which, and what follows
+ *   policy    a table that says in which state which events are allowed
+ *   arrow     an entry of that table: the state that follows an allowed event
  *   ceiling   the largest value that an order records
- *   landing   an instruction that GOX, the jump to a computed place, may go to
+ *   GOIF      a routine's jump to a fixed instruction
+ *   GOX       a routine's jump to an instruction whose number is in a register
+ *   landing   an instruction that GOX may go to
+ * docs/ROUTINES.md explains all instructions, and shows how to write a routine.
  *
  * How to use it. Call hemdroas_load once. Then call hemdroas_run as often as the
  * routine needs. hemdroas_load does four things, and each has a call of its own:
@@ -43,8 +47,8 @@
  * the machine is set to zeros and to faulted (status 3). A call that succeeds
  * writes only its result: the rest of an output buffer stays as it was.
  *
- * Changing the policy. The number of states and the ceilings stand in the layout
- * too. Change them there, call hemdroas_check on the commands again, then
+ * Changing the policy. The number of states and the ceilings are part of the
+ * layout. Change them there, call hemdroas_check on the commands again, then
  * hemdroas_install.
  */
 #ifndef HEMDROAS_H
@@ -79,7 +83,7 @@ enum {
 enum hemdroas_refusal {
     HEMDROAS_TAKEN = 0,
     HEMDROAS_SHORT_WEIGHT = 1,      /* the bytes end too early */
-    HEMDROAS_FOREIGN_MATTER = 2,    /* a field that is 0 or not of this kind was given, or a stray bit is set */
+    HEMDROAS_FOREIGN_MATTER = 2,    /* a field is present though it is 0 or this kind lacks it, or a stray bit is set */
     HEMDROAS_UNKNOWN_VARIETY = 3,   /* the instruction's kind is above 12 */
     HEMDROAS_OFF_GRADE = 4,         /* a register, condition, shift or event is out of range */
     HEMDROAS_OVERSIZE = 5,          /* more than 1023 instructions */
@@ -95,14 +99,14 @@ enum hemdroas_refusal {
     HEMDROAS_TOO_MANY_STATES = 15,  /* the policy would have more than 16 states */
     HEMDROAS_BAD_DRAWING = 16,      /* no start, not 1 to 16 states, not 16 arrows for each, or a bit for a state that does not exist */
     HEMDROAS_BAD_PAIR = 17,         /* an event above 15, an odd number of events, or more than four different ones */
-    HEMDROAS_NOT_FORWARD = 18       /* a GOX, or a GOIF to its own instruction or a lower one */
+    HEMDROAS_NOT_FORWARD = 18       /* a GOX, or a GOIF that jumps to itself or back */
 };
 
 /* How a run ended. A refused run answers the refusal's number instead. */
 enum hemdroas_ending {
     HEMDROAS_ENDING_ENDED = 20,        /* the routine finished */
     HEMDROAS_ENDING_NO_ARROW = 21,     /* the policy stopped the routine: the event was not allowed */
-    HEMDROAS_ENDING_FAULT = 22,        /* bad address or bad command; never for checked commands run as installed */
+    HEMDROAS_ENDING_FAULT = 22,        /* bad address or bad command; never for checked commands on an installed machine */
     HEMDROAS_ENDING_LOG_FULL = 23,     /* pause: run again with an empty log */
     HEMDROAS_ENDING_PROBE_SILENT = 24, /* pause: run again with new readings; answered even if the log is full too */
     HEMDROAS_ENDING_SPENT = 25,        /* pause: run again with a new budget */
@@ -190,17 +194,17 @@ struct hemdroas_layout {
 
 /* A machine runs commands. Between runs this struct holds all of it but memory.
  * If status is above 4, a run does nothing and leaves the struct as it was. It
- * answers bad layout (7) or, if the layout is right, fault (22) with three zeros. */
+ * answers bad layout (7) or else fault (22), and three zeros. */
 struct hemdroas_machine {
-    uint32_t r[16]; /* registers; no routine can name r15 */
-    uint32_t pc;    /* address of the next command */
+    uint32_t r[16];  /* registers; no routine can name r15 */
+    uint32_t pc;     /* address of the next command */
     uint32_t status; /* enum hemdroas_status */
 };
 
 /* An engine runs words, without rewriting them. Set it to zeros before its first run. */
 struct hemdroas_engine {
-    uint32_t r[15]; /* registers */
-    uint32_t index; /* number of the next instruction */
+    uint32_t r[15];  /* registers */
+    uint32_t index;  /* number of the next instruction */
     uint32_t status; /* enum hemdroas_status */
 };
 
@@ -337,23 +341,23 @@ void hemdroas_load(const struct hemdroas_layout *layout, uint32_t states, uint32
 
 /* ---- running */
 
-/* Runs n commands until the routine ends, stops, pauses or has executed budget
- * commands. Each event is written to the log as two numbers, event and value,
- * from log[0] on. Readings are used from readings[0] on. r is the length of
- * readings, g that of log.
+/* Runs n commands until the routine ends, stops or pauses. It pauses at the latest
+ * after budget commands. Each event is written to the log as two numbers, event
+ * and value, from log[0] on. Readings are used from readings[0] on. r is the
+ * length of readings, g that of log.
  *
  * To resume after a pause, call again with the same machine and memory. After log
  * full (23) or probe silent (24) the state cell holds the policy's state after
- * all recorded events. After spent (25) the last event may still be missing. */
+ * all recorded events. After spent (25) it may not include the last event yet. */
 void hemdroas_run(const struct hemdroas_layout *layout, const uint64_t *commands, uint64_t n,
                   struct hemdroas_machine *machine, uint32_t *memory, uint64_t cells, uint32_t budget,
                   const uint32_t *readings, uint64_t r, uint32_t *log, uint64_t g, struct hemdroas_run_answer *answer);
 
 /* Shows what hemdroas_run would do with these readings, but changes neither
  * machine nor memory. Answer and log are those of that run. It leaves the new
- * machine in after and the new memory in work. The lengths cells, of memory, and
- * spare, of work, must both equal layout->cells. If not, it is refused as bad
- * layout (7): work stays as it was, and after becomes a copy of machine. */
+ * machine in after and the new memory in work. cells is the length of memory,
+ * spare that of work; both must equal layout->cells. If it is refused as bad
+ * layout (7), work stays as it was, and after becomes a copy of machine. */
 void hemdroas_preview(const struct hemdroas_layout *layout, const uint64_t *commands, uint64_t n,
                       const struct hemdroas_machine *machine, const uint32_t *memory, uint64_t cells,
                       uint32_t *work, uint64_t spare, uint32_t budget,
@@ -389,11 +393,11 @@ void hemdroas_engine_continue(const struct hemdroas_layout *layout, const uint64
 /* ---- making policies */
 
 /* Makes a policy from n / 2 pairs of events: event pairs[2 * i + 1] is allowed
- * only after event pairs[2 * i] has been recorded. n counts events, and room is
- * the length of table. A state's number is the set of those events, named in some
- * pair, that were recorded so far: bit k stands for the k-th smallest, from 0. An
- * event that no pair names is always allowed and changes no state. Refused as bad
- * pair (17), then small hopper (9). */
+ * only after event pairs[2 * i] has been recorded. n is the length of pairs,
+ * room that of table. The number of a state tells which events of the pairs were
+ * recorded so far: bit k is set for the k-th smallest of them, counted from 0. An
+ * event that is in no pair is always allowed and does not change the state.
+ * Refused as bad pair (17), then small hopper (9). */
 void hemdroas_precedence(const uint8_t *pairs, uint64_t n, uint8_t *table, uint64_t room,
                          struct hemdroas_precedence_answer *made);
 
@@ -401,14 +405,13 @@ void hemdroas_precedence(const uint8_t *pairs, uint64_t n, uint8_t *table, uint6
  * event, and several states may be starts. Bit s of starts is set if state s is
  * a start. Bit t of arrows[16 * s + e] is set if event e leads from state s to
  * state t. n is the length of arrows, room that of table. The policy allows a
- * list of events exactly if some path through the drawing, from a start, follows
- * it.
+ * list of events exactly if a path from a start through the drawing follows it.
  *
  * This is the subset construction: each state of the policy is a nonempty set of
  * the drawing's states that some events lead to. State 0 is the set of starts.
- * The others are numbered as a search finds them. It takes the sets in the order
- * of their numbers, and for each set the events from 0 to 15. Refused as bad
- * drawing (16), then too many states (15), then small hopper (9). */
+ * The others are numbered as a search finds them. The search takes the sets in the
+ * order of their numbers, and for each set the events from 0 to 15. Refused as
+ * bad drawing (16), then too many states (15), then small hopper (9). */
 void hemdroas_determinise(uint32_t states, uint32_t starts, const uint16_t *arrows, uint64_t n,
                           uint8_t *table, uint64_t room, struct hemdroas_determinise_answer *made);
 
@@ -419,9 +422,9 @@ void hemdroas_determinise(uint32_t states, uint32_t starts, const uint16_t *arro
  *
  * Each state of the merged policy is a pair of states, one of each policy, that
  * some events lead to. State 0 is the pair of starts. The others are numbered as
- * a search finds them, as in hemdroas_determinise. The answer's place is the number of bytes written to
- * table. Refused as bad policy (10), then too many states (15), then small hopper
- * (9). If it is refused, merged is set to zeros. */
+ * a search finds them, as in hemdroas_determinise. The answer's place is the
+ * number of bytes written to table. Refused as bad policy (10), then too many
+ * states (15), then small hopper (9). If it is refused, merged is set to zeros. */
 void hemdroas_merge(const struct hemdroas_policy *one, const uint8_t *table1, uint64_t len1,
                     const struct hemdroas_policy *other, const uint8_t *table2, uint64_t len2,
                     uint8_t *table, uint64_t room, struct hemdroas_policy *merged, struct hemdroas_answer *answer);
