@@ -64,7 +64,7 @@ fn quad_part(s: &[u8], at: usize, bit: usize) -> Part
     }
 }
 
-// Packs fields that may exceed their width. A field that does spoils the word, but `fits` rejects it.
+// Packs fields without cutting them to their width. The caller must reject fields that are too wide.
 fn join(kind: u64, d: u64, a: u64, b: u64, c: u64, v: u64) -> u64
     requires { ⌜ (kind < 256) × (d < 256) × (a < 256) × (b < 256) × (c < 256) × (v < 4294967296) ⌝ }
     ensures { λ r. ⌜ r ≡ packOf kind d a b c v ⌝ }

@@ -19,7 +19,7 @@ fn advance(names: usize, pairs: &[u8], s: usize, e: usize) -> usize
     if next == NO_ARROW { s } else { next }
 }
 
-// The state in which every event is recorded that can be. One pass over all events for each event that may be named is enough.
+// The state in which all events that can be recorded are. Four passes over all events are enough: at most four are named.
 pub fn fixpoint(names: usize, pairs: &[u8]) -> usize
     requires { ⌜ ValidPairs (now pairs) names ⌝ }
     ensures { λ r. ⌜ (r ≡ fixpointOf (now (pairs .entry))) × (r < statesOf (now (pairs .entry))) ⌝ }

@@ -114,7 +114,7 @@ pub record Shaped (lay : Layout) (N : ℕ) (words : List ℕ) : Type 0 where
   pub fields : valid N instr ≡ true
   pub same : bundleOf lay N instr .words ≡ words
 
--- `decodeBundle` misses nothing: four words are the bundle of some valid instruction exactly if they are the bundle of the one that it finds
+-- four words are some valid instruction's bundle exactly if they are that of the instruction which `decodeBundle` finds; so it need not be believed
 pub record ShapeLaws (lay : Layout) (N w x y z : ℕ) : Type 0 where
   pub shaped : isBundle lay N (decodeBundle lay w y z) w x y z ≡ true → Shaped lay N (w ∷ x ∷ y ∷ z ∷ [])
   pub found : Shaped lay N (w ∷ x ∷ y ∷ z ∷ []) → isBundle lay N (decodeBundle lay w y z) w x y z ≡ true
@@ -176,7 +176,7 @@ EndingStatus =
 
 -- ---- every moment
 
--- runs compose: a run with a budget above j passes the point where budget j ends, and continues from there; the count of bundles begun composes too
+-- runs compose: a run with a budget above j reaches the state where budget j ends, and continues from there. So does its count of bundles begun
 pub record ComposeLaws (lay : Layout) (ws reads : List ℕ) (j l k b : ℕ) (s : State) : Type 0 where
   pub run :
       let r = runFrom lay ws reads j k s in

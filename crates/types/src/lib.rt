@@ -102,7 +102,7 @@ pub enum Instr {
 }
 
 impl Instr {
-    // The most instructions of a routine. A routine's bytes begin with their count, in COUNT_BYTES.
+    // The most instructions of a routine, and how many bytes their count takes.
     pub const MOST: usize = 1023;
 
     pub const COUNT_BYTES: usize = 2;

@@ -53,7 +53,7 @@ fn limits_of(k: u64) -> Limits
     }
 }
 
-// Whether a field is nonzero that the kind lacks.
+// Whether a field that the kind lacks is nonzero.
 fn stray(l: Limits, f: Fields) -> bool
     ensures { λ r. ⌜ r ≡ hasStray l f ⌝ }
 {
