@@ -80,7 +80,7 @@ forward-shown lay n h (EVENT e) = refl
 same-shown : (lay : Layout) (n h : ℕ) (i i′ : Instr) → shapeOf lay n i 0 ≡ shapeOf lay n i′ 0 → shapeOf lay n i 3 ≡ shapeOf lay n i′ 3 → forwardAt h i ≡ forwardAt h i′
 same-shown lay n h i i′ x y = forward-shown lay n h i ∙ rw (x, y) (sym (forward-shown lay n h i′))
 
--- ---- the scans of two lists of instructions agree if each instruction is forward in both; HALTs at the end do not matter
+-- ---- the scans of two lists agree if the same instructions are forward in both; HALTs at the end do not matter
 scan-same : (is js : ℕ → Instr) (h m : ℕ) → ((j : ℕ) → j < h + m → forwardAt j (is j) ≡ forwardAt j (js j)) → forwardFrom is h m ≡ forwardFrom js h m
 unfolding forwardFrom
 scan-same is js h zero e = refl

@@ -36,7 +36,7 @@ use Rattle.forward_spec.specs.Claims.{mostSteps, stepsIn, Bounded}
 use Rattle.forward_spec.proofs.Runs.{runsOf, afterRuns}
 use Rattle.forward_spec.proofs.Class.{AllForward, class-of}
 
--- a machine with a forward list runs, has ended or stopped; it never strays
+-- a status in which a forward list can end: neither running nor strayed
 abbrev pub Ends : Status → Type 0
 Ends t = (t ≡ Running → ⊥) × (t ≡ Strayed → ⊥)
 

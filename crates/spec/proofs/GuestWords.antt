@@ -1,4 +1,4 @@
--- Rewriting takes exactly the words of valid instructions.
+-- Each word that rewriting takes is a valid instruction, and each valid instruction has such a word.
 use mathlib.Core.Path.{_≡_, refl, _∙_}
 use mathlib.Core.Bool.{true, false, _&&_, _||_, cond}
 use mathlib.Core.Logic.{⊎-elim}
@@ -162,7 +162,7 @@ gox-bits d a b c g = (lit< tt, guest-bits d (g .0), guest-bits a (g .1), guest-b
 event-bits : InBits (guest .event) 0 0 0 0
 event-bits = (lit< tt, lit< tt, lit< tt, lit< tt, lit< tt)
 
--- a valid instruction's word is taken among n instructions
+-- an instruction that is valid among n + 1 bundles has a word that is taken among n instructions
 pub guest-taken : (n : ℕ) → n ≤ mostInstructions → (i : Instr) → Valid (n + 1) i → refusalAt n (guestWord i) ≡ 0
 guest-taken n m HALT g = pack-judged n (guest .halt) 0 0 0 0 0 halt-bits (lit≤ tt, (lit≤ tt, lit≤ tt, lit≤ tt, lit≤ tt, lit≤ tt), λ e. omega arith)
 guest-taken n m (PLAIN k d a b v) g =
@@ -178,7 +178,7 @@ guest-taken n m (GOX d a b c) g =
 guest-taken n m (EVENT v) g =
     pack-judged n (guest .event) 0 0 0 0 v event-bits (lit≤ tt, (lit≤ tt, lit≤ tt, lit≤ tt, lit≤ tt, omega arith), λ e. omega arith)
 
--- its word decodes to the instruction again
+-- the instruction of a kind and fields; it is that of the word which has them
 abbrev pub instrAt : ℕ → ℕ → ℕ → ℕ → ℕ → ℕ → Instr
 instrAt k d a b c v =
     cond (eqb k (guest .halt)) HALT

@@ -84,7 +84,7 @@ kind-below : (w : ℕ) → isCommand w ≡ true → kindOf w < commandKinds
 unfolding isCommand
 kind-below w h = ⊎-elim (λ t. ltb-true _ _ t) (λ f. no (rw f at h)) (cases (ltb (kindOf w) commandKinds))
 
--- a list of tests whose last one fails
+-- if neither branch is z, neither is `cond`
 unless : {A : Type 0} (b : Bool) {x y z : A} → (x ≡ z → ⊥) → (b ≡ false → y ≡ z → ⊥) → cond b x y ≡ z → ⊥
 unless true f g = f
 unless false f g = g refl

@@ -74,7 +74,7 @@ count-less p n i h t =
     let k : count p (suc i) ≤ count p n = rw e at (count-mono p (n - suc i) (suc i)) in
     omega arith
 
--- a count is at most n, and the bits of a set are as many as the numbers that pass
+-- at most n numbers below n pass
 pub count-le : (p : ℕ → Bool) (n : ℕ) → count p n ≤ n
 unfolding count
 count-le p zero = omega arith

@@ -152,7 +152,7 @@ module _ (ps : List ℕ) (m : ℕ) (fit : ValidPairs ps m) where
   pub sets-below : (s e : ℕ) → s < statesOf ps → e < events → isNamed ps e ≡ true → bitOr s (2 ^ bitIndex ps e) < statesOf ps
   sets-below s e h k n = or-lt (namedCount ps) s (2 ^ bitIndex ps e) h (pow-lt {i = bitIndex ps e} {j = namedCount ps} (count-less (isNamed ps) events e k n))
 
-  -- the state changes exactly by a named event whose firsts are recorded
+  -- an event sets its bit exactly if it is named and its firsts are recorded; else the state stays
   pub on-is : (s e : ℕ) → s < statesOf ps → e < events → advanceOf ps s e ≡ cond (isNamed ps e && firstsIn ps s e (pairsIn ps)) (bitOr s (2 ^ bitIndex ps e)) s
   unfolding arrowOf
   on-is s e h k = go (isNamed ps e) (firstsIn ps s e (pairsIn ps)) refl

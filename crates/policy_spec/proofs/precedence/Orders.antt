@@ -35,7 +35,7 @@ place-apart ps e f m n q = go (eqb e f) refl (ltb e f) refl
     go false t true u = absurd (omega (arith, count-less (isNamed ps) f e (ltb-true e f u) m))
     go false t false u = absurd (omega (arith, count-less (isNamed ps) e f (omega (arith, eqb-false e f t, ltb-false e f u)) n))
 
--- all firsts are recorded, from each first and back
+-- all firsts are recorded exactly if each one is
 pub first-recorded : (ps : List ℕ) (s e j : ℕ) → firstsIn ps s e (pairsIn ps) ≡ true → j < pairsIn ps → secondAt ps j ≡ e → bit s (bitIndex ps (firstAt ps j)) ≡ true
 unfolding firstsIn
 first-recorded ps s e j t h q =
