@@ -1,4 +1,4 @@
-// Checks a command list, whoever wrote it: each bundle must have a known shape, and the last must be HALT.
+// Checks a command list, whoever wrote it: each bundle must have a shape that the rewriter could have written, and the last must be HALT.
 pub mod event;
 pub mod indirect_jump;
 pub mod masked_access;

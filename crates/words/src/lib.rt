@@ -1,4 +1,4 @@
-// Guest words and command words: their fields, and why a word is refused.
+// Guest words, which are a routine's instructions, and command words, which are the machine's: their fields, and why a word is refused.
 // It re-exports the modules of `layout` and `arith` that rewriter and checker need.
 pub mod command;
 pub mod fields;
