@@ -1,7 +1,8 @@
 /*
  * Hemdroas runs small programs from strangers, called routines, on the
  * controller of a coffee roasting drum. A routine can write only its own part of
- * memory, the sandbox. It can send only the events that a policy allows.
+ * memory, the sandbox. It can send only the events that a policy allows. A run
+ * changes one other cell, which holds the policy's state.
  *
  * Terms
  *   cell      32 bits of the drum's memory; memory is an array of cells
@@ -32,7 +33,7 @@
  * allowed where the length is 0, and nowhere else. A buffer of uint64_t must be
  * aligned to 8 bytes, of uint32_t to 4, of uint16_t to 2. A buffer or struct that
  * a call writes must not overlap any other of its arguments. Two that it only
- * reads may overlap.
+ * reads may be the same.
  *
  * Memory. No call allocates or keeps a pointer. A call takes at most 1.1 KB of
  * stack on x86-64 and 1.2 KB on Cortex-M4. docs/MACHINES.md lists the other
@@ -106,7 +107,7 @@ enum hemdroas_refusal {
 enum hemdroas_ending {
     HEMDROAS_ENDING_ENDED = 20,        /* the routine finished */
     HEMDROAS_ENDING_NO_ARROW = 21,     /* the policy stopped the routine: the event was not allowed */
-    HEMDROAS_ENDING_FAULT = 22,        /* bad address or bad command; never for checked commands on an installed machine */
+    HEMDROAS_ENDING_FAULT = 22,        /* bad address or bad command; never if the commands passed the check and run as installed */
     HEMDROAS_ENDING_LOG_FULL = 23,     /* pause: run again with an empty log */
     HEMDROAS_ENDING_PROBE_SILENT = 24, /* pause: run again with new readings; answered even if the log is full too */
     HEMDROAS_ENDING_SPENT = 25,        /* pause: run again with a new budget */
@@ -305,8 +306,9 @@ void hemdroas_check(const struct hemdroas_layout *layout, const uint64_t *comman
  * and bad landing (8).
  *
  * A forward routine that was rewritten into N bundles and installed ends or stops
- * within 4 * (N - 1) + 1 steps, counted over all its runs. The host must resume
- * it after each pause, with two free log cells, a reading and enough budget. */
+ * within 4 * (N - 1) + 1 steps, counted over all its runs. For this the host
+ * must resume it after each pause with two free log cells and a reading, and the
+ * budgets must suffice. */
 void hemdroas_forward(const uint64_t *words, uint64_t n, struct hemdroas_answer *answer);
 
 /* Checks n commands as hemdroas_check does, then that they are a forward routine.
@@ -394,10 +396,10 @@ void hemdroas_engine_continue(const struct hemdroas_layout *layout, const uint64
 
 /* Makes a policy from n / 2 pairs of events: event pairs[2 * i + 1] is allowed
  * only after event pairs[2 * i] has been recorded. n is the length of pairs,
- * room that of table. The number of a state tells which events of the pairs were
- * recorded so far: bit k is set for the k-th smallest of them, counted from 0. An
- * event that is in no pair is always allowed and does not change the state.
- * Refused as bad pair (17), then small hopper (9). */
+ * room that of table. A state's number has bit k set if the k-th smallest event of
+ * the pairs, counted from 0, has been recorded. An event that is in no pair is
+ * always allowed and does not change the state. Refused as bad pair (17), then
+ * small hopper (9). */
 void hemdroas_precedence(const uint8_t *pairs, uint64_t n, uint8_t *table, uint64_t room,
                          struct hemdroas_precedence_answer *made);
 
