@@ -1,2 +1,3 @@
 pub mod effects
 pub mod program_point
+pub mod view

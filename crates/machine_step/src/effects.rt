@@ -2,6 +2,7 @@
 use crate::events::event;
 use crate::events::look;
 use crate::landings::jump;
+use crate::view::ViewNumbers;
 use types::Command;
 use types::Effect;
 use types::Machine;
@@ -17,15 +18,16 @@ ghost use lib.Dec.{ltb, eqb};
 ghost use Rattle.types.specs.declared.Status.the-variants.{Stopped, Faulted};
 ghost use Rattle.types.specs.declared.Effect.the-variants.{Go, SetReg, SetCell, End};
 ghost use Rattle.types.specs.Names.{registers, noArrow};
-ghost use Rattle.spec.specs.Commands.{commandOf, plainOf, holdsOf, fetchOf};
+ghost use Rattle.spec.specs.Commands.{commandOf, plainOf};
 ghost use Rattle.machine_step.specs.effects.CommandFields.{FieldsInRange};
-ghost use Rattle.spec.specs.Machines.{nextPc, viewOf, effectOf};
+ghost use Rattle.spec.specs.Machines.{nextPc, effectOf};
+ghost use Rattle.machine_step.specs.view.Views.{viewWith, effectAt};
 
 // The next pc is formed only in the arms that need it, which keeps a register free across the match.
-fn branch_target(c: u64, x: u32, y: u32, to: u32, pc: u32) -> Effect
-    ensures { λ r. ⌜ r ≡ Go (cond (holdsOf c x y) to (nextPc pc)) ⌝ }
+fn branch_target(holds: bool, to: u32, pc: u32) -> Effect
+    ensures { λ r. ⌜ r ≡ Go (cond holds to (nextPc pc)) ⌝ }
 {
-    if alu::holds(c, x, y) {
+    if holds {
         return Effect::Go(to);
     }
     Effect::Go(alu::add(pc, 1))
@@ -90,42 +92,36 @@ fn value(k: u64, x: u32, y: u32, v: u32) -> u32
 // What a command would do.
 fn command_effect(
     c: Command,
+    view: ViewNumbers,
     regs: &[u32; Machine::REGISTERS],
-    pc: u32,
-    cell: u32,
-    table: u32,
-    base: u32,
-    landings: u32,
     memory: &[u32],
-    free: usize,
-    left: usize,
 ) -> Effect
     requires { ⌜ FieldsInRange c ⌝ }
-    ensures { λ r. ⌜ r ≡ effectOf c (viewOf (now (regs .entry)) pc (now (memory .entry)) cell table base landings free left) ⌝ }
+    ensures { λ r. ⌜ r ≡ effectOf c (viewWith view (now (regs .entry)) (now (memory .entry))) ⌝ }
 {
     match c {
-        Command::Nop => Effect::Go(alu::add(pc, 1)),
+        Command::Nop => Effect::Go(alu::add(view.pc, 1)),
         Command::Halt => Effect::End(Status::Ended),
         Command::Plain(k, d, a, b, v) => {
             Effect::SetReg(d as usize, value(k, reg(regs, a), reg(regs, b), v as u32))
         }
         Command::Load(d, a) => load(d as usize, reg(regs, a), memory),
         Command::Store(a, b) => store(reg(regs, a), reg(regs, b), memory),
-        Command::GoIf(a, b, c, v) => { branch_target(c, reg(regs, a), reg(regs, b), v as u32, pc) }
+        Command::GoIf(a, b, c, v) => branch_target(
+            alu::holds(c, reg(regs, a), reg(regs, b)),
+            v as u32,
+            view.pc,
+        ),
         Command::GoReg(d, a, b, c) => jump(
-            c,
-            reg(regs, a),
-            reg(regs, b),
+            alu::holds(c, reg(regs, a), reg(regs, b)),
             reg(regs, d),
-            pc,
-            base,
-            landings,
+            view,
             memory,
         ),
-        Command::Look(d, v) => look(d as usize, cell, table, v as u32, memory),
-        Command::StopIf(d) => stop_if(reg(regs, d), pc),
-        Command::Keep(d) => store(cell, reg(regs, d), memory),
-        Command::Event(v) => event(v as u32, free, left),
+        Command::Look(d, v) => look(d as usize, view.cell, view.table, v as u32, memory),
+        Command::StopIf(d) => stop_if(reg(regs, d), view.pc),
+        Command::Keep(d) => store(view.cell, reg(regs, d), memory),
+        Command::Event(v) => event(v as u32, view.free, view.left),
         Command::Invalid => Effect::End(Status::Faulted),
     }
 }
@@ -133,52 +129,29 @@ fn command_effect(
 // What a word would do: it goes through the decoder.
 fn word_effect(
     w: u64,
+    view: ViewNumbers,
     regs: &[u32; Machine::REGISTERS],
-    pc: u32,
-    cell: u32,
-    table: u32,
-    base: u32,
-    landings: u32,
     memory: &[u32],
-    free: usize,
-    left: usize,
 ) -> Effect
-    ensures { λ r. ⌜ r ≡ effectOf (commandOf w) (viewOf (now (regs .entry)) pc (now (memory .entry)) cell table base landings free left) ⌝ }
+    ensures { λ r. ⌜ r ≡ effectOf (commandOf w) (viewWith view (now (regs .entry)) (now (memory .entry))) ⌝ }
 {
     let c = command::command(w);
-    command_effect(c, regs, pc, cell, table, base, landings, memory, free, left)
+    command_effect(c, view, regs, memory)
 }
 
 // What the word at pc would do; the list stands at the base. A pc below it is far past the list's end.
 pub fn next_effect(
     commands: &[u64],
-    base: u32,
+    view: ViewNumbers,
     regs: &[u32; Machine::REGISTERS],
-    pc: u32,
-    cell: u32,
-    table: u32,
-    landings: u32,
     memory: &[u32],
-    free: usize,
-    left: usize,
 ) -> Effect
-    ensures { λ r. ⌜ r ≡ effectOf (fetchOf (now (commands .entry)) base pc)
-        (viewOf (now (regs .entry)) pc (now (memory .entry)) cell table base landings free left) ⌝ }
+    ensures { λ r. ⌜ r ≡ effectAt (now (commands .entry)) (viewWith view (now (regs .entry)) (now (memory .entry))) ⌝ }
 {
-    let at = std::num::wrapping_sub_usize(pc as usize, base as usize);
+    let base = view.base;
+    let at = std::num::wrapping_sub_usize(view.pc as usize, base as usize);
     if at < commands.len() {
-        return word_effect(
-            commands[at],
-            regs,
-            pc,
-            cell,
-            table,
-            base,
-            landings,
-            memory,
-            free,
-            left,
-        );
+        return word_effect(commands[at], view, regs, memory);
     }
     Effect::End(Status::Faulted)
 }

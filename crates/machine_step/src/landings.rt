@@ -1,19 +1,16 @@
 // Decides whether a jump through a register goes to a listed landing.
+use crate::installed::has_landing;
+use crate::program_point::BUNDLE_LENGTH;
+use crate::view::ViewNumbers;
 use arith::alu;
 use types::Bundle;
 use types::Effect;
-use types::Layout;
 use types::Status;
 ghost use mathlib.Core.Path.{_≡_};
 ghost use mathlib.Core.Bool.{cond};
-ghost use Rattle.types.specs.declared.Status.the-variants.{Strayed};
-ghost use Rattle.types.specs.declared.Effect.the-variants.{Go, End};
-ghost use Rattle.spec.specs.Commands.{holdsOf};
+ghost use Rattle.types.specs.declared.Effect.the-variants.{Go};
 ghost use Rattle.spec.specs.Machines.{nextPc, isLanding};
-
-const LENGTH: u32 = Bundle::LENGTH as u32;
-
-const MOST: u32 = Bundle::MOST as u32;
+ghost use Rattle.machine_step.specs.view.Views.{landingEffect};
 
 // Whether an address is B + 4j and bit j of the landing cells stands.
 pub fn is_landing(to: u32, base: u32, landings: u32, memory: &[u32]) -> bool
@@ -23,38 +20,25 @@ pub fn is_landing(to: u32, base: u32, landings: u32, memory: &[u32]) -> bool
         return false;
     }
     let off = to - base;
-    let j = off / LENGTH;
-    if off % LENGTH != 0 {
+    let j = off / BUNDLE_LENGTH;
+    if off % BUNDLE_LENGTH != 0 {
         return false;
     }
-    if j >= MOST {
+    if j as usize >= Bundle::MOST {
         return false;
     }
-    let at = landings as usize + (j / Layout::CELL_BITS) as usize;
-    if at < memory.len() {
-        return (memory[at] >> (j % Layout::CELL_BITS)) % 2 == 1;
-    }
-    false
+    has_landing(landings, j, memory)
 }
 
-// A jump through a register: only to a landing.
-pub fn jump(
-    c: u64,
-    x: u32,
-    y: u32,
-    to: u32,
-    pc: u32,
-    base: u32,
-    landings: u32,
-    memory: &[u32],
-) -> Effect
-    ensures { λ r. ⌜ r ≡ cond (holdsOf c x y) (cond (isLanding (now (memory .entry)) base landings to) (Go to) (End Strayed)) (Go (nextPc pc)) ⌝ }
+// A jump through a register if its condition holds: only to a landing.
+pub fn jump(holds: bool, to: u32, view: ViewNumbers, memory: &[u32]) -> Effect
+    ensures { λ r. ⌜ r ≡ cond holds (landingEffect view (now (memory .entry)) to) (Go (nextPc (view .pc))) ⌝ }
 {
-    if alu::holds(c, x, y) {
-        if is_landing(to, base, landings, memory) {
+    if holds {
+        if is_landing(to, view.base, view.landings, memory) {
             return Effect::Go(to);
         }
         return Effect::End(Status::Strayed);
     }
-    Effect::Go(alu::add(pc, 1))
+    Effect::Go(alu::add(view.pc, 1))
 }

@@ -3,5 +3,7 @@ pub mod apply;
 pub mod effects;
 pub mod endings;
 pub mod events;
+pub mod installed;
 pub mod landings;
 pub mod program_point;
+pub mod view;

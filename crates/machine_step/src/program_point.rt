@@ -1,10 +1,14 @@
 // The program point of a run: pc, status, and the counts of pairs and readings; the engine's too, with its index for pc.
+use types::Bundle;
 use types::Status;
 ghost use mathlib.Core.Path.{_≡_};
 ghost use Prim.Native.Nat.{_+_, _<_, _^_};
 ghost use lib.ListN.{getD};
 ghost use Rattle.spec.specs.Machines.{nextPc as nextPcOf, withPair};
 ghost use Rattle.machine_step.specs.program_point.Points.{pointOf};
+
+// The commands of a bundle: its steps, and the distance from its address to the next one's.
+pub const BUNDLE_LENGTH: u32 = Bundle::LENGTH as u32;
 
 // A run's state beside registers, memory and log; of the engine, pc is the instruction's index.
 pub struct Point {

@@ -1,6 +1,6 @@
 -- Laws of words and fetching that the functions' proofs cite.
 use Prim.Native.Nat.{ℕ, _+_, _-_, _*_, _%_, _^_, _≤_, _<_}
-use mathlib.Core.Path.{_≡_, refl, _∙_, ap, subst}
+use mathlib.Core.Path.{_≡_, refl, sym, _∙_, ap, subst}
 use mathlib.Core.Bool.{Bool, true, false, _&&_, cond}
 use mathlib.Core.List.{List}
 use native.Mathlib.Omega.{arith}
@@ -17,10 +17,11 @@ use Rattle.types.specs.declared.Status.the-variants.{Ended, Stopped, Faulted, S
 use Rattle.types.specs.Names.{registers, events, noArrow, topWord, command}
 use Rattle.spec.specs.Words.{kindOf, dOf, aOf, bOf, vOf}
 use Rattle.spec.specs.Commands.{addOf, plainOf, holdsOf, isCommand, commandOf, fetchOf}
-use Rattle.spec.specs.Machines.{View, viewOf, nextPc, isLanding, effectOf, eventEffect}
+use Rattle.spec.specs.Machines.{View, regAt, cellAt, entryOf, ifCell, ifLanding, nextPc, effectOf, eventEffect}
 use Rattle.spec.proofs.Bools.{cond-ind}
 use Rattle.words.proofs.Laws.{named-in}
 use Rattle.machine_step.specs.effects.CommandFields.{FieldsInRange}
+use Rattle.machine_step.specs.view.Views.{effectAt}
 
 -- the command of a word is sound
 pub sound-command : (w : ℕ) → w < 2 ^ 64 → FieldsInRange (commandOf w)
@@ -49,43 +50,71 @@ sound-command w l =
 pub decoded : (w : ℕ) (c : Command) (s : View) (r : Effect) → c ≡ commandOf w → r ≡ effectOf c s → r ≡ effectOf (commandOf w) s
 decoded w c s r e q = q ∙ ap (λ (x : Command). effectOf x s) e
 
--- what the numbers of a sound command are
+-- the registers and the number of a command whose fields are in range
 module _ (c : Command) (s : FieldsInRange c) where
-  pub sound-plain : (k d a b v : ℕ) → c ≡ Plain k d a b v → (a < registers) × (b < registers) × (v ≤ topWord)
+  pub plain-a : (k d a b v : ℕ) → c ≡ Plain k d a b v → a < registers
   unfolding FieldsInRange
-  sound-plain k d a b v e = subst FieldsInRange e s
+  plain-a k d a b v e = subst FieldsInRange e s .0
 
-  pub sound-load : (d a : ℕ) → c ≡ Load d a → a < registers
+  pub plain-b : (k d a b v : ℕ) → c ≡ Plain k d a b v → b < registers
   unfolding FieldsInRange
-  sound-load d a e = subst FieldsInRange e s
+  plain-b k d a b v e = subst FieldsInRange e s .1
 
-  pub sound-store : (a b : ℕ) → c ≡ Store a b → (a < registers) × (b < registers)
+  pub plain-number : (k d a b v : ℕ) → c ≡ Plain k d a b v → v ≤ topWord
   unfolding FieldsInRange
-  sound-store a b e = subst FieldsInRange e s
+  plain-number k d a b v e = subst FieldsInRange e s .2
 
-  pub sound-jump : (a b k v : ℕ) → c ≡ GoIf a b k v → (a < registers) × (b < registers) × (v ≤ topWord)
+  pub load-a : (d a : ℕ) → c ≡ Load d a → a < registers
   unfolding FieldsInRange
-  sound-jump a b k v e = subst FieldsInRange e s
+  load-a d a e = subst FieldsInRange e s
 
-  pub sound-turn : (d a b k : ℕ) → c ≡ GoReg d a b k → (d < registers) × (a < registers) × (b < registers)
+  pub store-a : (a b : ℕ) → c ≡ Store a b → a < registers
   unfolding FieldsInRange
-  sound-turn d a b k e = subst FieldsInRange e s
+  store-a a b e = subst FieldsInRange e s .0
 
-  pub sound-look : (d v : ℕ) → c ≡ Look d v → v ≤ topWord
+  pub store-b : (a b : ℕ) → c ≡ Store a b → b < registers
   unfolding FieldsInRange
-  sound-look d v e = subst FieldsInRange e s
+  store-b a b e = subst FieldsInRange e s .1
 
-  pub sound-stop : (d : ℕ) → c ≡ StopIf d → d < registers
+  pub branch-a : (a b k v : ℕ) → c ≡ GoIf a b k v → a < registers
   unfolding FieldsInRange
-  sound-stop d e = subst FieldsInRange e s
+  branch-a a b k v e = subst FieldsInRange e s .0
 
-  pub sound-keep : (d : ℕ) → c ≡ Keep d → d < registers
+  pub branch-b : (a b k v : ℕ) → c ≡ GoIf a b k v → b < registers
   unfolding FieldsInRange
-  sound-keep d e = subst FieldsInRange e s
+  branch-b a b k v e = subst FieldsInRange e s .1
 
-  pub sound-event : (v : ℕ) → c ≡ Event v → v ≤ topWord
+  pub branch-number : (a b k v : ℕ) → c ≡ GoIf a b k v → v ≤ topWord
   unfolding FieldsInRange
-  sound-event v e = subst FieldsInRange e s
+  branch-number a b k v e = subst FieldsInRange e s .2
+
+  pub jump-d : (d a b k : ℕ) → c ≡ GoReg d a b k → d < registers
+  unfolding FieldsInRange
+  jump-d d a b k e = subst FieldsInRange e s .0
+
+  pub jump-a : (d a b k : ℕ) → c ≡ GoReg d a b k → a < registers
+  unfolding FieldsInRange
+  jump-a d a b k e = subst FieldsInRange e s .1
+
+  pub jump-b : (d a b k : ℕ) → c ≡ GoReg d a b k → b < registers
+  unfolding FieldsInRange
+  jump-b d a b k e = subst FieldsInRange e s .2
+
+  pub look-number : (d v : ℕ) → c ≡ Look d v → v ≤ topWord
+  unfolding FieldsInRange
+  look-number d v e = subst FieldsInRange e s
+
+  pub stop-d : (d : ℕ) → c ≡ StopIf d → d < registers
+  unfolding FieldsInRange
+  stop-d d e = subst FieldsInRange e s
+
+  pub keep-d : (d : ℕ) → c ≡ Keep d → d < registers
+  unfolding FieldsInRange
+  keep-d d e = subst FieldsInRange e s
+
+  pub event-number : (v : ℕ) → c ≡ Event v → v ≤ topWord
+  unfolding FieldsInRange
+  event-number v e = subst FieldsInRange e s
 
 pub word-fits : (v : ℕ) → v ≤ topWord → Held w32 v
 word-fits v h = record { fits = omega arith }
@@ -110,11 +139,8 @@ other-kind k x y v a b c d e f g h i j =
     )
 
 -- each command's effect
-module _ (regs : List ℕ) (pc : ℕ) (mem : List ℕ) (cell table base landings free left : ℕ) (c : Command) where
-  abbrev view : View
-  view = viewOf regs pc mem cell table base landings free left
-
-  pub does-nop : c ≡ Nop → (u : ℕ) → u ≡ addOf pc 1 → Go u ≡ effectOf c view
+module _ (view : View) (c : Command) where
+  pub does-nop : c ≡ Nop → (u : ℕ) → u ≡ nextPc (view .pc) → Go u ≡ effectOf c view
   unfolding effectOf
   does-nop e u q = rw (e, q)
 
@@ -126,47 +152,47 @@ module _ (regs : List ℕ) (pc : ℕ) (mem : List ℕ) (cell table base landings
   unfolding effectOf
   does-stray e = rw e
 
-  pub does-plain : (k d a b v x y u : ℕ) → c ≡ Plain k d a b v → x ≡ getD regs a 0 → y ≡ getD regs b 0 → u ≡ plainOf k x y v → SetReg d u ≡ effectOf c view
+  pub does-plain : (k d a b v x y u : ℕ) → c ≡ Plain k d a b v → x ≡ regAt view a → y ≡ regAt view b → u ≡ plainOf k x y v → SetReg d u ≡ effectOf c view
   unfolding effectOf
   does-plain k d a b v x y u e p q r = rw (e, r, p, q)
 
-  pub does-load : (d a x : ℕ) (r : Effect) → c ≡ Load d a → x ≡ getD regs a 0 → r ≡ cond (ltb x (length mem)) (SetReg d (getD mem x 0)) (End Faulted) → r ≡ effectOf c view
+  pub does-load : (d a x : ℕ) (r : Effect) → c ≡ Load d a → x ≡ regAt view a → r ≡ ifCell view x (SetReg d (cellAt view x)) → r ≡ effectOf c view
   unfolding effectOf
   does-load d a x r e p q = rw (q, e, p)
 
-  pub does-store : (a b x y : ℕ) (r : Effect) → c ≡ Store a b → x ≡ getD regs a 0 → y ≡ getD regs b 0 → r ≡ cond (ltb x (length mem)) (SetCell x y) (End Faulted) → r ≡ effectOf c view
+  pub does-store : (a b x y : ℕ) (r : Effect) → c ≡ Store a b → x ≡ regAt view a → y ≡ regAt view b → r ≡ ifCell view x (SetCell x y) → r ≡ effectOf c view
   unfolding effectOf
   does-store a b x y r e p o q = rw (q, e, p, o)
 
-  pub does-jump : (a b d v x y : ℕ) (r : Effect) → c ≡ GoIf a b d v → x ≡ getD regs a 0 → y ≡ getD regs b 0 → r ≡ Go (cond (holdsOf d x y) v (nextPc pc)) → r ≡ effectOf c view
+  pub does-branch : (a b d v x y : ℕ) (h : Bool) (r : Effect) → c ≡ GoIf a b d v → x ≡ regAt view a → y ≡ regAt view b → h ≡ holdsOf d x y
+      → r ≡ Go (cond h v (nextPc (view .pc))) → r ≡ effectOf c view
   unfolding effectOf
-  does-jump a b d v x y r e p o q = rw (q, e, p, o)
+  does-branch a b d v x y h r e p o n q = rw (q, e, n, p, o)
 
-  pub does-turn : (t a b d x y z : ℕ) (r : Effect) → c ≡ GoReg t a b d → x ≡ getD regs a 0 → y ≡ getD regs b 0 → z ≡ getD regs t 0
-      → r ≡ cond (holdsOf d x y) (cond (isLanding mem base landings z) (Go z) (End Strayed)) (Go (nextPc pc)) → r ≡ effectOf c view
+  pub does-jump : (t a b d x y z : ℕ) (h : Bool) (r : Effect) → c ≡ GoReg t a b d → x ≡ regAt view a → y ≡ regAt view b → h ≡ holdsOf d x y → z ≡ regAt view t
+      → r ≡ cond h (ifLanding view z) (Go (nextPc (view .pc))) → r ≡ effectOf c view
   unfolding effectOf
-  does-turn t a b d x y z r e p o n q = rw (q, e, p, o, n)
+  does-jump t a b d x y z h r e p o n m q = rw (q, e, n, p, o, m)
 
   pub does-look : (d v : ℕ) (r : Effect) → c ≡ Look d v
-      → r ≡ cond (ltb cell (length mem)) (cond (ltb (table + events * getD mem cell 0 + v) (length mem)) (SetReg d (getD mem (table + events * getD mem cell 0 + v) 0)) (End Faulted)) (End Faulted)
-      → r ≡ effectOf c view
+      → r ≡ ifCell view (view .cell) (ifCell view (entryOf view v) (SetReg d (cellAt view (entryOf view v)))) → r ≡ effectOf c view
   unfolding effectOf
   does-look d v r e q = rw (q, e)
 
-  pub does-stop : (d x : ℕ) (r : Effect) → c ≡ StopIf d → x ≡ getD regs d 0 → r ≡ cond (eqb x noArrow) (End Stopped) (Go (nextPc pc)) → r ≡ effectOf c view
+  pub does-stop : (d x : ℕ) (r : Effect) → c ≡ StopIf d → x ≡ regAt view d → r ≡ cond (eqb x noArrow) (End Stopped) (Go (nextPc (view .pc))) → r ≡ effectOf c view
   unfolding effectOf
   does-stop d x r e p q = rw (q, e, p)
 
-  pub does-keep : (d x : ℕ) (r : Effect) → c ≡ Keep d → x ≡ getD regs d 0 → r ≡ cond (ltb cell (length mem)) (SetCell cell x) (End Faulted) → r ≡ effectOf c view
+  pub does-keep : (d x : ℕ) (r : Effect) → c ≡ Keep d → x ≡ regAt view d → r ≡ ifCell view (view .cell) (SetCell (view .cell) x) → r ≡ effectOf c view
   unfolding effectOf
   does-keep d x r e p q = rw (q, e, p)
 
-  pub does-event : (v : ℕ) (r : Effect) → c ≡ Event v → r ≡ eventEffect v free left → r ≡ effectOf c view
+  pub does-event : (v : ℕ) (r : Effect) → c ≡ Event v → r ≡ eventEffect v (view .free) (view .left) → r ≡ effectOf c view
   unfolding effectOf
   does-event v r e q = rw (q, e)
 
 -- the place of pc in the list, at 64 bits: a pc below the base lies past any list
-pub fetch-in : (ws : List ℕ) (base pc at : ℕ) → (at + base) % 2 ^ 64 ≡ pc → base < 2 ^ 32 → pc < 2 ^ 32 → length ws < 2 ^ 63 → at < length ws
+fetch-in : (ws : List ℕ) (base pc at : ℕ) → (at + base) % 2 ^ 64 ≡ pc → base < 2 ^ 32 → pc < 2 ^ 32 → length ws < 2 ^ 63 → at < length ws
     → fetchOf ws base pc ≡ commandOf (getD ws at 0)
 unfolding fetchOf
 fetch-in ws base pc at e b p n h =
@@ -174,7 +200,7 @@ fetch-in ws base pc at e b p n h =
     let j : pc - base ≡ at = omega arith in
     rw (le-leb _ _ i, j, lt-ltb _ _ h)
 
-pub fetch-out : (ws : List ℕ) (base pc at : ℕ) → (at + base) % 2 ^ 64 ≡ pc → base < 2 ^ 32 → pc < 2 ^ 32 → at < 2 ^ 64 → length ws ≤ at
+fetch-out : (ws : List ℕ) (base pc at : ℕ) → (at + base) % 2 ^ 64 ≡ pc → base < 2 ^ 32 → pc < 2 ^ 32 → at < 2 ^ 64 → length ws ≤ at
     → fetchOf ws base pc ≡ Invalid
 unfolding fetchOf
 fetch-out ws base pc at e b p n h = go (leb base pc) refl
@@ -182,3 +208,12 @@ fetch-out ws base pc at e b p n h = go (leb base pc) refl
     go : (t : Bool) → leb base pc ≡ t → cond (t && ltb (pc - base) (length ws)) (commandOf (getD ws (pc - base) 0)) Invalid ≡ Invalid
     go true q = let i : base ≤ pc = leb-true base pc q in let j : pc - base ≡ at = omega arith in rw (j, le-ltb _ _ h)
     go false q = refl
+
+-- the effect of the word at pc: `at` is its place in the list
+module _ (ws : List ℕ) (s : View) (at : ℕ) (is : (at + s .base) % 2 ^ 64 ≡ s .pc) (base : s .base < 2 ^ 32) (pc : s .pc < 2 ^ 32) where
+  pub in-list : (r : Effect) → length ws < 2 ^ 63 → at < length ws → r ≡ effectOf (commandOf (getD ws at 0)) s → r ≡ effectAt ws s
+  in-list r n h e = e ∙ ap (λ (c : Command). effectOf c s) (sym (fetch-in ws (s .base) (s .pc) at is base pc n h))
+
+  pub past-list : at < 2 ^ 64 → length ws ≤ at → End Faulted ≡ effectAt ws s
+  unfolding effectOf
+  past-list n h = rw (fetch-out ws (s .base) (s .pc) at is base pc n h)

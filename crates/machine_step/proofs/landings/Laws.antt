@@ -1,15 +1,17 @@
 -- Whether an address is a landing, branch by branch, and where a jump goes.
-use Prim.Native.Nat.{ℕ, _+_, _-_, _/_, _%_, _^_, _≤_, _<_}
-use mathlib.Core.Path.{_≡_, _∙_, ap}
+use Prim.Native.Nat.{ℕ, _-_, _/_, _%_, _≤_, _<_}
+use mathlib.Core.Path.{_≡_}
 use mathlib.Core.Bool.{Bool, true, false, cond}
 use mathlib.Core.List.{List}
 use borrow.Author.Tests.{lt-ltb, le-ltb, le-leb, lt-leb, ne-eqb}
-use lib.ListN.{length, getD, List·getD-eq-default}
-use native.Mathlib.Nat.{zero-div}
 use Rattle.types.specs.declared.Effect.{Effect}
-use Rattle.types.specs.Names.{mostBundles, bundleLength, cellBits}
-use Rattle.spec.specs.Landings.{bitAt, marked}
-use Rattle.spec.specs.Machines.{isLanding}
+use Rattle.types.specs.declared.Effect.the-variants.{Go, End}
+use Rattle.types.specs.declared.Status.the-variants.{Strayed}
+use Rattle.types.specs.Names.{mostBundles, bundleLength}
+use Rattle.spec.specs.Landings.{marked}
+use Rattle.spec.specs.Machines.{isLanding, nextPc}
+use Rattle.machine_step.specs.declared.view.ViewNumbers.{ViewNumbers}
+use Rattle.machine_step.specs.view.Views.{landingEffect}
 
 module _ (mem : List ℕ) (b q to : ℕ) where
   pub lands-below : to < b → false ≡ isLanding mem b q to
@@ -27,22 +29,16 @@ module _ (mem : List ℕ) (b q to : ℕ) where
       lands-high l = rw (le-leb b to h, k, le-ltb ((to - b) / bundleLength) mostBundles l)
 
       module _ (l : (to - b) / bundleLength < mostBundles) where
-        pub lands-in : q + (to - b) / bundleLength / cellBits < length mem → bitAt (getD mem (q + (to - b) / bundleLength / cellBits) 0) ((to - b) / bundleLength % cellBits) ≡ isLanding mem b q to
-        unfolding isLanding marked
-        lands-in m = rw (le-leb b to h, k, lt-ltb ((to - b) / bundleLength) mostBundles l)
+        pub lands-by-bit : (bit : Bool) → bit ≡ marked mem q ((to - b) / bundleLength) → bit ≡ isLanding mem b q to
+        unfolding isLanding
+        lands-by-bit bit e = rw (le-leb b to h, k, lt-ltb ((to - b) / bundleLength) mostBundles l) e
 
-        pub lands-out : length mem ≤ q + (to - b) / bundleLength / cellBits → false ≡ isLanding mem b q to
-        unfolding isLanding marked
-        lands-out m =
-            let z : 0 / 2 ^ ((to - b) / bundleLength % cellBits) % 2 ≡ 0 = ap (λ (x : ℕ). x % 2) (zero-div (2 ^ ((to - b) / bundleLength % cellBits))) in
-            rw (le-leb b to h, k, lt-ltb ((to - b) / bundleLength) mostBundles l, List·getD-eq-default mem 0 m, z)
+module _ (holds lands : Bool) (n : ViewNumbers) (mem : List ℕ) (to : ℕ) (is : lands ≡ isLanding mem (n .base) (n .landings) to) (taken : holds ≡ true) where
+  pub jump-lands : lands ≡ true → Go to ≡ cond holds (landingEffect n mem to) (Go (nextPc (n .pc)))
+  jump-lands h = rw (taken, ← is, h)
 
-module _ (t l t′ l′ : Bool) (x y z : Effect) (et : t ≡ t′) where
-  pub jump-lands : l ≡ l′ → t ≡ true → l ≡ true → x ≡ cond t′ (cond l′ x y) z
-  jump-lands el ht hl = rw (← et, ← el, ht, hl)
+  pub jump-strays : lands ≡ false → End Strayed ≡ cond holds (landingEffect n mem to) (Go (nextPc (n .pc)))
+  jump-strays h = rw (taken, ← is, h)
 
-  pub jump-strays : l ≡ l′ → t ≡ true → l ≡ false → y ≡ cond t′ (cond l′ x y) z
-  jump-strays el ht hl = rw (← et, ← el, ht, hl)
-
-pub jump-stays : (t t′ : Bool) (v w z : Effect) → t ≡ t′ → t ≡ false → w ≡ z → w ≡ cond t′ v z
-jump-stays t t′ v w z et ht e = e ∙ rw (← et, ht)
+pub jump-stays : (holds : Bool) (n : ViewNumbers) (e : Effect) (next : ℕ) → holds ≡ false → next ≡ nextPc (n .pc) → Go next ≡ cond holds e (Go (nextPc (n .pc)))
+jump-stays holds n e next h is = rw (h, is)

@@ -3,10 +3,4 @@ use Rattle.machine_step.proofs.effects.branch_target.Statement.{stateme
 use Rattle.machine_step.proofs.effects.branch_target.Tie as tie
 
 pub branch-target-spec : {M : Type 1} → statement M
-branch-target-spec =
-    tie.close
-    (tie.spec
-    (λ c κs. search needs)
-    (λ c. simp (← c .before .holds .ensures, c .if1 .taken))
-    (λ c κs. search needs)
-    (λ c. simp (← c .before .before .holds .ensures, c .before .if1 .left, c .add .ensures)))
+branch-target-spec = tie.close (tie.spec (λ c. rw (c .if1 .taken)) (λ c κs. search needs) (λ c. rw (c .before .if1 .left, c .add .ensures)))

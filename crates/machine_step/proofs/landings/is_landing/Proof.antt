@@ -1,5 +1,5 @@
 use borrow.Author.Needs.{needs}
-use Rattle.machine_step.proofs.landings.Laws.{lands-below, lands-off, lands-high, lands-in, lands-out}
+use Rattle.machine_step.proofs.landings.Laws.{lands-below, lands-off, lands-high, lands-by-bit}
 use Rattle.machine_step.proofs.landings.is_landing.Statement.{statement}
 use Rattle.machine_step.proofs.landings.is_landing.Tie as tie
 
@@ -9,11 +9,7 @@ is-landing-spec =
     (tie.spec
     (λ c. search (lands-below, needs))
     (λ c. search (lands-off, needs))
+    (λ c. search needs)
     (λ c. search (lands-high, needs))
-    (λ c. search needs)
-    (λ c. search needs)
-    (λ c. search needs)
-    (λ c. search needs)
-    (λ c. search needs)
-    (λ c. search (lands-in, needs))
-    (λ c. search (lands-out, needs)))
+    (λ c κs. search needs)
+    (λ c. search (lands-by-bit, needs)))
