@@ -20,7 +20,9 @@ ghost use Rattle.types.specs.Names.{mostInstructions};
 ghost use Rattle.spec.specs.Words.{bundlesFor};
 ghost use Rattle.spec.specs.Machines.{stateOf, runResultOf};
 ghost use Rattle.engine_spec.specs.Engines.{engineOf, Holds, outcomeOf, endAnswer, startOf, runOf};
-ghost use Rattle.engine_spec.specs.Continues.{KnownWords, JudgedWords, continueFrom, continueOf};
+ghost use Rattle.engine_spec.specs.Continues.{continueFrom, continueOf};
+ghost use Rattle.engine_step.specs.fetch.Fetched.{IndexedWords};
+ghost use Rattle.engine.specs.run_loop.Stretches.{KnownWords};
 
 // ---- what a run answers
 
@@ -51,11 +53,11 @@ fn finish(regs: [u32; Engine::REGISTERS], at: Point, ending: Ending, steps: u32)
     }
 }
 
-// A run of an engine that is running; the first `judged` words are known to be instructions.
+// A run of an engine that is running. Where the words are not judged, each is judged as it is reached.
 fn run_running(
     layout: Layout,
     words: &[u64],
-    judged: usize,
+    judged: bool,
     top: u32,
     engine: Engine,
     memory: &mut [u32],
@@ -63,7 +65,7 @@ fn run_running(
     readings: &[u32],
     log: &mut [u32],
 ) -> EngineOutcome
-    requires { ⌜ JudgedWords (now words) judged top × Holds layout (length (now memory)) ⌝ }
+    requires { ⌜ KnownWords (now words) judged × IndexedWords (now words) top × Holds layout (length (now memory)) ⌝ }
     ensures { λ r. ⌜ runResultOf r (now (memory .exit)) (now (log .exit))
         ≡ continueFrom layout (now (words .entry)) (now (readings .entry)) budget 0
         (stateOf (engine .regs) (engine .at) Running (now (memory .entry)) (now (log .entry)) 0 0) ⌝ }
@@ -110,11 +112,11 @@ fn unchanged(engine: Engine, answer: Answer) -> EngineOutcome
     }
 }
 
-// A run of an engine in any status; the first `judged` words are known to be instructions.
+// A run of an engine in any status. Where the words are not judged, each is judged as it is reached.
 fn run_on(
     layout: Layout,
     words: &[u64],
-    judged: usize,
+    judged: bool,
     engine: Engine,
     memory: &mut [u32],
     budget: u32,
@@ -159,16 +161,7 @@ pub fn run(
     let answer = crate::refusal::run_refusal(layout, words, memory.len());
     let refused = answer.number;
     if refused == Refusal::TAKEN {
-        return run_on(
-            layout,
-            words,
-            words.len(),
-            engine,
-            memory,
-            budget,
-            readings,
-            log,
-        );
+        return run_on(layout, words, true, engine, memory, budget, readings, log);
     }
     unchanged(engine, answer)
 }
@@ -190,7 +183,7 @@ pub fn resume(
     let answer = crate::refusal::continue_refusal(layout, words, memory.len());
     let number = answer.number;
     if number == Refusal::TAKEN {
-        return run_on(layout, words, 0, engine, memory, budget, readings, log);
+        return run_on(layout, words, false, engine, memory, budget, readings, log);
     }
     unchanged(engine, answer)
 }

@@ -33,7 +33,7 @@ fn move_state(layout: Layout, v: u32, memory: &mut [u32])
     requires { ⌜ (layout .cell < length (now memory)) × (entryAddress layout (now memory) v < length (now memory)) ⌝ }
     ensures { λ _. ⌜ now (memory .exit) ≡ set (now (memory .entry)) (layout .cell) (entryAt layout (now (memory .entry)) v) ⌝ }
 {
-    let x = read_cell(memory, crate::events::entry(layout, v, memory));
+    let x = buffers::cells::peek(memory, crate::events::entry(layout, v, memory));
     set_cell(memory, layout.cell as usize, x);
 }
 

@@ -20,14 +20,15 @@ use types::Status;
 use words::alu;
 use words::field;
 ghost use mathlib.Core.Path.{_≡_};
+ghost use mathlib.Core.Bool.{true};
 ghost use Prim.Native.Nat.{_+_, _≤_};
 ghost use lib.ListN.{length};
 ghost use Rattle.types.specs.Names.{mostInstructions};
 ghost use Rattle.spec.specs.Words.{bundlesFor};
 ghost use Rattle.spec.specs.Machines.{viewOf};
-ghost use Rattle.engine_step.specs.fetch.Fetched.{FetchedFields, fetchedEffect};
+ghost use Rattle.engine_step.specs.fetch.Fetched.{IndexedWords, FetchedFields, fetchedEffect};
 ghost use Rattle.engine_spec.specs.Engines.{Holds};
-ghost use Rattle.engine_spec.specs.Continues.{JudgedWords, reachedEffect};
+ghost use Rattle.engine_spec.specs.Continues.{isInstructionAt, reachedEffect};
 
 // What a fetched word would do, n of them in all. Every number of four bits has its arm, so the match becomes one jump without a test;
 // and each arm takes only the fields that it uses, so that none is taken before the jump.
@@ -89,11 +90,10 @@ fn instruction_effect(
     }
 }
 
-// What the word at the index would do, where the first `judged` words are known to be instructions and each other is judged as it is reached.
+// What the word at the index would do, which is known to be an instruction.
 pub fn next_effect(
     layout: Layout,
     words: &[u64],
-    judged: usize,
     top: u32,
     regs: &[u32; Engine::REGISTERS],
     at: u32,
@@ -101,10 +101,10 @@ pub fn next_effect(
     free: usize,
     left: usize,
 ) -> Effect
-    requires { ⌜ JudgedWords (now words) judged top × Holds layout (length (now memory)) ⌝ }
+    requires { ⌜ IndexedWords (now words) top × (isInstructionAt (now words) at ≡ true) × Holds layout (length (now memory)) ⌝ }
     ensures { λ r. ⌜ r ≡ reachedEffect layout (now (words .entry)) (viewOf (now (regs .entry)) at (now (memory .entry)) (layout .cell)
         (layout .table) (layout .base) (layout .landings) free left) ⌝ }
 {
-    let w = fetch(words, judged, top, at);
+    let w = fetch(words, top, at);
     instruction_effect(layout, w, words.len(), top, regs, at, memory, free, left)
 }
