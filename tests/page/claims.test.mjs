@@ -244,6 +244,8 @@ test("a budget spent inside a bundle: its last command can be reached, and the r
 
 test("machine and engine: the first register or cell that differs is named", async () => {
   const session = await open(pageOf(ROAST));
+  session.nextEvent();
+  assert.deepEqual(session.agreement.rows[0], { what: "record", here: "1 pair", there: "1 pair", ok: true });
   session.go(session.last);
   const { facts, trace } = session;
   const { here, engine } = trace.sides;

@@ -1,6 +1,7 @@
 // The two comparisons. Engine and machine, at each bundle's beginning and at every end or pause; and the same commands on another
 // memory, after every command. A row says what was compared, what stands on each side and whether they are equal.
 import { offsetOf } from "../library/header.mjs";
+import { plural } from "./numbers.mjs";
 
 const GUEST_REGISTERS = offsetOf("engine", "index");
 const ALL_REGISTERS = offsetOf("machine", "pc");
@@ -16,7 +17,7 @@ export function same(one, other) {
 }
 
 const sandbox = (facts, memory) => memory.subarray(facts.shape.low, facts.shape.high + 1);
-const pairsOf = (side) => side.record.length / 2;
+const pairsOf = (side) => plural(side.record.length / 2, "pair");
 
 /** The instruction of a machine's pc. */
 export const instructionOf = (facts, machine) => Math.floor((machine[PC] - facts.shape.base) / facts.bundle);
@@ -36,7 +37,7 @@ export function agreement(facts, machine, engine) {
   const registers = (record) => record.subarray(0, GUEST_REGISTERS);
   const boxes = [machine, engine].map((side) => sandbox(facts, side.memory));
   const rows = [
-    row("record", `${pairsOf(machine)} pairs`, `${pairsOf(engine)} pairs`, same(machine.record, engine.record)),
+    row("record", pairsOf(machine), pairsOf(engine), same(machine.record, engine.record)),
     row("readings used", machine.used, engine.used),
     listRow("r0 to r14", "15 numbers", (r) => `r${r}`, [registers(machine.machine), registers(engine.engine)]),
     listRow("sandbox", `${boxes[0].length} cells`, (i) => `cell ${facts.shape.low + i}`, boxes),

@@ -34,6 +34,7 @@ export function buildPolicy(app) {
   const states = leftOut + order.length;
   if (leftOut) byId("drawing").after(h("p", { class: "hint" }, `${leftOut} of ${states} states are left out: no events lead to them.`));
   byId("ceilings").textContent = ceilingsText(page, session.facts);
+  new ResizeObserver(() => session.trace && byId("drawing").clientWidth !== app.drawnIn && updatePolicy(app)).observe(byId("drawing"));
   byId("arrows").append(...arrowTexts(page, app.policy));
 }
 
@@ -57,14 +58,16 @@ function chips(page, row, stopped) {
   return [...listed, chip(others, open.length ? "yes" : "no"), unnamedStop].filter(Boolean);
 }
 
-export function updatePolicy({ page, session, policy }) {
+export function updatePolicy(app) {
+  const { page, session, policy } = app;
   const { now, facts, taken, stopped } = session;
+  const box = byId("drawing");
   const stoppedName = stopped === null ? null : eventName(page, stopped);
-  const draw = fitsColumn(policy) ? drawColumn : drawArcs;
-  const drawing = draw(policy, { state: now.state, taken, stopped: stoppedName });
+  const room = (app.drawnIn = box.clientWidth);
+  const draw = fitsColumn(policy, room) ? drawColumn : drawArcs;
+  const drawing = draw(policy, { state: now.state, taken, stopped: stoppedName }, room);
   const stop = stoppedName ? ` Stopped: ${stoppedName} has no arrow.` : "";
   drawing.setAttribute("aria-label", `The policy. Present state: ${stateName(page, now.state)}.${stop} The arrows are listed below as text.`);
-  const box = byId("drawing");
   const { scrollTop } = box;
   box.replaceChildren(drawing);
   box.scrollTop = scrollTop;

@@ -41,7 +41,8 @@ export function lookAtForm(width) {
     const ratio = contrast(over(parsed(drawing ? style.fill : style.color), under), under);
     const said = e.textContent.slice(0, 30);
     if (ratio < LEAST_CONTRAST) found.low.add(`${said} ${ratio.toFixed(2)}`);
-    if (parseFloat(style.fontSize) < SMALLEST && !e.closest("[aria-hidden]")) found.small.add(`${said} ${style.fontSize}`);
+    const size = parseFloat(style.fontSize) * (drawing ? e.getScreenCTM().a : 1); // as it is drawn
+    if (size < SMALLEST && !e.closest("[aria-hidden]")) found.small.add(`${said} ${size.toFixed(1)}px`);
     const edge = drawing ? drawing.getBoundingClientRect() : { left: -1, right: width };
     const isOut = box.right > edge.right + 1 || box.left < edge.left - 1;
     if (isOut && drawing?.id !== "map" && !e.closest(".scroll, #listing-box")) found.cut.add(said);

@@ -143,8 +143,8 @@ test("16 states with long names: each name fits its box and differs from the oth
   const policy = write("phases.policy", `${all.join("")}start ${name(0)}\n`);
   const [routine, , drum] = ROAST.files;
   const file = makePage({ name: "phases", files: [routine, "--drum", drum, "--policy", policy], readings: ROAST.readings });
-  for (const isDark of [false, true]) {
-    const page = await browser.page(file, { ...DESKTOP, isDark });
+  for (const size of [DESKTOP, { ...DESKTOP, isDark: true }, SIZES[0]]) {
+    const page = await browser.page(file, size);
     assert.ok((await see(page, arrowContrast)) >= LEAST_ARROW_CONTRAST);
     const boxes = await page.run(`[...document.querySelectorAll("#automaton .state")].map((s) => { const [box, name] = [s.querySelector("rect"), s.querySelector("text")];
       return { said: name.textContent, fits: name.getBBox().width <= box.getBBox().width - 8 }; })`);
@@ -154,6 +154,57 @@ test("16 states with long names: each name fits its box and differs from the oth
     await page.close();
   }
 });
+
+/** A policy of three states with arrows back and over, each for several events. */
+const BACK = `state cold
+  charge -> roasting
+  door -> dropped
+  cool -> dropped
+  exhaust -> dropped
+  others -> cold
+state roasting
+  gas -> cold
+  air -> cold
+  bean -> cold
+  door -> dropped
+  others -> roasting
+state dropped
+  charge -> cold
+  gas -> cold
+  exhaust -> cold
+  others -> dropped
+start cold
+`;
+
+/** Policies on the roast's drum, and names as long as the files take them. */
+const LONG = "a_name_without_any_blank";
+const DRAWN = {
+  "arrows back and over": () => [ROAST.files[0], "--drum", ROAST.files[2], "--policy", write("back.policy", BACK)],
+  "the longest names": () => [
+    write(`${LONG}_${LONG}_${LONG}.routine`, `SET r1, 8\nSTORE r1, r1\nEVENT ${LONG}_order\nEVENT ${LONG}_probe\nEVENT ${LONG}_order\n# ${LONG.repeat(4)}\n`),
+    "--drum",
+    write(`${LONG}_${LONG}.drum`, `U 1024\nSL 256\nSH 511\nM 0\nP 512\nB 4096\nQ 32\nlandings routine\nevent 0 ${LONG}_order\nevent 8 ${LONG}_probe\nceiling ${LONG}_order 4000000000\ncell 8 4294967295 ${LONG} ${LONG}\n`),
+    "--policy",
+    write(`${LONG}_${LONG}.policy`, `state ${LONG}_one\n  ${LONG}_order -> ${LONG}_two\nstate ${LONG}_two\n  ${LONG}_probe -> ${LONG}_two\nstart ${LONG}_one\n`),
+  ],
+};
+
+for (const [what, files] of Object.entries(DRAWN)) {
+  test(`${what}: nothing is cut, and states can be told from each other`, async () => {
+    const file = makePage({ name: "drawn", files: files(), readings: [1500] });
+    for (const size of SIZES) {
+      const page = await browser.page(file, size);
+      for (const [situation, code] of Object.entries(SITUATIONS)) {
+        await page.run(`(async () => { ${code} })()`);
+        await page.settle();
+        assert.deepEqual(await see(page, lookAtForm, size.width), GOOD, `${size.width} ${situation}`);
+      }
+      const names = await page.run("[...document.querySelectorAll('#automaton .state text')].map((name) => name.textContent)");
+      assert.equal(new Set(names).size, names.length, `${names}`);
+      await page.close();
+    }
+  });
+}
 
 const LOOP = "loop: ADD r1, r1, r2\n STORE r3, r1\n GOIF r0, r0, always, loop\n";
 const LONGEST_GAP = 250; // milliseconds in which the page does not answer
