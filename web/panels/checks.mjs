@@ -39,6 +39,10 @@ function updateTwin(app) {
   const rows = now.twins ?? TWIN_ROWS.map((what) => ({ what, ok: true }));
   const item = ({ what, ok }) => h("li", { class: ok ? "ok" : "wrong" }, tick(ok), " ", what);
   const count = facts.freeCells.length;
+  if (!count) {
+    byId("twin").replaceChildren(h("p", {}, "This drum has no free cell, so there is no second memory with other free cells."));
+    return;
+  }
   const kept = now.moved === 0 ? `✓ All ${count} free cells of both memories are as their owner wrote them.` : `✕ ${plural(now.moved, "free cell")} changed!`;
   byId("twin").replaceChildren(
     verdict(allOk(rows), "No difference", "A DIFFERENCE"),

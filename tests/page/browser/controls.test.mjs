@@ -387,6 +387,13 @@ test("a drum without named cells has no empty place for them; drum and policy ar
   assert.match(await said("#files"), /bare\.drum, bare\.policy/);
 });
 
+test("a drum without free cells has no second memory to compare, and says so", async () => {
+  const drum = write("full.drum", "U 65\nSL 48\nSH 63\nM 64\nP 0\nB 4096\nQ 16\nlandings all\nevent 0 gas\n");
+  const policy = write("any.policy", "state any\n  others -> any\nstart any\n");
+  await openRoutine("full", "EVENT gas\n", { files: ["--drum", drum, "--policy", policy] });
+  assert.equal(await said("#twin"), "This drum has no free cell, so there is no second memory with other free cells.");
+});
+
 test("four digits of a line's number fit", async () => {
   await openRoutine("lines", `${"# a line\n".repeat(1200)}HALT\n`);
   const fits = "[...document.querySelectorAll('.line .number')].every((n) => n.scrollWidth <= n.clientWidth)";
