@@ -48,7 +48,7 @@ export function buildMemory(app) {
   const { page, session: { facts } } = app;
   app.selected = page.free[0]?.cell ?? facts.freeCells[0] ?? 0;
   byId("regions").append(...Object.entries(REGIONS).map((entry) => regionItem(facts, entry)));
-  const label = ({ name, cell }) => [h("b", {}, name), h("small", {}, `cell ${cell}`)];
+  const label = ({ name, cell }) => h("span", { class: "name" }, h("b", {}, name), h("small", {}, `cell ${cell}`));
   byId("named").append(...page.free.map((named) => writeForm(app, named.cell, `free-${named.cell}`, label(named))));
   buildPicker(app);
   new ResizeObserver(() => app.session.trace && drawMap(app)).observe(byId("map").parentElement);

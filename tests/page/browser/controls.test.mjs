@@ -221,6 +221,11 @@ test("a free cell is written in the middle of a run, and nothing differs", async
   await isIdle();
 });
 
+test("a named cell's name stands on one line", async () => {
+  const lines = "[...document.querySelectorAll('#named .name')].map((name) => Math.round(name.getBoundingClientRect().height / parseFloat(getComputedStyle(name).lineHeight)))";
+  assert.deepEqual(await page.run(lines), [1, 1, 1]);
+});
+
 test("a cell is chosen on the map; only free ones can be written", async () => {
   await page.type("#pick", "300");
   assert.equal(await page.run("document.querySelectorAll('#writer form').length"), 0);
