@@ -16,6 +16,7 @@ import { CURIOUS, EXAMPLES, PROFILES, ROAST, hemdroas, objects, write } from "./
 import { library, open, pageOf, spoiltLibrary } from "./lesson.mjs";
 
 const PURGE = 8;
+const TABLE_CELL = 519; // of an event that the roast does not send
 
 test("a free cell takes what the viewer writes, at any moment, and nothing else changes", async () => {
   const page = pageOf(CURIOUS);
@@ -59,6 +60,13 @@ const FAULTS = {
     lib.run = function (layout, commands, machine, memory, stretch) {
       const answer = Library.prototype.run.call(this, layout, commands, machine, memory, stretch);
       memory[PURGE] = 1;
+      return answer;
+    };
+  },
+  "The policy’s table or a landing was changed": (lib) => {
+    lib.run = function (layout, commands, machine, memory, stretch) {
+      const answer = Library.prototype.run.call(this, layout, commands, machine, memory, stretch);
+      memory[TABLE_CELL] = 1;
       return answer;
     };
   },

@@ -67,4 +67,7 @@ export function twinRows(facts, one, other) {
 /** The free cells that are not as their owner wrote them. */
 export const movedCells = (facts, side) => facts.freeCells.filter((cell) => side.memory[cell] !== side.host[cell]);
 
+/** The cells of table and landings that are not as they were installed. */
+export const spoiltCells = (facts, side) => facts.fixedCells.filter((cell) => side.memory[cell] !== side.installed[cell]);
+
 export const allOk = (rows) => rows.every((r) => r.ok);

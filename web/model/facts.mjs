@@ -106,6 +106,7 @@ export function askFacts(lib, page) {
     scratch,
     bundle: askBundle(lib, code.layout),
     freeCells: [...region.keys()].filter((cell) => region[cell] === "free"),
+    fixedCells: [...region.keys()].filter((cell) => ["table", "landings"].includes(region[cell])),
     arrows: askArrows(lib, code, shape, scratch),
     isReading: askReadings(lib, code, scratch),
   };

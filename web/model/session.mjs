@@ -168,6 +168,7 @@ export class Session {
       ["Engine and machine do not agree", first((frame) => frame.agree && !allOk(frame.agree))],
       ["The routine saw the free cells", first((frame) => frame.twins)],
       ["A free cell was changed", first((frame) => frame.moved > 0)],
+      ["The policy’s table or a landing was changed", first((frame) => frame.spoilt > 0)],
       ["The run in one go and command by command came out differently", this.now.isExact ? -1 : this.command],
     ];
     return found.filter(([, at]) => at >= 0).map(([what, at]) => ({ what, at }));

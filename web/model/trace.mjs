@@ -1,7 +1,7 @@
 // A trace: what the viewer has given (readings, budget, log, cells written) becomes a list of frames, one after each command. The
 // library runs the commands on this memory, the same commands on the other memory, and the routine's words by the engine.
 import { ENDING, STATUS, offsetOf } from "../library/header.mjs";
-import { agreement, allOk, instructionOf, movedCells, same, twinRows } from "./compare.mjs";
+import { agreement, allOk, instructionOf, movedCells, same, spoiltCells, twinRows } from "./compare.mjs";
 
 const PC = offsetOf("machine", "pc");
 const STATUS_AT = offsetOf("machine", "status");
@@ -49,7 +49,7 @@ export class Trace {
     memory.set(host);
     engine.fill(0);
     lib.install(facts.layout, facts.policy, facts.landings, memory, machine);
-    return { name, machine, engine, memory, log, host, record: [], used: 0, logFrom: 0, ending: null };
+    return { name, machine, engine, memory, log, host, installed: memory.slice(), record: [], used: 0, logFrom: 0, ending: null };
   }
 
   /** What a side is lent for its next so many steps. */
@@ -100,6 +100,7 @@ export class Trace {
     const { here, there } = this.sides;
     const rows = twinRows(facts, here, there);
     const moved = movedCells(facts, here).length + movedCells(facts, there).length;
+    const spoilt = spoiltCells(facts, here).length + spoiltCells(facts, there).length;
     const atFirst = (here.machine[PC] - facts.shape.base) % facts.bundle === 0;
     this.frames.push({
       machine: here.machine.slice(),
@@ -113,6 +114,7 @@ export class Trace {
       agree: compared ? this.#compare() : null,
       twins: allOk(rows) ? null : rows,
       moved,
+      spoilt,
     });
   }
 

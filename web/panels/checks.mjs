@@ -44,11 +44,13 @@ function updateTwin(app) {
     return;
   }
   const kept = now.moved === 0 ? `✓ All ${count} free cells of both memories are as their owner wrote them.` : `✕ ${plural(now.moved, "free cell")} changed!`;
+  const fixed = now.spoilt ? `✕ ${plural(now.spoilt, "cell")} of table and landings changed!` : "✓ Table and landings are as they were installed.";
   byId("twin").replaceChildren(
     verdict(allOk(rows), "No difference", "A DIFFERENCE"),
     freeTable(app),
     h("ul", { class: "ticks" }, rows.map(item)),
     h("p", { class: now.moved ? "wrong" : "ok" }, kept),
+    h("p", { class: now.spoilt ? "wrong" : "ok" }, fixed),
   );
 }
 

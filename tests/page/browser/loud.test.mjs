@@ -32,6 +32,7 @@ for (const [what, call, code, sentence] of [
   ["an engine that adds one", "hemdroas_engine_run", `numbers[args[${ENGINE_RECORD}] / 4 + 3] += 1;`, /Engine and machine do not agree, from command \d+ on/],
   ["a machine that sees the purge timer", "hemdroas_run", `numbers[args[${MACHINE_RECORD}] / 4 + 9] = numbers[args[${MEMORY}] / 4 + 8];`, /The routine saw the free cells, from command \d+ on/],
   ["a machine that writes a free cell", "hemdroas_run", `numbers[args[${MEMORY}] / 4 + 600] = 1;`, /A free cell was changed, from command \d+ on/],
+  ["a machine that writes the policy's table", "hemdroas_run", `numbers[args[${MEMORY}] / 4 + 519] = 1;`, /The policy’s table or a landing was changed, from command \d+ on/],
 ]) {
   test(`${what} is told loudly`, async () => {
     const page = await browser.page(spoiltPage(call, call, code), DESKTOP);
