@@ -390,6 +390,7 @@ fn help_for_each() {
         "run",
         "preview",
         "step",
+        "page",
         "policy precedence",
         "policy merge",
         "policy determinise",

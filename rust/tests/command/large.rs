@@ -7,7 +7,7 @@ use std::time::{Duration, Instant};
 const LARGEST: usize = 1 << 20;
 
 /// What no command may need for one file, on a machine with other work too.
-const SOON: Duration = Duration::from_secs(5);
+const SOON: Duration = Duration::from_secs(10);
 
 /// As many of these lines as fit.
 fn filled(line: impl Fn(usize) -> String) -> String {

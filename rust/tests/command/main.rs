@@ -11,6 +11,7 @@ mod json;
 mod junk;
 mod keys;
 mod large;
+mod lessons;
 mod named;
 mod objects;
 mod page;

@@ -78,6 +78,7 @@ fn precedence_is_the_librarys() {
         "{}",
         came.out
     );
+    came.ended(0, "never allowed, for the pairs run in a ring: gas, 1");
     let came = command(&["policy", "show", &ring]);
     assert!(
         came.out
