@@ -26,7 +26,12 @@
  * commands and installs the policy.
  *
  * Only checked commands are safe to run. hemdroas_load checks its own. Check any
- * others with hemdroas_check before you run them, and do not change them after.
+ * others with hemdroas_check before you run them.
+ *
+ * What you may change. After loading, keep layout, commands and machine as the
+ * calls left them. In memory, change only free cells. Free are all cells except
+ * the sandbox, the state cell, the policy's table and the 32 landing cells. No
+ * routine can read or write a free cell.
  *
  * Buffers. Each pointer to a buffer comes with the number of its elements, and
  * no call reaches past it. Lengths are 64-bit numbers on every machine. NULL is
@@ -35,7 +40,7 @@
  * a call writes must not overlap any other of its arguments. Two that it only
  * reads may be the same.
  *
- * Memory. No call allocates or keeps a pointer. A call takes at most 1.1 KB of
+ * Memory. No call allocates memory or keeps a pointer. A call takes at most 1.1 KB of
  * stack on x86-64 and 1.2 KB on Cortex-M4. docs/MACHINES.md lists the other
  * machines on which it was measured.
  *
@@ -98,7 +103,7 @@ enum hemdroas_refusal {
     HEMDROAS_BAD_BASE = 13,         /* the base is not a multiple of the number of commands */
     HEMDROAS_BAD_LANDING_LIST = 14, /* the landings are not strictly rising, or one is above 1023 */
     HEMDROAS_TOO_MANY_STATES = 15,  /* the policy would have more than 16 states */
-    HEMDROAS_BAD_DRAWING = 16,      /* no start, not 1 to 16 states, not 16 arrows for each, or a bit for a state that does not exist */
+    HEMDROAS_BAD_DRAWING = 16,      /* no start, not 1 to 16 states, not 16 entries for each, or a bit for a state that does not exist */
     HEMDROAS_BAD_PAIR = 17,         /* an event above 15, an odd number of events, or more than four different ones */
     HEMDROAS_NOT_FORWARD = 18       /* a GOX, or a GOIF that jumps to itself or back */
 };
@@ -107,7 +112,7 @@ enum hemdroas_refusal {
 enum hemdroas_ending {
     HEMDROAS_ENDING_ENDED = 20,        /* the routine finished */
     HEMDROAS_ENDING_NO_ARROW = 21,     /* the policy stopped the routine: the event was not allowed */
-    HEMDROAS_ENDING_FAULT = 22,        /* bad address or bad command; never if the commands passed the check and run as installed */
+    HEMDROAS_ENDING_FAULT = 22,        /* bad address or bad command; checked commands never fault if you change only free cells */
     HEMDROAS_ENDING_LOG_FULL = 23,     /* pause: run again with an empty log */
     HEMDROAS_ENDING_PROBE_SILENT = 24, /* pause: run again with new readings; answered even if the log is full too */
     HEMDROAS_ENDING_SPENT = 25,        /* pause: run again with a new budget */
@@ -171,14 +176,14 @@ static inline const char *hemdroas_ending_text(uint32_t number)
 #define HEMDROAS_NO_CEILINGS \
     {UINT32_MAX, UINT32_MAX, UINT32_MAX, UINT32_MAX, UINT32_MAX, UINT32_MAX, UINT32_MAX, UINT32_MAX}
 
-/* Where things lie in a drum's memory. The letters are those of the rules. A
- * layout is right if all of these hold:
+/* Where things lie in a drum's memory. The letters beside the fields are their
+ * names in docs/. A layout is right if all of these hold:
  * - cells is 1 to 4096, and states is 1 to 16;
  * - low <= high < cells, state_cell < cells, table + 16 * states <= cells and
  *   landings + 32 <= cells;
  * - high - low + 1 is a power of two, and low is a multiple of it;
  * - sandbox, state cell, table and landing cells share no cell.
- * Any other layout is refused as bad layout (7). */
+ * Sums here do not wrap. Any other layout is refused as bad layout (7). */
 struct hemdroas_layout {
     uint32_t cells;                     /* U: memory cells, 1 to 4096 */
     uint32_t low;                       /* SL: first cell of the sandbox */
@@ -187,15 +192,16 @@ struct hemdroas_layout {
     uint32_t table;                     /* P: first cell of the policy's table, 16 cells per state */
     uint32_t states;                    /* S: policy states, 1 to 16 */
     uint32_t base;                      /* B: address of the first command */
-    uint32_t landings;                  /* Q: first of 32 cells with a bit for each landing */
+    uint32_t landings;                  /* Q: first of 32 cells with a bit for each instruction, set if it is a landing */
     /* Order e records r0, but at most ceilings[e]. Do not leave the ceilings out:
      * they would all be 0. If there are none, use HEMDROAS_NO_CEILINGS. */
     uint32_t ceilings[HEMDROAS_ORDERS];
 };
 
-/* A machine runs commands. Between runs this struct holds all of it but memory.
- * If status is above 4, a run does nothing and leaves the struct as it was. It
- * answers bad layout (7) or else fault (22), and three zeros. */
+/* A machine runs commands. Between runs this struct holds its whole state, except
+ * memory. If status is above 4, a run does nothing and leaves the struct as it
+ * was. It answers bad layout (7) if it is refused, else fault (22). Its other
+ * three numbers are 0. */
 struct hemdroas_machine {
     uint32_t r[16];  /* registers; no routine can name r15 */
     uint32_t pc;     /* address of the next command */
@@ -225,7 +231,8 @@ struct hemdroas_policy {
  *   hemdroas_forward, not forward (18);
  * - the number of the bad bundle, for bad bundle (11) and, from
  *   hemdroas_check_forward, not forward (18);
- * - 0 for any other refusal. */
+ * - 0 for any other refusal, and for short weight (1) if even the count of the
+ *   instructions is cut short. */
 struct hemdroas_answer {
     uint32_t number; /* enum hemdroas_refusal */
     uint32_t place;
@@ -294,16 +301,18 @@ void hemdroas_write(const uint64_t *words, uint64_t n, uint8_t *bytes, uint64_t 
 void hemdroas_rewrite(const struct hemdroas_layout *layout, const uint64_t *words, uint64_t n,
                       uint64_t *commands, uint64_t room, struct hemdroas_answer *answer);
 
-/* Checks that n commands cannot leave the sandbox or break the policy when they
- * run under this layout. It does not matter who made the commands. */
+/* Checks that n commands are bundles of the allowed shapes, and that the last
+ * bundle is HALT. Commands that pass cannot leave the sandbox or break the policy
+ * when they run under this layout, whoever made them. Refused as bad layout (7),
+ * then bad count (12), then bad base (13), then bad bundle (11). */
 void hemdroas_check(const struct hemdroas_layout *layout, const uint64_t *commands, uint64_t n,
                     struct hemdroas_answer *answer);
 
 /* Checks that n words are a forward routine, one that always finishes: it has no
- * GOX, and each GOIF goes to a higher instruction. The first instruction that
- * breaks this is refused as not forward (18). Before that come oversize (5) and
- * the refusals of a word: unknown variety (3), foreign matter (2), off grade (4)
- * and bad landing (8).
+ * GOX, and each GOIF goes to a higher instruction. Refused as oversize (5). Then
+ * the first bad word is refused as unknown variety (3), foreign matter (2), off
+ * grade (4) or bad landing (8). If no word is bad, the first instruction that is
+ * not forward is refused as not forward (18).
  *
  * A forward routine that was rewritten into N bundles and installed ends or stops
  * within 4 * (N - 1) + 1 steps, counted over all its runs. For this the host
@@ -312,20 +321,22 @@ void hemdroas_check(const struct hemdroas_layout *layout, const uint64_t *comman
 void hemdroas_forward(const uint64_t *words, uint64_t n, struct hemdroas_answer *answer);
 
 /* Checks n commands as hemdroas_check does, then that they are a forward routine.
- * The first bundle that breaks this is refused as not forward (18). */
+ * If all bundles pass, the first that is not forward is refused as not forward
+ * (18). */
 void hemdroas_check_forward(const struct hemdroas_layout *layout, const uint64_t *commands, uint64_t n,
                             struct hemdroas_answer *answer);
 
-/* Tests four bytes of a policy's table, packed into one word. It returns 1 if
- * states is 1 to 16 and each byte is below states or HEMDROAS_NO_ARROW, else 0.
+/* Tests four bytes of a policy's table, packed into a 32-bit number. It returns 1
+ * if states is 1 to 16 and each byte is below states or HEMDROAS_NO_ARROW, else 0.
  * hemdroas_install applies the same test to the whole table. */
 uint32_t hemdroas_word_right(uint32_t states, uint32_t word);
 
-/* Installs a policy: writes its start state, its table and a bit for each landing
- * to the cells that the layout names. It sets machine to start at the first
- * command. states must equal layout->states, and len must be 16 times that.
- * landings lists the instructions that a GOX may go to, in rising order and each
- * once. The list may be empty. */
+/* Installs a policy: writes its start state, its table and the landing bits to the
+ * cells that the layout names. It changes no other cell. It sets machine to start
+ * at the first command. states must equal layout->states, and len must be 16 times
+ * that. landings lists the instructions that a GOX may go to, in rising order and
+ * each once. The list may be empty. Refused as bad layout (7), then bad policy
+ * (10), then bad landing list (14). */
 void hemdroas_install(const struct hemdroas_layout *layout, uint32_t states, uint32_t start,
                       const uint8_t *table, uint64_t len, const uint32_t *landings, uint64_t count,
                       uint32_t *memory, uint64_t cells,
@@ -344,7 +355,8 @@ void hemdroas_load(const struct hemdroas_layout *layout, uint32_t states, uint32
 /* ---- running */
 
 /* Runs n commands until the routine ends, stops or pauses. It pauses at the latest
- * after budget commands. Each event is written to the log as two numbers, event
+ * after budget commands. A machine that has ended, stopped or faulted answers that
+ * again, with 0 steps. Each event is written to the log as two numbers, event
  * and value, from log[0] on. Readings are used from readings[0] on. r is the
  * length of readings, g that of log.
  *
