@@ -40,8 +40,8 @@
  * a call writes must not overlap any other of its arguments. Two that it only
  * reads may be the same.
  *
- * Memory. No call allocates memory or keeps a pointer. A call takes at most 1.1 KB of
- * stack on x86-64 and 1.2 KB on Cortex-M4. docs/MACHINES.md lists the other
+ * Memory. No call allocates memory or keeps a pointer. A call takes at most 1.1 KB
+ * of stack on x86-64 and 1.2 KB on Cortex-M4. docs/MACHINES.md lists the other
  * machines on which it was measured.
  *
  * Threads. The library has no global state. Calls on different buffers may run

@@ -34,8 +34,8 @@ order v = packOf 12 0 0 0 0 v
 abbrev pub layout : Layout
 layout = layoutOf 64 8 15 0 16 1 16 32 noLimits
 
--- words: none; a jump to n, to itself, back, back from where nothing leads; GOX; and refusals that come before not forward (18), at higher places.
--- Lists: of forward words; a jump to its own bundle; the first of two such; and refusals that come before not forward (18)
+-- words: none; a jump to n, to itself, back, back from where nothing leads; GOX; and refusals that come before not forward (18), whatever the places.
+-- Lists: of forward words; a jump to its own bundle; the first of two bundles that are not forward; and refusals that come before not forward (18)
 pub record Answers : Type 0 where
   pub none : forwardAnswer [] ≡ answer 0 0
   pub end : forwardAnswer (goto 1 ∷ []) ≡ answer 0 0

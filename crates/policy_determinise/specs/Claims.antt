@@ -1,4 +1,4 @@
--- Claims about the policy made from a drawing. Each is a type; its proof, in proofs/, has the same name in small letters.
+-- Claims about the policy made from a drawing. Each is a type; its proof, in proofs/, has the same name in small letters, with hyphens.
 use Prim.Native.Nat.{ℕ}
 use mathlib.Core.Path.{_≡_}
 use mathlib.Core.Bool.{true}

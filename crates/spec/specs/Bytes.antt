@@ -8,7 +8,7 @@ use Rattle.spec.specs.Words.{fieldsRefusal, wordRefusal, firstRefused, f
 abbrev pub bitOf : ℕ → ℕ
 bitOf x = min x 1
 
--- 'a map byte: bit 0 kind, 1 d, 2 a, 3 b, 4 c, 5 v'; 'a field that is 0 is absent'
+-- 'a map byte: bit 0 kind, 1 d, 2 a, 3 b, 4 c, 5 v'; 'A field that is 0 is absent'
 abbrev pub mapOf : Fields → ℕ
 mapOf f = bitOf (f .kind) + 2 * bitOf (f .d) + 4 * bitOf (f .a) + 8 * bitOf (f .b) + 16 * bitOf (f .c) + 32 * bitOf (f .v)
 

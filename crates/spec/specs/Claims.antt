@@ -1,4 +1,4 @@
--- Claims about the definitions. Each is a type; its proof, in proofs/, has the same name in small letters.
+-- Claims about the definitions. Each is a type; its proof, in proofs/, has the same name in small letters, with hyphens.
 use Rattle.spec.specs.Prelude.{ℕ, suc, _+_, _-_, _*_, _/_, _%_, _^_, _<_, _≤_, _≡_, true, false, _⊎_, List, [], _∷_, _++_, length, getD, take, drop, ones, pos, sucℤ, _*ℤ_, _≤ℤ_, _<ℤ_, ltb}
 use Rattle.spec.specs.Types.{Layout, Instr, HALT, EVENT, Machine, Outcome, Status, Running, Ended, Stopped, Faulted, Strayed, Ending, Done, NoArrow, Fault, LogFull, Silent, Spent, NoLanding, Refused, BadLayout}
 use Rattle.types.specs.Names.{events, orders, noArrow, mostInstructions, mostBundles, bundleLength, pairCells, bundleShift, landingCells, cellBits, guestRegisters, numberOf, answer, endingNumber}
@@ -341,7 +341,7 @@ Isolation = (lay : Layout) (pol : Policy) (ws mem : List ℕ) (gs : List RunInpu
 -- ---- the pc
 
 -- 'The pc wraps at 2^32, which a passed routine, on demand 3's premise, never does': pc stays in the list, which ends at or before 2^32,
--- and adding 1 to it does not wrap
+-- and a step that adds 1 to it does not wrap
 pub record PcLaws (lay : Layout) (ws : List ℕ) (c : Session) : Type 0 where
   pub from : lay .base ≤ c .machine .pc
   pub within : c .machine .pc < lay .base + length ws

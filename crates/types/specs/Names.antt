@@ -166,7 +166,7 @@ outputOf a xs out = ifTaken a (xs ++ drop (length xs) out) out
 abbrev pub roomFor : ℕ → ℕ → Answer
 roomFor room k = cond (ltb room k) (refusal SmallOutput 0) (answer (numberOf Taken) k)
 
--- the value beside the first test that holds
+-- the value beside the first test that holds, else d
 abbrev pub first : {A : Type 0} → List (Bool × A) → A → A
 first [] d = d
 first ((b, x) ∷ r) d = cond b x (first r d)

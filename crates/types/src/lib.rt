@@ -248,7 +248,7 @@ pub struct Machine {
 }
 
 impl Machine {
-    // The register that no guest field can name. Bundles use it for masked addresses. It is the last one.
+    // The register that no guest field can name. Bundles use it for masked addresses and for the policy's entry. It is the last one.
     pub const HIDDEN: usize = 15;
 
     pub const REGISTERS: usize = Machine::HIDDEN + 1;

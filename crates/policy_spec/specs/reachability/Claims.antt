@@ -1,4 +1,4 @@
--- Claims about the nodes reached and their policy. They hold for every `next` that has no arrow from 0, and only for events 0 to 15.
+-- Claims about the nodes reached and their policy. They hold for every `next` without arrows from 0 or for events above 15, from every start but 0.
 use Prim.Native.Nat.{ℕ, _+_, _*_, _<_, _≤_}
 use mathlib.Core.Path.{_≡_}
 use mathlib.Core.Bool.{true, false, _&&_, not}
