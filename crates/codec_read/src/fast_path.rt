@@ -1,4 +1,4 @@
-// Decodes an instruction that is valid and has enough bytes after it. For any other it gives no answer, and the full path decides.
+// Decodes a valid instruction if at least ten bytes are left from its map on. For any other it gives no answer, and the full path decides.
 use crate::bytes::quad;
 use crate::bytes::wide;
 use types::Decoded;

@@ -26,7 +26,7 @@ fn forward_at(h: usize, i: Instr) -> bool
     }
 }
 
-// The first instruction that is not forward (18).
+// Refuses the first instruction that is not forward (18).
 fn scan_words(words: &[u64]) -> Answer
     ensures { λ r. ⌜ r ≡ forwardFrom (routine (now (words .entry))) 0 (length (now (words .entry))) ⌝ }
 {

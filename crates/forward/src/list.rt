@@ -31,7 +31,7 @@ fn forward_word(l: Layout, h: usize, w: u64) -> bool
     (h as u64) < (to - base) / LENGTH
 }
 
-// The first bundle that is not forward (18).
+// Refuses the first bundle that is not forward (18).
 fn scan_bundles(l: Layout, commands: &[u64]) -> Answer
     ensures { λ r. ⌜ r ≡ forwardFrom (bundleAt l (now (commands .entry))) 0 (length (now (commands .entry)) / bundleLength) ⌝ }
 {

@@ -21,8 +21,8 @@ pub fn states_right(states: u32) -> bool
     (1 <= states) & (states <= Layout::MOST_STATES)
 }
 
-// Whether each of the four bytes is a state or no arrow (255), all at once. Adding 128 − S to the low seven bits sets the top bit if they are S or more.
-// Adding 1 sets it if they are 127. No sum carries into the next byte.
+// Whether S is from 1 to 16 and each of the four bytes is a state or no arrow (255). All four are tested at once.
+// Adding 128 − S to the low seven bits sets the top bit if they are S or more. Adding 1 sets it if they are 127. No sum carries into the next byte.
 // So the top bits of `over` mark the bytes that are no state, those of `full` the bytes that are 255.
 pub fn word_right(states: u32, w: u32) -> bool
     ensures { λ r. ⌜ r ≡ wordRight states w ⌝ }

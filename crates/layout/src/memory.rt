@@ -4,7 +4,7 @@ use types::PolicyNumbers;
 ghost use mathlib.Core.Path.{_≡_};
 ghost use Rattle.spec.specs.Layouts.{rightLayout, fitsCells, maskOf, widthOf};
 
-// Whether a layout is right. SH < U is tested first, because SH − SL + 1 could wrap otherwise.
+// Whether a layout is right. SL ≤ SH < U is tested first, because SH − SL + 1 could wrap otherwise.
 pub fn layout_right(l: Layout) -> bool
     ensures { λ r. ⌜ r ≡ rightLayout l ⌝ }
 {

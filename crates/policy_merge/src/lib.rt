@@ -1,4 +1,5 @@
-// Request 7, 'Two policies at once': merges two policies. A state is a pair of states s and t, numbered 16 × s + t + 1; 0 means no pair.
+// Request 7, 'Two policies at once': merges two policies. A state is a pair of states s and t.
+// The search stores the pair as 16 × s + t + 1; 0 means no pair.
 use buffers::cells::index_of;
 use installer::table::table_right;
 use policy_spec::reachability::EVENTS;

@@ -10,7 +10,7 @@ ghost use Rattle.spec.specs.Words.{kindOf};
 ghost use Rattle.spec.specs.Commands.{limitsOf, isCommand, commandOf};
 ghost use Rattle.words.specs.fields.Strays.{strayOf};
 
-// The reserved bits of a kind, 0 in each of its commands: fields that the kind lacks, and bits above the bounds of c and v.
+// The reserved bits of a kind, 0 in each of its commands: fields that the kind lacks, bits above the bounds of c and v, and bits 24 to 31.
 fn stray(k: u64) -> u64
     requires { ⌜ k < commandKinds ⌝ }
     ensures { λ r. ⌜ r ≡ strayOf (limitsOf k) ⌝ }

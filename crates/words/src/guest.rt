@@ -14,7 +14,7 @@ ghost use Rattle.types.specs.Names.{topKind};
 ghost use Rattle.spec.specs.Words.{guestLimits, wordRefusal};
 ghost use Rattle.words.specs.fields.Strays.{strayOf};
 
-// The bits that must be 0 in every instruction of a kind: fields that the kind lacks, and bits above the bounds of c and v.
+// The bits that must be 0 in every instruction of a kind: fields that the kind lacks, bits above the bounds of c and v, and bits 24 to 31.
 fn stray_bits(k: u64) -> u64
     requires { ⌜ k ≤ topKind ⌝ }
     ensures { λ r. ⌜ r ≡ strayOf (guestLimits k) ⌝ }

@@ -13,7 +13,7 @@ use Rattle.words.specs.Guests.{onlyGuestRegisters}
 abbrev pub singleWords : ℕ → ℕ → ℕ → ℕ → ℕ → Bool
 singleWords w x y z w′ = eqb w w′ && eqb x 0 && eqb y 0 && eqb z 0
 
--- whether four words are a plain command on guest registers and three NOPs
+-- whether four words are a command on guest registers and three NOPs
 abbrev pub plainWords : ℕ → ℕ → ℕ → ℕ → Bool
 plainWords w x y z = isCommand w && onlyGuestRegisters w && eqb x 0 && eqb y 0 && eqb z 0
 
@@ -24,6 +24,6 @@ bundleIndex l v = (v - l .base) / bundleLength
 abbrev pub isBundleAddress : Layout → ℕ → ℕ → Bool
 isBundleAddress l n v = eqb v (addressOf l (bundleIndex l v)) && ltb (bundleIndex l v) n
 
--- whether four words are a GOIF to one of n bundles and three NOPs
+-- whether four words, the first of kind GOIF, are a jump to one of n bundles and three NOPs
 abbrev pub goifWords : Layout → ℕ → ℕ → ℕ → ℕ → ℕ → Bool
 goifWords l n w x y z = isCommand w && onlyGuestRegisters w && isBundleAddress l n (vOf w) && eqb x 0 && eqb y 0 && eqb z 0
