@@ -234,7 +234,7 @@ room (Event v) s =
     (λ o. cond-ind (Room (s .free) (s .left)) (eqb (s .left) 0) (λ _. tt) (λ e. in-room (s .free) (s .left) (Probe v) (λ f. (f, omega (arith, eqb-false (s .left) 0 e), ltb-false _ _ o))))
 room Invalid s = tt
 
--- a state has at most p pairs and u readings used; the pairs are in a log that is l beyond them, the readings in rd
+-- a state has at most p pairs and u readings used; its log is as long as l and equals l beyond the pairs; the readings are in rd
 pub record Counted (l rd : List ℕ) (p u : ℕ) (s : State) : Type 0 where
   pub log : length (s .log) ≡ length l
   pub pairs : s .pairs ≤ p
@@ -279,7 +279,7 @@ apply-regs caps rd (Probe v) s = length-set (s .regs) 0 (getD rd (s .used) 0)
 apply-regs caps rd (End t) s = refl
 apply-regs caps rd (Wait e) s = refl
 
--- a run has at most n steps, pairs and readings; the pairs are in a log that is l beyond them, the readings in rd
+-- a run has at most n steps, pairs and readings; its log is as long as l and equals l beyond the pairs; the readings are in rd
 pub record Tally (l rd : List ℕ) (n k p u : ℕ) (log′ : List ℕ) : Type 0 where
   pub steps : k ≤ n
   pub pairs : p ≤ n

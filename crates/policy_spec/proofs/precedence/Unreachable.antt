@@ -107,7 +107,7 @@ module _ (ps : List ℕ) (m : ℕ) (fit : ValidPairs ps m) where
       let q : i + suc d ≡ suc (i + d) = omega arith in
       ap (iterate ps) q ∙ turn (i + d) ∙ ap (λ (x : ℕ). advanceOf ps x ((i + d) % events)) (closed-stays s c d i e) ∙ c ((i + d) % events) (omega arith)
 
-  -- k passes over all events set k bits, unless no event changes the state any more
+  -- k passes over all events set at least k bits, unless no event changes the state any more
   rounds : (k : ℕ) → Closed (iterate ps (events * k)) ⊎ (k ≤ size (iterate ps (events * k)))
   rounds zero = inr (omega arith)
   rounds (suc k) =

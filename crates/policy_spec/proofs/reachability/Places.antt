@@ -25,7 +25,7 @@ place-at (y ∷ ns) x h = go (eqb y x) refl h (place-at ns x)
     go true e l f = eqb-true y x e
     go false e l f = f (omega arith)
 
--- an element of a list has an index
+-- an element of a list has an index, at most its position
 pub place-of : (ns : List ℕ) (i : ℕ) → i < length ns → indexOf ns (getD ns i 0) ≤ i
 place-of [] i h = absurd (omega arith)
 place-of (y ∷ ns) zero h = rw (eq-eqb y y refl) (omega arith)

@@ -9,7 +9,7 @@ use Rattle.installer.proofs.table.Tables.{word-more, words-done}
 use Rattle.installer.proofs.table.entries_right.Statement.{statement}
 use Rattle.installer.proofs.table.entries_right.Tie as tie
 
--- invariant: the words so far are right
+-- invariant: `ok` says whether the words so far are right
 abbrev Inv-loop : tie.InvT-loop
 Inv-loop states table words ok₀ i₀ ok i = (ok ≡ entriesRight states (take (wordBytes * i) table)) × (i ≤ words)
 
