@@ -19,7 +19,7 @@ pub const RECORD: usize = Engine::REGISTERS + TRAILER;
 
 pub const ANSWER: usize = 5;
 
-// A record's engine.
+// The engine that a record's numbers mean.
 fn engine_of(xs: [u32; RECORD]) -> Engine
     ensures { λ r. ⌜ r ≡ engineFrom xs ⌝ }
 {
@@ -32,7 +32,7 @@ fn engine_of(xs: [u32; RECORD]) -> Engine
     }
 }
 
-// The record after a run that left this engine.
+// The record's numbers after a run that left this engine. If their status is invalid, they stay as they were.
 fn record_after(m: Engine, mut xs: [u32; RECORD]) -> [u32; RECORD]
     ensures { λ r. ⌜ r ≡ numbersAfter guestRegisters xs (engineTo m) ⌝ }
 {
@@ -78,7 +78,7 @@ pub extern "C" fn hemdroas_engine_run(
     *answer = answer_of(out.answer, out.steps, out.pairs, out.used);
 }
 
-// Goes on with words that were judged before: each is judged as it is reached, and one that is no instruction faults.
+// Runs guest words without testing all of them first. Each is tested when it is reached; one that is no instruction faults.
 #[no_mangle]
 pub extern "C" fn hemdroas_engine_continue(
     layout: &[u32; LAYOUT],

@@ -20,7 +20,7 @@ ghost use lib.ListN.{length};
 ghost use Rattle.spec.specs.Machines.{fits, MatchesResult, runOf};
 ghost use Rattle.capi_spec.specs.Hosts.{hostResult, runFor, hostPreviewed, previewFor};
 
-// A run of a record made of a host's numbers: it stands in a local, which is lent.
+// Runs a machine that is passed by value: it lends a local copy to `sandbox::run`.
 fn lend(
     layout: Layout,
     commands: &[u64],
@@ -41,7 +41,7 @@ fn lend(
     }
 }
 
-// Runs a record; one that is refused comes back as it was.
+// Runs a machine. If the run is refused, the record stays as it was.
 #[no_mangle]
 pub extern "C" fn hemdroas_run(
     layout: &[u32; LAYOUT],
@@ -64,7 +64,7 @@ pub extern "C" fn hemdroas_run(
     store_machine(machine, out.machine);
 }
 
-// Copies a memory that fits into a work of as many cells, and says whether it did; else it leaves the work as it was.
+// Copies memory into `work` if the layout is right and both have its length. Returns whether it did; if not, `work` stays as it was.
 fn copy_memory(layout: Layout, memory: &[u32], work: &mut [u32]) -> bool
     ensures copied { λ r. ⌜ r ≡ (fits layout (now (memory .entry)) && eqb (length (now (work .entry))) (layout .size)) ⌝ }
     ensures work { λ r. ⌜ now (work .exit) ≡ cond r (now (memory .entry)) (now (work .entry)) ⌝ }
@@ -76,7 +76,7 @@ fn copy_memory(layout: Layout, memory: &[u32], work: &mut [u32]) -> bool
     fitting
 }
 
-// Previews a run: the answer, the log, in `after` the record and in `work` the memory that `hemdroas_run` would leave.
+// Previews a run. Answer and log are those of `hemdroas_run`; its record goes to `after`, its memory to `work`.
 #[no_mangle]
 pub extern "C" fn hemdroas_preview(
     layout: &[u32; LAYOUT],

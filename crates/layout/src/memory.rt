@@ -50,7 +50,7 @@ pub fn fits(l: Layout, cells: usize) -> bool
     layout_right(l) & (cells == l.size as usize)
 }
 
-// The address inside the sandbox that e is masked to. Jumps into the code use the same mask.
+// The address from low to high that e is masked to. The same mask serves the sandbox and the code.
 pub fn mask(e: u32, low: u32, high: u32) -> u32
     ensures { λ r. ⌜ r ≡ maskOf low high e ⌝ }
 {

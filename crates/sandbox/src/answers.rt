@@ -13,7 +13,8 @@ ghost use Rattle.types.specs.Names.{mostInstructions};
 ghost use Rattle.sandbox_spec.specs.Loading.{translateAnswer};
 ghost use Rattle.sandbox.specs.answers.Answers.{landingsAnswer};
 
-// What rewriting answers for n instructions that were read: layout, landings, base, room. `past` is the first GOIF past the end, or n.
+// What rewriting answers for n instructions that were read: bad layout (7), bad landing (8), bad base (13), small hopper (9), else success.
+// `past` is the index of the first GOIF that jumps past the end, or n.
 fn landings_answer(layout: Layout, n: usize, past: usize, room: usize) -> Answer
     requires { ⌜ n ≤ mostInstructions ⌝ }
     ensures { λ r. ⌜ r ≡ landingsAnswer layout n past room ⌝ }

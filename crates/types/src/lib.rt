@@ -136,7 +136,7 @@ impl Instr {
     pub const PLAIN_STEP: u64 = Command::SET - Instr::KIND_SET;
 }
 
-// A command of the machine. Plain covers the arithmetic kinds; its fields are kind, d, a, b, v. Invalid is any word that is no command.
+// A command of the machine. Plain covers the kinds SET to SHL; its fields are kind, d, a, b, v. Invalid is any word that is no command.
 pub enum Command {
     Nop,
     Halt,
@@ -240,7 +240,7 @@ impl Status {
     pub const COUNT: u32 = Status::STRAYED + 1;
 }
 
-// The machine's record: all that a run needs to continue, except memory.
+// The machine's record: what is carried from run to run, except memory.
 pub struct Machine {
     pub regs: [u32; Machine::REGISTERS],
     pub pc: u32,
