@@ -1,4 +1,4 @@
--- What each change request altered: the rule before it, and which answers differ since.
+-- What requests 4, 6 and 12 altered: the rule before each, and which answers differ since.
 use Prim.Native.Nat.{ℕ, _+_, _-_, _*_, _/_, _<_, _≤_}
 use mathlib.Core.Path.{_≡_}
 use mathlib.Core.Bool.{Bool, true, false, _&&_, cond}

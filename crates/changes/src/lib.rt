@@ -1,1 +1,1 @@
-// Claims about which earlier answers each change request altered. It has no code.
+// Claims about which earlier answers the change requests 4, 6 and 12 altered. It has no code.

@@ -117,7 +117,7 @@ Finishes =
     (lay : Layout) (pol : Policy) (ws mem : List ℕ) (gs : List RunInput) → checkForwardAnswer lay ws .number ≡ 0 → HostPremise lay pol ws mem gs →
     mostSteps (length ws / bundleLength) ≤ stepsCharged (allRuns lay pol ws mem gs) → Terminated (after lay pol ws mem gs .machine)
 
--- the same by the number of runs, each resumed and with budget at least 1, however small the budgets and however often it pauses
+-- the same by the number of runs, each with a free pair, a reading and budget at least 1, however small the budgets and however often it pauses
 abbrev pub FinishesIn : Type 0
 FinishesIn =
     (lay : Layout) (pol : Policy) (ws mem : List ℕ) (gs : List RunInput) → checkForwardAnswer lay ws .number ≡ 0 → HostPremise lay pol ws mem gs →
