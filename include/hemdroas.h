@@ -2,7 +2,7 @@
  * Hemdroas runs small programs from strangers, called routines, on the
  * controller of a coffee roasting drum. A routine can write only its own part of
  * memory, the sandbox. It can send only the events that a policy allows. A run
- * changes one other cell, which holds the policy's state.
+ * changes one other cell, the state cell, which holds the policy's state.
  *
  * Terms
  *   cell      32 bits of the drum's memory; memory is an array of cells
@@ -29,9 +29,9 @@
  * others with hemdroas_check before you run them.
  *
  * What you may change. After loading, keep layout, commands and machine as the
- * calls left them. In memory, change only free cells. Free are all cells except
- * the sandbox, the state cell, the policy's table and the 32 landing cells. No
- * routine can read or write a free cell.
+ * calls left them. In memory, change only free cells. A cell is free if it is not
+ * the state cell, and not in the sandbox, the policy's table or the 32 landing
+ * cells. No routine can read or write a free cell.
  *
  * Buffers. Each pointer to a buffer comes with the number of its elements, and
  * no call reaches past it. Lengths are 64-bit numbers on every machine. NULL is
@@ -386,7 +386,7 @@ void hemdroas_preview(const struct hemdroas_layout *layout, const uint64_t *comm
  * All words are tested first. The run may be refused as bad layout (7), then as
  * oversize (5). Then the first bad word is refused as unknown variety (3),
  * foreign matter (2), off grade (4) or bad landing (8). An engine whose status is
- * not running (0) stays as it was. */
+ * not running (0) stays as it was, and answers its ending again. */
 void hemdroas_engine_run(const struct hemdroas_layout *layout, const uint64_t *words, uint64_t n,
                          struct hemdroas_engine *engine, uint32_t *memory, uint64_t cells, uint32_t budget,
                          const uint32_t *readings, uint64_t r, uint32_t *log, uint64_t g,
