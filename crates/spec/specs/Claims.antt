@@ -114,7 +114,8 @@ pub record Shaped (lay : Layout) (N : ℕ) (words : List ℕ) : Type 0 where
   pub fields : valid N instr ≡ true
   pub same : bundleOf lay N instr .words ≡ words
 
--- four words are some valid instruction's bundle exactly if they are that of the instruction which `decodeBundle` finds; so it need not be believed
+-- four words are the bundle of some valid instruction exactly if they are the bundle of the one that `decodeBundle` finds.
+-- So `decodeBundle` need not be trusted
 pub record ShapeLaws (lay : Layout) (N w x y z : ℕ) : Type 0 where
   pub shaped : isBundle lay N (decodeBundle lay w y z) w x y z ≡ true → Shaped lay N (w ∷ x ∷ y ∷ z ∷ [])
   pub found : Shaped lay N (w ∷ x ∷ y ∷ z ∷ []) → isBundle lay N (decodeBundle lay w y z) w x y z ≡ true

@@ -34,7 +34,8 @@ pub data InstalledMemory (lay : List ℕ) (pol : Policy) (mem : List ℕ) : List
   installed : number (installFor lay pol mem .answer) ≡ 0 → InstalledMemory lay pol mem (installFor lay pol mem .memory)
   loaded : (bytes out : List ℕ) → number (loadFor lay pol bytes out mem .answer) ≡ 0 → InstalledMemory lay pol mem (loadFor lay pol bytes out mem .memory)
 
--- calls of hemdroas_engine_run with these words, from a record of zeros. Each call gets the record's numbers and the memory that the last call left, except in free cells
+-- calls of hemdroas_engine_run with these words, from a record of zeros.
+-- Each call gets the record's numbers and the memory that the last call left, except in free cells
 abbrev pub CallsPreserved : List ℕ → List ℕ → List ℕ → List RunInput → Type 0
 CallsPreserved lay ws left gs = MemoriesPreserved (layoutFrom lay) ws (sessionOf initialEngine left [] [] 0) gs
 
