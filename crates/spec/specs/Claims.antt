@@ -152,7 +152,7 @@ PassedDecodes =
 
 -- ---- endings
 
--- the machine's status after a run with this ending
+-- the machine's status after a run that was not refused and has this ending
 abbrev pub statusAfter : Ending → Status
 statusAfter Done = Ended
 statusAfter NoArrow = Stopped
