@@ -41,7 +41,7 @@ impl Names {
                 let known = self.0.iter().flatten().map(String::as_str);
                 let near = match self.0.iter().any(Option::is_some) {
                     true => hint(word, known),
-                    false => "; names come from the drum's file".to_string(),
+                    false => "; names come from the drum's file (--drum)".to_string(),
                 };
                 Err(format!("no event is named {}{near}", quoted(word)))
             }
