@@ -4,6 +4,5 @@ pub mod loading;
 pub mod writing;
 
 pub use crate::loading::load;
-pub use machine::run_value;
 pub use machine_lent::run;
 pub use machine_lent::step;

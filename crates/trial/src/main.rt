@@ -62,7 +62,7 @@ fn print_end(ending: u8, steps: u32, state: u32) {
 fn run(layout: Layout, commands: &[u64], start: Machine, memory: &mut [u32; CELLS]) {
     let readings = [1800u32, 1950, 2100];
     let mut log = [0u32; 64];
-    let out = sandbox::run_value(layout, commands, start, memory, 1000, &readings, &mut log);
+    let out = machine::run_value(layout, commands, start, memory, 1000, &readings, &mut log);
     let a = out.answer;
     print_events(&log, a.pairs);
     let e = a.ending;
