@@ -1,4 +1,5 @@
-// What stays in the window while the page scrolls: nothing that gets the focus may come to stand behind it.
+// What stays in the window while the page scrolls: nothing that gets the focus may come to stand behind it, and the routine stays
+// below it.
 import { byId } from "./dom.mjs";
 
 const STAYING = ["controls", "panel-now"];
@@ -13,6 +14,7 @@ function keepClear() {
   }
   const { style } = document.documentElement;
   style.scrollPaddingTop = `${covered.top}px`;
+  style.setProperty("--covered", `${covered.top}px`);
   style.scrollPaddingBottom = `${covered.bottom}px`;
 }
 

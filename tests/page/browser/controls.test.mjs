@@ -58,6 +58,26 @@ test("a line is run to by a click, and one that is not reached says so", async (
   assert.match(await said("#now"), /From here on, line 3 is not reached\./);
 });
 
+test("the present line is in the window at every step, from the page's top and beside the policy, and covers no other panel", async () => {
+  const isSeen = `(() => { const { top, bottom } = document.querySelector(".line.now").getBoundingClientRect();
+    return top >= document.getElementById("controls").getBoundingClientRect().bottom - 1 && bottom <= innerHeight; })()`;
+  for (const size of [{ width: 1280, height: 720 }, { width: 900, height: 720 }]) {
+    await page.close();
+    page = await browser.page(makePage(ROAST), size);
+    for (let i = 0; i < LAST; i++) {
+      await page.key("ArrowRight");
+      assert.equal(await page.run(isSeen), true, `${size.width}, step ${i + 1}`);
+    }
+  }
+  await page.close();
+  page = await browser.page(makePage(ROAST), { width: 1280, height: 720 });
+  await page.key("End");
+  await page.run("document.getElementById('panel-policy').scrollIntoView()");
+  assert.equal(await page.run(isSeen), true);
+  await page.run("document.getElementById('panel-memory').scrollIntoView()");
+  assert.equal(await page.run("document.querySelector('.stays').getBoundingClientRect().bottom <= document.getElementById('panel-memory').getBoundingClientRect().top"), true);
+});
+
 test("a run stops at a breakpoint", async () => {
   await page.click("[data-index='5'] .stop");
   await page.click("#do-play");
