@@ -6,6 +6,7 @@
 
 mod assemble;
 mod drum;
+mod hints;
 mod kinds;
 mod listing;
 mod names;
@@ -18,6 +19,7 @@ mod states;
 
 pub use assemble::{assemble, Routine, Shown, Source};
 pub use drum::{drum, drum_in_part, landings_text, Drum, Landings, NamedCell, Scales, LETTERS};
+pub use hints::hint;
 pub use kinds::{condition_name, Field};
 pub use listing::{command, instruction, listing, Listed};
 pub use names::Names;
@@ -25,4 +27,4 @@ pub use numbers::{number, scaled, scaled_text};
 pub use objections::{backward, objections, Objection};
 pub use policy::{policy, policy_text, Form, PolicyFile, Table};
 pub use refused_bytes::refused_bytes;
-pub use said::{hint, is_unseen, Fault, Parsed, Place, LONGEST_LINE};
+pub use said::{is_unseen, Fault, Parsed, Place, LONGEST_LINE};

@@ -2,8 +2,8 @@
 
 use super::kinds::{Field, Kind, CONDITIONS, EVENT, GOIF, KINDS};
 use super::objections::objections;
-use super::said::{hint, is_name, lines, quoted, Fault, Faults, Parsed, Place, Said};
-use super::{number, Names};
+use super::said::{is_name, lines, quoted, Fault, Faults, Parsed, Place, Said};
+use super::{hint, number, Names};
 use crate::model::words::{word, Fields};
 use crate::names::REGISTERS;
 use crate::Refusal;

@@ -1,7 +1,8 @@
 //! Drum files: a layout, its landings, ceilings and scales, and names of events
 //! and of the drum's own cells.
 
-use super::said::{lines, nearest, quoted, Fault, Faults, Parsed, Place, Said};
+use super::hints::nearest;
+use super::said::{lines, quoted, Fault, Faults, Parsed, Place, Said};
 use super::{number, Names};
 use crate::names::{EVENTS, MOST_BUNDLES, ORDERS, UNLIMITED};
 use crate::{Ceilings, Layout};

@@ -1,7 +1,7 @@
 //! Names of events.
 
-use super::number;
-use super::said::{hint, is_name, quoted};
+use super::said::{is_name, quoted};
+use super::{hint, number};
 use crate::names::EVENTS;
 
 /// Words of the files that cannot name an event.

@@ -130,31 +130,44 @@ impl<'a> Reader<'a> {
             [first, ..] if KEYWORDS.contains(&first) => {
                 Err(words[0].fault(wanted(first).unwrap_or_default()))
             }
-            _ => Err(words[0].fault(self.odd_line(words))),
+            _ => Err(self.odd_line(words)),
         }
     }
 
-    /// What is said of a line that has no line's words.
-    fn odd_line(&mut self, words: &[Said]) -> String {
-        let first = words[0].text;
-        let is_event = first == "others" || self.names.event(first).is_ok();
-        if words.iter().any(|word| word.text.contains("->")) {
-            return "blanks stand around ->, as in 'gas -> shut'".to_string();
+    /// What is wrong with a line that has no line's words.
+    fn odd_line(&mut self, words: &[Said]) -> Fault {
+        let first = words[0];
+        match words.iter().position(|word| word.text == "->") {
+            Some(0) => return first.fault("an event is missing before ->, as in 'gas -> shut'"),
+            Some(_) => {
+                let message = format!("{} is one word too many before ->", quoted(words[1].text));
+                return words[1].fault(message);
+            }
+            None if words.iter().any(|word| word.text.contains("->")) => {
+                return first.fault("blanks stand around ->, as in 'gas -> shut'");
+            }
+            None => (),
         }
-        if is_event {
-            return format!(
+        let is_event = first.text == "others" || self.names.event(first.text).is_ok();
+        first.fault(match is_event {
+            true => format!(
                 "-> or before is missing behind {}, as in 'gas -> shut' or 'gas before door'",
-                quoted(first)
-            );
-        }
-        no_line(first, meant(words, &KEYWORDS), "policy", &mut self.lines)
+                quoted(first.text)
+            ),
+            false => {
+                let meant = meant(words, &KEYWORDS);
+                no_line(first.text, meant, "policy", &mut self.lines)
+            }
+        })
     }
 
     /// Keeps what a wrong line was to name.
     fn lose(&mut self, words: &[Said], faults: &mut Faults) {
-        if meant(words, &KEYWORDS) == Some("state") {
+        // A word alone may be a state's name.
+        let is_alone = words.len() == 1 && !KEYWORDS.contains(&words[0].text);
+        if is_alone || meant(words, &KEYWORDS) == Some("state") {
             self.states.stray();
-            words[1..].iter().for_each(|word| faults.lose(word.text));
+            words.iter().for_each(|word| faults.lose(word.text));
         }
     }
 

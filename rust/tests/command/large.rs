@@ -44,15 +44,7 @@ fn the_largest_files_are_refused_soon() {
         for args in [
             vec!["policy", "show", &path],
             vec!["check", "sample.routine", "--drum", &path],
-            vec![
-                "check",
-                "sample.routine",
-                "--drum=sample.drum",
-                "--policy",
-                &path,
-            ],
             vec!["check", &path, "--drum=sample.drum"],
-            vec!["assemble", &path, "-o", "-"],
         ] {
             let begin = Instant::now();
             command(&args).refused(": error: ");

@@ -205,6 +205,18 @@ fn what_follows_from_an_error_is_not_said() {
             ":3:1: error: state wants one name",
         ),
         (
+            "a\n 0 -> a\n",
+            ":1:1: error: 'a' begins no line of a policy: they are state NAME",
+        ),
+        (
+            "state a\n 1 0 -> a\n",
+            ":2:4: error: '0' is one word too many before ->",
+        ),
+        (
+            "state a\n -> a\n",
+            ":2:2: error: an event is missing before ->",
+        ),
+        (
             "sate a\n 0 -> a\nstart a\n",
             ":1:1: error: 'sate' begins no line of a policy; did you mean 'state'?",
         ),
@@ -261,6 +273,12 @@ fn what_follows_from_an_error_is_not_said() {
 #[test]
 fn what_does_not_follow_is_said_too() {
     let folder = folder("follows-not");
+    let path = file(&folder, "text", ": HALT\nSET r0,\n");
+    counted(
+        &["forward", &path],
+        2,
+        "text:2:8: error: a number is missing",
+    );
     let text = "event 16 gas\nevent 1 2 3\nstate a\n gas -> a\n air -> a\n 0 -> b\nsate c\nceiling dor 5x\n";
     let path = file(&folder, "policy", text);
     counted(

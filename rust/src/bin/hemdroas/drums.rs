@@ -3,7 +3,7 @@
 use super::args::Args;
 use super::files;
 use super::layouts;
-use super::problem::Problem;
+use super::problem::{meaning, Problem};
 use super::report::Report;
 use super::sources::Routine;
 use hemdroas::names::{BUNDLE_LENGTH, EVENTS, MOST_BUNDLES, MOST_CELLS, MOST_STATES, NO_ARROW};
@@ -92,8 +92,11 @@ impl DrumFile {
             Some(Refusal::BadLayout) => self.bad_layout(layout),
             _ => Vec::new(),
         };
-        if refusal.is_some() {
+        if let Some(refusal) = refusal {
             reports.extend(self.bad_landings());
+            if reports.is_empty() {
+                reports.push(Report::refusal(&self.path, refusal, meaning(refusal)));
+            }
         }
         reports.extend(match refusal {
             Some(Refusal::BadLayout) => self.bad_cells(|cell| cell < layout.size),
