@@ -32,7 +32,8 @@ counts l ws mem rd log mem′ log′ budget m o q h =
 
 -- of the layout and the record of a host's numbers
 module _ (xs ms ws mem rd log log′ : List ℕ) (budget : ℕ) (l : Layout) (m : Machine) (o : Outcome) (e : l ≡ layoutFrom xs) (p : m ≡ machineFrom ms) where
-  pub left : (mem′ ms′ ns : List ℕ) → runResultOf o mem′ log′ ≡ runOf l ws m mem budget rd log → ms′ ≡ numbersAfter registers ms (machineTo (o .machine)) → ns ≡ runAnswerTo (o .answer)
+  pub left : (mem′ ms′ ns : List ℕ) → runResultOf o mem′ log′ ≡ runOf l ws m mem budget rd log
+      → ms′ ≡ numbersAfter registers ms (machineTo (o .machine)) → ns ≡ runAnswerTo (o .answer)
       → hostResult ns ms′ mem′ log′ ≡ runFor xs ws ms mem budget rd log
   unfolding runFor
   left mem′ ms′ ns q t u = rw (t, u, ← e, ← p) (ap (λ (r : RunResult). hostAfter registers ms (resultTo r)) q)
