@@ -13,6 +13,7 @@ use Rattle.codec_read.proofs.Reading.{used, scan-more, scan-stop, scan-
 use Rattle.codec_read.proofs.scan.Statement.{statement}
 use Rattle.codec_read.proofs.scan.Tie as tie
 
+-- what is read and what is left make the whole
 abbrev Inv-loop : tie.InvT-loop
 Inv-loop s n words₀ t₀ i₀ past₀ words t i past =
     (i ≤ n) × (scanOf n 0 s ≡ scanOf (n - i) i t)
@@ -22,30 +23,55 @@ Inv-loop s n words₀ t₀ i₀ past₀ words t i past =
 abbrev μ-loop : tie.MeasureT-loop
 μ-loop s n words₀ t₀ i₀ past₀ words t i past = n - i
 
+loop-holds : tie.Need-loop-holds Inv-loop μ-loop
+loop-holds c = (omega arith, rw sub-zero, past-start _ _, rw sub-zero, search needs)
+
+-- what is left of the bytes begins behind those that an instruction took
+sub-t : tie.Need-sub-t Inv-loop μ-loop
+sub-t c = search (used, needs)
+
+part-t-start : tie.Need-part-t-start Inv-loop μ-loop
+part-t-start c = search (used, needs)
+
+loop-again : tie.Need-loop-again Inv-loop μ-loop
+loop-again c = search (scan-more, past-more, fill-more, needs)
+
+-- an instruction is refused
+returns : tie.Need-returns Inv-loop μ-loop
+returns c = search (scan-stop, past-stop, fill-stop, needs)
+
+-- all instructions are read, and no byte is left
+returns-2 : tie.Need-returns-2 Inv-loop μ-loop
+returns-2 c = search (scan-done, past-done, fill-done, needs)
+
+-- bytes are left over
+returns-3 : tie.Need-returns-3 Inv-loop μ-loop
+returns-3 c = search (scan-over, past-done, fill-done, needs)
+
 pub scan-spec : {M : Type 1} → statement M
 scan-spec =
     tie.close
     (tie.spec
     Inv-loop
     μ-loop
-    (λ c. (omega arith, rw sub-zero, past-start _ _, rw sub-zero, search needs))
+    loop-holds
     (λ c κs. search needs)
     (λ c. search needs)
     (λ c κs. search needs)
     (λ c κs. search needs)
-    (λ c. search (used, needs))
-    (λ c. search (used, needs))
+    sub-t
+    part-t-start
     (λ c. search needs)
     (λ c. search needs)
     (λ c. search needs)
-    (λ c. search (scan-more, past-more, fill-more, needs))
+    loop-again
     (λ c. search needs)
     (λ c κs. search needs)
     (λ c. search needs)
-    (λ c. search (scan-stop, past-stop, fill-stop, needs))
+    returns
     (λ c κs. search needs)
     (λ c. search needs)
-    (λ c. search (scan-done, past-done, fill-done, needs))
+    returns-2
     (λ c κs. search needs)
     (λ c. search needs)
-    (λ c. search (scan-over, past-done, fill-done, needs)))
+    returns-3)
