@@ -6,4 +6,3 @@ pub mod fetch;
 pub mod fields;
 pub mod jumps;
 pub mod known_cells;
-pub mod record;
