@@ -17,7 +17,7 @@ ghost use Prim.Native.Nat.{_<_, _^_};
 ghost use lib.ListN.{length, getD, set};
 ghost use Rattle.types.specs.Names.{guestRegisters};
 ghost use Rattle.spec.specs.Machines.{withPair};
-ghost use Rattle.engine_spec.specs.Engines.{entryAddress, entryAt, InRange, applyEffect};
+ghost use Rattle.engine_spec.specs.Engines.{entryAt, InRange, applyEffect};
 ghost use Rattle.machine_step.specs.program_point.Points.{stateAt};
 
 // A register set.
@@ -30,7 +30,7 @@ fn set_register(regs: &mut [u32; Engine::REGISTERS], i: usize, x: u32)
 
 // The state cell moves with event v.
 fn move_state(layout: Layout, v: u32, memory: &mut [u32])
-    requires { ⌜ (layout .cell < length (now memory)) × (entryAddress layout (now memory) v < length (now memory)) ⌝ }
+    requires { ⌜ layout .cell < length (now memory) ⌝ }
     ensures { λ _. ⌜ now (memory .exit) ≡ set (now (memory .entry)) (layout .cell) (entryAt layout (now (memory .entry)) v) ⌝ }
 {
     let x = buffers::cells::peek(memory, crate::events::entry(layout, v, memory));

@@ -1,4 +1,5 @@
 // Decides what the instruction at the index would do; changes nothing.
+use crate::events::Supplies;
 use crate::events::checked_event;
 use crate::fetch::NO_INSTRUCTION;
 use crate::fetch::UNUSED_KIND;
@@ -21,31 +22,27 @@ use words::alu;
 use words::field;
 ghost use mathlib.Core.Path.{_≡_};
 ghost use mathlib.Core.Bool.{true};
-ghost use Prim.Native.Nat.{_+_, _≤_};
+ghost use Prim.Native.Nat.{_+_};
 ghost use lib.ListN.{length};
-ghost use Rattle.types.specs.Names.{mostInstructions};
-ghost use Rattle.spec.specs.Words.{bundlesFor};
 ghost use Rattle.spec.specs.Machines.{viewOf};
-ghost use Rattle.engine_step.specs.fetch.Fetched.{IndexedWords, FetchedFields, fetchedEffect};
+ghost use Rattle.engine_step.specs.fetch.Fetched.{IndexedWords, LastIndex, FetchedFields, fetchedEffect};
 ghost use Rattle.engine_spec.specs.Engines.{Holds};
 ghost use Rattle.engine_spec.specs.Continues.{isInstructionAt, reachedEffect};
 
-// What a fetched word would do, n of them in all. Every number of four bits has its arm, so the match becomes one jump without a test;
+// What a fetched word would do. Every number of four bits has its arm, so the match becomes one jump without a test;
 // and each arm takes only the fields that it uses, so that none is taken before the jump.
 fn instruction_effect(
     layout: Layout,
     w: u64,
-    n: usize,
     top: u32,
     regs: &[u32; Engine::REGISTERS],
     at: u32,
     memory: &[u32],
-    free: usize,
-    left: usize,
+    supplies: Supplies,
 ) -> Effect
-    requires { ⌜ FetchedFields w × (top + 1 ≡ bundlesFor n) × (n ≤ mostInstructions) × Holds layout (length (now memory)) ⌝ }
-    ensures { λ r. ⌜ r ≡ fetchedEffect layout (bundlesFor n) w (viewOf (now (regs .entry)) at (now (memory .entry)) (layout .cell) (layout .table)
-        (layout .base) (layout .landings) free left) ⌝ }
+    requires { ⌜ FetchedFields w × LastIndex top × Holds layout (length (now memory)) ⌝ }
+    ensures { λ r. ⌜ r ≡ fetchedEffect layout (top + 1) w (viewOf (now (regs .entry)) at (now (memory .entry)) (layout .cell) (layout .table)
+        (layout .base) (layout .landings) (supplies .free) (supplies .left)) ⌝ }
 {
     match w % field::FOUR_BITS {
         Instr::KIND_HALT => Effect::End(Status::Ended),
@@ -65,24 +62,23 @@ fn instruction_effect(
             b_value(w, regs),
         ),
         Instr::KIND_GOIF => branch(
-            (w >> field::AT_C) % field::FOUR_BITS,
+            field::c(w),
             a_value(w, regs),
             b_value(w, regs),
             v_field(w),
             at,
         ),
         Instr::KIND_GOX => jump(
-            (w >> field::AT_C) % field::FOUR_BITS,
+            field::c(w),
             a_value(w, regs),
             b_value(w, regs),
             regs[d_field(w)],
             at,
-            n,
             top,
             layout.landings,
             memory,
         ),
-        Instr::KIND_EVENT => checked_event(layout, v_field(w), regs, at, memory, free, left),
+        Instr::KIND_EVENT => checked_event(layout, v_field(w), memory, supplies),
         UNUSED_KIND => Effect::End(Status::Faulted),
         UNUSED_KIND_TOO => Effect::End(Status::Faulted),
         NO_INSTRUCTION => Effect::End(Status::Faulted),
@@ -98,13 +94,12 @@ pub fn next_effect(
     regs: &[u32; Engine::REGISTERS],
     at: u32,
     memory: &[u32],
-    free: usize,
-    left: usize,
+    supplies: Supplies,
 ) -> Effect
     requires { ⌜ IndexedWords (now words) top × (isInstructionAt (now words) at ≡ true) × Holds layout (length (now memory)) ⌝ }
     ensures { λ r. ⌜ r ≡ reachedEffect layout (now (words .entry)) (viewOf (now (regs .entry)) at (now (memory .entry)) (layout .cell)
-        (layout .table) (layout .base) (layout .landings) free left) ⌝ }
+        (layout .table) (layout .base) (layout .landings) (supplies .free) (supplies .left)) ⌝ }
 {
     let w = fetch(words, top, at);
-    instruction_effect(layout, w, words.len(), top, regs, at, memory, free, left)
+    instruction_effect(layout, w, top, regs, at, memory, supplies)
 }

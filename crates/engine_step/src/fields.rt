@@ -1,4 +1,4 @@
-// The fields of a validated word, and the values of the registers that they name.
+// The fields of a fetched word, and the values of the registers that they name.
 use engine_spec::Engine;
 use words::field;
 use words::memory;
@@ -11,27 +11,27 @@ ghost use Rattle.engine_step.specs.fetch.Fetched.{FetchedFields};
 pub fn d_field(w: u64) -> usize
     ensures { λ r. ⌜ r ≡ dOf w ⌝ }
 {
-    ((w >> field::AT_D) % field::FOUR_BITS) as usize
+    field::d(w) as usize
 }
 
 pub fn v_field(w: u64) -> u32
     ensures { λ r. ⌜ r ≡ vOf w ⌝ }
 {
-    (w >> field::AT_V) as u32
+    field::v(w) as u32
 }
 
 pub fn a_value(w: u64, regs: &[u32; Engine::REGISTERS]) -> u32
     requires { ⌜ FetchedFields w ⌝ }
     ensures { λ r. ⌜ r ≡ getD (now (regs .entry)) (aOf w) 0 ⌝ }
 {
-    regs[((w >> field::AT_A) % field::FOUR_BITS) as usize]
+    regs[field::a(w) as usize]
 }
 
 pub fn b_value(w: u64, regs: &[u32; Engine::REGISTERS]) -> u32
     requires { ⌜ FetchedFields w ⌝ }
     ensures { λ r. ⌜ r ≡ getD (now (regs .entry)) (bOf w) 0 ⌝ }
 {
-    regs[((w >> field::AT_B) % field::FOUR_BITS) as usize]
+    regs[field::b(w) as usize]
 }
 
 // The cell of a LOAD or a STORE.

@@ -9,15 +9,15 @@ ghost use mathlib.Core.Path.{_≡_};
 ghost use mathlib.Core.Bool.{cond};
 ghost use Prim.Native.Nat.{_+_, _<_, _≤_};
 ghost use lib.ListN.{length};
-ghost use Rattle.types.specs.Names.{landingCells, mostInstructions, mostBundles};
+ghost use Rattle.types.specs.Names.{landingCells, mostBundles};
 ghost use Rattle.types.specs.declared.Effect.the-variants.{Go};
 ghost use Rattle.spec.specs.Landings.{marked};
-ghost use Rattle.spec.specs.Words.{bundlesFor};
 ghost use Rattle.spec.specs.Commands.{holdsOf};
 ghost use Rattle.spec.specs.Machines.{nextPc};
 ghost use Rattle.engine_spec.specs.Engines.{indirectEffect};
+ghost use Rattle.engine_step.specs.fetch.Fetched.{LastIndex};
 
-// A jump if the condition holds, else on to the next instruction.
+// A GOIF: where its condition holds to its target, else on to the next instruction.
 pub fn branch(c: u64, x: u32, y: u32, to: u32, at: u32) -> Effect
     ensures { λ r. ⌜ r ≡ cond (holdsOf c x y) (Go to) (Go (nextPc at)) ⌝ }
 {
@@ -36,10 +36,10 @@ fn has_landing(j: u32, landings: u32, memory: &[u32]) -> bool
     (bits >> (j % Layout::CELL_BITS)) % 2 == 1
 }
 
-// A GOX that is taken, among the N of n words: N is a power of two, so rd modulo N is the mask of 0 to N − 1. It goes to a landing, or stops.
-fn jump_to_landing(n: usize, top: u32, to: u32, landings: u32, memory: &[u32]) -> Effect
-    requires { ⌜ (top + 1 ≡ bundlesFor n) × (n ≤ mostInstructions) × (landings + landingCells ≤ length (now memory)) ⌝ }
-    ensures { λ r. ⌜ r ≡ indirectEffect (now (memory .entry)) landings (bundlesFor n) to ⌝ }
+// A GOX that is taken: N is a power of two, so rd modulo N is the mask of 0 to N − 1. It goes to a landing, or stops.
+fn jump_to_landing(to: u32, top: u32, landings: u32, memory: &[u32]) -> Effect
+    requires { ⌜ LastIndex top × (landings + landingCells ≤ length (now memory)) ⌝ }
+    ensures { λ r. ⌜ r ≡ indirectEffect (now (memory .entry)) landings (top + 1) to ⌝ }
 {
     let j = mask(to, 0, top);
     if has_landing(j, landings, memory) {
@@ -48,23 +48,22 @@ fn jump_to_landing(n: usize, top: u32, to: u32, landings: u32, memory: &[u32]) -
     Effect::End(Status::Strayed)
 }
 
-// A GOX: only one that is taken asks for its landing.
+// A GOX: only one that is taken asks for its landing. Its register is read before its condition is asked, which is quicker.
 pub fn jump(
     c: u64,
     x: u32,
     y: u32,
     to: u32,
     at: u32,
-    n: usize,
     top: u32,
     landings: u32,
     memory: &[u32],
 ) -> Effect
-    requires { ⌜ (top + 1 ≡ bundlesFor n) × (n ≤ mostInstructions) × (landings + landingCells ≤ length (now memory)) ⌝ }
-    ensures { λ r. ⌜ r ≡ cond (holdsOf c x y) (indirectEffect (now (memory .entry)) landings (bundlesFor n) to) (Go (nextPc at)) ⌝ }
+    requires { ⌜ LastIndex top × (landings + landingCells ≤ length (now memory)) ⌝ }
+    ensures { λ r. ⌜ r ≡ cond (holdsOf c x y) (indirectEffect (now (memory .entry)) landings (top + 1) to) (Go (nextPc at)) ⌝ }
 {
     if alu::holds(c, x, y) {
-        return jump_to_landing(n, top, to, landings, memory);
+        return jump_to_landing(to, top, landings, memory);
     }
     Effect::Go(alu::add(at, 1))
 }

@@ -1,95 +1,130 @@
-use Rattle.words.proofs.Laws.{past}
-use Rattle.engine_step.proofs.effects.Laws.{arm, of-no-kind, in-box}
-use Rattle.engine_spec.specs.Engines.{instrEffect}
-use Rattle.engine_step.specs.fetch.Fetched.{noInstruction}
-use Rattle.types.specs.Names.{guest}
-use Rattle.spec.specs.Commands.{plainOf}
-use native.Mathlib.Omega.{arith}
-use mathlib.Core.Path.{refl}
 use Prim.Native.Nat.{zero-le, _+_}
+use native.Mathlib.Omega.{arith}
 use borrow.Author.Needs.{needs}
+use Rattle.words.proofs.Laws.{past}
+use Rattle.engine_step.specs.fetch.Fetched.{noInstruction}
+use Rattle.engine_step.proofs.effects.Laws.{halts, sets, moves, adds, subtracts, ands, ors, shifts, loads, stores, branches, jumps, events, of-no-kind, in-box}
 use Rattle.engine_step.proofs.effects.instruction_effect.Statement.{statement}
 use Rattle.engine_step.proofs.effects.instruction_effect.Tie as tie
 
+-- ---- what the calls ask for
+in-memory : tie.Need-read-cell-requires
+in-memory c κs = search (in-box, needs)
+
+-- ---- each kind does what its instruction says
+halts-so : tie.Need-returns
+halts-so c = search (halts, needs)
+
+sets-so : tie.Need-returns-2
+sets-so c = search (sets, needs)
+
+moves-so : tie.Need-returns-3
+moves-so c = search (moves, needs)
+
+adds-so : tie.Need-returns-4
+adds-so c = search (adds, needs)
+
+subtracts-so : tie.Need-returns-5
+subtracts-so c = search (subtracts, needs)
+
+ands-so : tie.Need-returns-6
+ands-so c = search (ands, needs)
+
+ors-so : tie.Need-returns-7
+ors-so c = search (ors, needs)
+
+shifts-so : tie.Need-returns-8
+shifts-so c = search (shifts, needs)
+
+loads-so : tie.Need-returns-9
+loads-so c = search (loads, needs)
+
+stores-so : tie.Need-returns-10
+stores-so c = search (stores, needs)
+
+branches-so : tie.Need-returns-11
+branches-so c = search (branches, needs)
+
+jumps-so : tie.Need-returns-12
+jumps-so c = search (jumps, needs)
+
+events-so : tie.Need-returns-13
+events-so c = search (events, needs)
+
+-- ---- a number of four bits that is no kind faults
+faults-13 : tie.Need-returns-14
+faults-13 c = of-no-kind _ _ _ _ (c .before .before .pre .0) (omega (arith, c .match .keys14))
+
+faults-14 : tie.Need-returns-15
+faults-14 c = of-no-kind _ _ _ _ (c .before .before .pre .0) (omega (arith, c .match .keys15))
+
+faults-15 : tie.Need-returns-16
+faults-15 c = of-no-kind _ _ _ _ (c .before .before .pre .0) (omega (arith, c .match .keys16))
+
+faults-past : tie.Need-returns-17
+faults-past c = of-no-kind _ _ _ _ (c .before .before .pre .0) (omega (arith, past Unit _ 0 (noInstruction + 1) zero-le (c .match .rest)))
+
 pub instruction-effect-spec : {M : Type 1} → statement M
-unfolding instrEffect plainOf
 instruction-effect-spec =
     tie.close
     (tie.spec
     (λ c κs. search needs)
     (λ c κs. search needs)
     (λ c κs. search needs)
-    (λ c κs. search (in-box, needs))
-    (λ c κs. search needs)
-    (λ c κs. search (in-box, needs))
-    (λ c κs. search (in-box, needs))
-    (λ c κs. search needs)
-    (λ c κs. search needs)
-    (λ c κs. search (in-box, needs))
-    (λ c κs. search (in-box, needs))
-    (λ c κs. search needs)
-    (λ c κs. search needs)
-    (λ c κs. search (in-box, needs))
-    (λ c κs. search (in-box, needs))
-    (λ c κs. search needs)
-    (λ c κs. search needs)
-    (λ c κs. search (in-box, needs))
-    (λ c κs. search (in-box, needs))
-    (λ c κs. search needs)
-    (λ c κs. search needs)
-    (λ c κs. search (in-box, needs))
     (λ c κs. search needs)
     (λ c κs. search needs)
     (λ c κs. search needs)
-    (λ c κs. search (in-box, needs))
-    (λ c κs. search (in-box, needs))
-    (λ c κs. search (in-box, needs))
-    (λ c κs. search (in-box, needs))
-    (λ c κs. search (in-box, needs))
-    (λ c κs. search (in-box, needs))
     (λ c κs. search needs)
     (λ c κs. search needs)
-    (λ c κs. search (in-box, needs))
-    (λ c κs. search (in-box, needs))
+    (λ c κs. search needs)
+    (λ c κs. search needs)
+    (λ c κs. search needs)
+    (λ c κs. search needs)
+    (λ c κs. search needs)
+    (λ c κs. search needs)
+    (λ c κs. search needs)
+    (λ c κs. search needs)
+    (λ c κs. search needs)
+    (λ c κs. search needs)
+    (λ c κs. search needs)
+    (λ c κs. search needs)
+    (λ c κs. search needs)
+    (λ c κs. search needs)
+    (λ c κs. search needs)
+    (λ c κs. search needs)
+    (λ c κs. search needs)
+    (λ c κs. search needs)
+    in-memory
+    (λ c κs. search needs)
+    (λ c κs. search needs)
+    (λ c κs. search needs)
+    (λ c κs. search needs)
+    (λ c κs. search needs)
+    (λ c κs. search needs)
+    (λ c κs. search needs)
+    (λ c κs. search needs)
+    (λ c κs. search needs)
+    (λ c κs. search needs)
     (λ c κs. search needs)
     (λ c. search needs)
     (λ c. search needs)
-    (λ c κs. search (in-box, needs))
     (λ c κs. search needs)
-    (λ c κs. search (in-box, needs))
-    (λ c. arm _ _ _ (guest .halt) _ _ (c .before .before .pre .0) (c .match .keys1) (omega arith) refl)
-    (λ c. arm _ _ _ (guest .set) _ _ (c .before .before .before .before .pre .0) (c .before .before .match .keys2) (omega arith) (rw (c .v-field .ensures, c .before .d-field .ensures)))
-    (λ c. arm _ _ _ (guest .move) _ _ (c .before .before .before .before .pre .0) (c .before .before .match .keys3) (omega arith) (rw (c .a-value .ensures, c .before .d-field2 .ensures)))
-    (λ c. arm _ _ _ (guest .add) _ _ (c .before .before .before .before .before .before .pre .0) (c .before .before .before .before .match .keys4)
-    (omega arith) (rw (c .add .ensures, c .before .b-value .ensures, c .before .before .a-value2 .ensures, c .before .before .before .d-field3 .ensures)))
-    (λ c. arm _ _ _ (guest .sub) _ _ (c .before .before .before .before .before .before .pre .0) (c .before .before .before .before .match .keys5)
-    (omega arith) (rw (c .sub .ensures, c .before .b-value2 .ensures, c .before .before .a-value3 .ensures, c .before .before .before .d-field4 .ensures)))
-    (λ c. arm _ _ _ (guest .and) _ _ (c .before .before .before .before .before .before .pre .0) (c .before .before .before .before .match .keys6)
-    (omega arith) (rw (c .and .ensures, c .before .b-value3 .ensures, c .before .before .a-value4 .ensures, c .before .before .before .d-field5 .ensures)))
-    (λ c. arm _ _ _ (guest .or) _ _ (c .before .before .before .before .before .before .pre .0) (c .before .before .before .before .match .keys7) (omega arith)
-    (rw (c .or .ensures, c .before .b-value4 .ensures, c .before .before .a-value5 .ensures, c .before .before .before .d-field6 .ensures)))
-    (λ c. arm _ _ _ (guest .sar) _ _ (c .before .before .before .before .before .before .pre .0) (c .before .before .before .before .match .keys8)
-    (omega arith) (rw (c .sar .ensures, c .before .v-field2 .ensures, c .before .before .a-value6 .ensures, c .before .before .before .d-field7 .ensures)))
-    (λ c. arm _ _ _ (guest .load) _ _ (c .before .before .before .before .before .pre .0) (c .before .before .before .match .keys9) (omega arith)
-    (rw (c .read-cell .ensures, c .before .address .ensures, c .before .before .d-field8 .ensures)))
-    (λ c. arm _ _ _ (guest .store) _ _ (c .before .before .before .before .pre .0) (c .before .before .match .keys10) (omega arith) (rw (c .b-value5 .ensures, c .before .address2 .ensures)))
-    (λ c. arm _ _ _ (guest .goif) _ _ (c .before .before .before .before .before .before .pre .0) (c .before .before .before .before .match .keys11)
-    (omega arith) (rw (
-      c .branch .ensures,
-      c .before .v-field3 .ensures,
-      c .before .before .b-value6 .ensures,
-      c .before .before .before .a-value7 .ensures,
-    )))
-    (λ c. arm _ _ _ (guest .gox) _ _ (c .before .before .before .before .before .before .before .pre .0)
-    (c .before .before .before .before .before .match .keys12) (omega arith)
-    (rw (
-      c .jump .ensures,
-      c .before .before .d-field9 .ensures,
-      c .before .before .before .b-value7 .ensures,
-      c .before .before .before .before .a-value8 .ensures,
-    )))
-    (λ c. arm _ _ _ (guest .event) _ _ (c .before .before .before .before .pre .0) (c .before .before .match .keys13) (omega arith) (rw (c .checked-event .ensures, c .before .v-field4 .ensures)))
-    (λ c. of-no-kind _ _ _ _ (c .before .before .pre .0) (omega (arith, c .match .keys14)))
-    (λ c. of-no-kind _ _ _ _ (c .before .before .pre .0) (omega (arith, c .match .keys15)))
-    (λ c. of-no-kind _ _ _ _ (c .before .before .pre .0) (omega (arith, c .match .keys16)))
-    (λ c. of-no-kind _ _ _ _ (c .before .before .pre .0) (omega (arith, past Unit _ 0 (noInstruction + 1) zero-le (c .match .rest)))))
+    (λ c κs. search needs)
+    (λ c κs. search needs)
+    halts-so
+    sets-so
+    moves-so
+    adds-so
+    subtracts-so
+    ands-so
+    ors-so
+    shifts-so
+    loads-so
+    stores-so
+    branches-so
+    jumps-so
+    events-so
+    faults-13
+    faults-14
+    faults-15
+    faults-past)

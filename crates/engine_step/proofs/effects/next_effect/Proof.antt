@@ -1,5 +1,5 @@
 use borrow.Author.Needs.{needs}
-use Rattle.engine_step.proofs.fetch.Fetching.{fetched-fields, fetched-acts}
+use Rattle.engine_step.proofs.fetch.Fetching.{last-index, fetched-fields, fetched-acts}
 use Rattle.engine_step.proofs.effects.next_effect.Statement.{statement}
 use Rattle.engine_step.proofs.effects.next_effect.Tie as tie
 
@@ -8,5 +8,5 @@ next-effect-spec =
     tie.close
     (tie.spec
     (λ c κs. search needs)
-    (λ c κs. search (fetched-fields, needs))
+    (λ c κs. search (fetched-fields, last-index, needs))
     (λ c. search (fetched-acts, needs)))
