@@ -18,7 +18,7 @@ ghost use lib.ListN.{length, getD, set};
 ghost use Rattle.types.specs.Names.{guestRegisters};
 ghost use Rattle.spec.specs.Machines.{withPair};
 ghost use Rattle.engine_spec.specs.Engines.{entryAt, InRange, applyEffect};
-ghost use Rattle.machine_step.specs.program_point.Points.{stateAt};
+ghost use Rattle.machine_step.specs.program_point.ProgramPoints.{stateAt};
 
 // A register set.
 fn set_register(regs: &mut [u32; Engine::REGISTERS], i: usize, x: u32)

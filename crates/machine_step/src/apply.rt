@@ -13,7 +13,7 @@ ghost use Prim.Native.Nat.{_<_, _^_};
 ghost use lib.ListN.{length, getD, set};
 ghost use Rattle.types.specs.Names.{registers};
 ghost use Rattle.spec.specs.Machines.{applyOf, withPair};
-ghost use Rattle.machine_step.specs.program_point.Points.{stateAt};
+ghost use Rattle.machine_step.specs.program_point.ProgramPoints.{stateAt};
 
 // ---- what an effect writes
 

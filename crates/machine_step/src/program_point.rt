@@ -5,7 +5,7 @@ ghost use mathlib.Core.Path.{_≡_};
 ghost use Prim.Native.Nat.{_+_, _<_, _^_};
 ghost use lib.ListN.{getD};
 ghost use Rattle.spec.specs.Machines.{nextPc as nextPcOf, withPair};
-ghost use Rattle.machine_step.specs.program_point.Points.{pointOf};
+ghost use Rattle.machine_step.specs.program_point.ProgramPoints.{pointOf};
 
 // The commands of a bundle: its steps, and the distance from its address to the next one's.
 pub const BUNDLE_LENGTH: u32 = Bundle::LENGTH as u32;

@@ -1,4 +1,4 @@
-// Writes the commands of a routine that was validated, directly from its bytes.
+// Writes the commands of a validated routine in place: its words first, then their bundles over them, the last first.
 use codec_read::count;
 use codec_read::scan;
 use rewriter::expand;

@@ -62,8 +62,8 @@ pub fn run_record(
     run_answer(four)
 }
 
-/// What [`run`] would answer and write to the log, and the machine that it would
-/// leave. Machine and memory do not change.
+/// What [`run`] would answer and write to the log, and the machine and the memory
+/// that it would leave. The given machine and memory do not change.
 pub fn preview(
     layout: &Layout,
     commands: &[u64],
@@ -72,14 +72,14 @@ pub fn preview(
     budget: u32,
     readings: &[u32],
     log: &mut [u32],
-) -> (RunAnswer, Machine) {
+) -> (RunAnswer, Machine, Vec<u32>) {
     let record = machine.to_record();
     let mut after = record;
     let mut work = vec![0; memory.len()];
     let answer = preview_record(
         layout, commands, &record, memory, &mut work, budget, readings, log, &mut after,
     );
-    (answer, after.to_machine())
+    (answer, after.to_machine(), work)
 }
 
 /// [`preview`] with records of the C interface. It leaves in `after` what

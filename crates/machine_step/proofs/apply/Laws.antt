@@ -10,7 +10,7 @@ use Rattle.types.specs.declared.Effect.the-variants.{Go, SetReg, SetCell, Order
 use Rattle.spec.specs.Layouts.{limited}
 use Rattle.spec.specs.Machines.{nextPc, applyOf, withPair}
 use Rattle.machine_step.specs.declared.program_point.Point.{Point}
-use Rattle.machine_step.specs.program_point.Points.{pointOf, stateAt}
+use Rattle.machine_step.specs.program_point.ProgramPoints.{pointOf, stateAt}
 
 module _ (caps rd regs mem log : List ℕ) (at r : Point) (e : Effect) where
   pub goes : (to : ℕ) → e ≡ Go to → r ≡ pointOf to (at .status) (at .pairs) (at .used) → stateAt regs r mem log ≡ applyOf caps rd e (stateAt regs at mem log)
