@@ -1,4 +1,4 @@
--- What each C function answers and leaves, as numbers.
+-- What checking, installing, loading, running and previewing answer and leave, as a C host's numbers.
 use Prim.Native.Nat.{ℕ}
 use mathlib.Core.List.{List}
 use lib.ListN.{length}

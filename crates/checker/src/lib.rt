@@ -31,7 +31,7 @@ fn passes(l: Layout, n: usize, commands: &[u64], h: usize) -> bool
         commands[at],
         commands[at + 1],
         commands[at + 2],
-        commands[at + 3],
+        commands[at + Bundle::TAIL],
         h + 1 < n,
     )
 }

@@ -40,7 +40,7 @@ fn write_words(commands: &mut [u64], at: usize, w: u64, x: u64, y: u64, z: u64)
     commands[at] = w;
     commands[at + 1] = x;
     commands[at + 2] = y;
-    commands[at + 3] = z;
+    commands[at + Bundle::TAIL] = z;
 }
 
 // Writes the bundle of instruction i as bundle h of n.
@@ -56,7 +56,7 @@ fn write_bundle(layout: Layout, n: usize, i: Instr, h: usize, commands: &mut [u6
         four[0],
         four[1],
         four[2],
-        four[3],
+        four[Bundle::TAIL],
     );
 }
 
