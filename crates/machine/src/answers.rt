@@ -1,4 +1,4 @@
-// The outcome of a run: the record that it leaves, its ending and its counts.
+// Builds the outcome of a run: the record that it leaves, its ending and its counts.
 use machine_step::program_point::Point;
 use types::Ending;
 use types::Machine;
@@ -8,7 +8,7 @@ ghost use mathlib.Core.Path.{_≡_};
 ghost use Rattle.spec.specs.Machines.{endingOf};
 ghost use Rattle.types.specs.Records.{machineOf, outcomeOf};
 
-// A run that ends or pauses at a point.
+// The outcome of a run that ends or pauses at point `at`.
 pub fn finish(regs: [u32; Machine::REGISTERS], at: Point, ending: Ending, steps: u32) -> Outcome
     ensures { λ r. ⌜ r ≡ outcomeOf (machineOf regs (at .pc) (at .status)) ending steps (at .pairs) (at .used) ⌝ }
 {
@@ -24,7 +24,7 @@ pub fn finish(regs: [u32; Machine::REGISTERS], at: Point, ending: Ending, steps:
     }
 }
 
-// A run that no pause ended.
+// The outcome of a run that did not pause. Its status decides the ending.
 pub fn finish_unpaused(regs: [u32; Machine::REGISTERS], at: Point, steps: u32) -> Outcome
     ensures { λ r. ⌜ r ≡ outcomeOf (machineOf regs (at .pc) (at .status)) (endingOf (at .status)) steps (at .pairs) (at .used) ⌝ }
 {

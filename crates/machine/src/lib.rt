@@ -1,4 +1,4 @@
-// A run and a step of the machine, with the record by value.
+// Runs the machine, or takes one step. The record goes in and out by value; `machine_lent` has the same by `&mut`.
 pub mod answers;
 pub mod run_loop;
 pub mod tiers;
@@ -9,7 +9,7 @@ use types::Outcome;
 use words::memory::fits;
 ghost use Rattle.spec.specs.Machines.{MatchesResult, runOf};
 
-// A run, the record by value.
+// Runs at most `budget` commands. Refused as bad layout (7) if the layout is not right or memory has another length.
 pub fn run_value(
     layout: Layout,
     commands: &[u64],
@@ -28,7 +28,7 @@ pub fn run_value(
     crate::run_loop::run_on(layout, commands, machine, memory, budget, readings, log)
 }
 
-// One step, a run of budget 1.
+// Takes one step: a run of budget 1.
 pub fn step_value(
     layout: Layout,
     commands: &[u64],

@@ -1,12 +1,12 @@
-// `run` and `step` take the machine's record by `&mut`: they call a covered function by value and store registers, pc and status back.
-// Their proofs follow the compiled code by hand, so they have a crate of their own.
+// Runs a machine whose record is lent by `&mut`. Each function calls the one by value, then stores the new record back.
+// The proofs follow the compiled code by hand, which is long, so this crate holds nothing else.
 use types::Layout;
 use types::Machine;
 use types::RunAnswer;
 ghost use Rattle.spec.specs.Machines.{MatchesResult, runOf};
 ghost use Rattle.machine_lent.specs.Outcomes.{asOutcome};
 
-// Runs a lent record.
+// Runs a machine and stores its new record.
 pub fn run(
     layout: Layout,
     commands: &[u64],
@@ -24,7 +24,7 @@ pub fn run(
     out.answer
 }
 
-// Takes one step of a lent record: a run of budget 1.
+// Takes one step and stores the new record: a run of budget 1.
 pub fn step(
     layout: Layout,
     commands: &[u64],

@@ -15,9 +15,9 @@ ghost use Rattle.types.specs.Names.{registers};
 ghost use Rattle.spec.specs.Machines.{applyOf, withPair};
 ghost use Rattle.machine_step.specs.program_point.ProgramPoints.{stateAt};
 
-// ---- what an effect writes
+// ---- registers
 
-// A register set; nothing where there is none of that number.
+// Sets register i to x. Does nothing if there is no such register.
 fn set_register(regs: &mut [u32; Machine::REGISTERS], i: usize, x: u32)
     requires { ⌜ length (now regs) ≡ registers ⌝ }
     ensures { λ _. ⌜ now (regs .exit) ≡ set (now (regs .entry)) i x ⌝ }
@@ -27,9 +27,9 @@ fn set_register(regs: &mut [u32; Machine::REGISTERS], i: usize, x: u32)
     }
 }
 
-// ---- an effect
+// ---- effects
 
-// A reading into register 0 and the log.
+// Takes the next reading into r0, and records it as event v.
 pub fn probe(
     v: u32,
     regs: &mut [u32; Machine::REGISTERS],
@@ -45,7 +45,7 @@ pub fn probe(
     set_register(regs, 0, x);
 }
 
-// The state after an effect.
+// Applies an effect, and returns the point after it.
 pub fn apply(
     ceilings: &[u32],
     e: Effect,

@@ -1,4 +1,4 @@
-// Decides what the word at pc would do; changes nothing.
+// Decides the effect of the word at pc. It changes nothing.
 use crate::events::event;
 use crate::events::look;
 use crate::landings::jump;
@@ -23,7 +23,7 @@ ghost use Rattle.machine_step.specs.effects.CommandFields.{FieldsInRange
 ghost use Rattle.spec.specs.Machines.{nextPc, effectOf};
 ghost use Rattle.machine_step.specs.view.Views.{viewWith, effectAt};
 
-// The next pc is formed only in the arms that need it, which keeps a register free across the match.
+// The effect of GOIF. It computes the next pc itself: if the caller did, a register would be held across the match.
 fn branch_target(holds: bool, to: u32, pc: u32) -> Effect
     ensures { λ r. ⌜ r ≡ Go (cond holds to (nextPc pc)) ⌝ }
 {
@@ -62,7 +62,7 @@ fn stop_if(x: u32, pc: u32) -> Effect
     Effect::Go(alu::add(pc, 1))
 }
 
-// A register's number.
+// The value of register i.
 fn reg(regs: &[u32; Machine::REGISTERS], i: u64) -> u32
     requires { ⌜ i < registers ⌝ }
     ensures { λ r. ⌜ r ≡ getD (now (regs .entry)) i 0 ⌝ }
@@ -70,7 +70,7 @@ fn reg(regs: &[u32; Machine::REGISTERS], i: u64) -> u32
     regs[i as usize]
 }
 
-// What a plain command puts.
+// The value that a plain command puts into its register.
 fn value(k: u64, x: u32, y: u32, v: u32) -> u32
     ensures { λ r. ⌜ r ≡ plainOf k x y v ⌝ }
 {
@@ -89,7 +89,7 @@ fn value(k: u64, x: u32, y: u32, v: u32) -> u32
     }
 }
 
-// What a command would do.
+// The effect of a command.
 fn command_effect(
     c: Command,
     view: ViewNumbers,
@@ -126,7 +126,7 @@ fn command_effect(
     }
 }
 
-// What a word would do: it goes through the decoder.
+// The effect of a word: decodes it first.
 fn word_effect(
     w: u64,
     view: ViewNumbers,
@@ -139,7 +139,7 @@ fn word_effect(
     command_effect(c, view, regs, memory)
 }
 
-// What the word at pc would do; the list stands at the base. A pc below it is far past the list's end.
+// The effect of the word at pc, at index pc − B of the list. A pc below B wraps to an index past the list, so it faults too.
 pub fn next_effect(
     commands: &[u64],
     view: ViewNumbers,

@@ -1,4 +1,4 @@
-// The ending of a run from its status, and an ending's number; the engine's too.
+// The ending that belongs to a status, and the number of an ending. The engine uses both.
 use types::Ending;
 use types::Refusal;
 use types::Status;
@@ -6,7 +6,7 @@ ghost use mathlib.Core.Path.{_≡_};
 ghost use Rattle.types.specs.Names.{endingNumber};
 ghost use Rattle.spec.specs.Machines.{endingOf};
 
-// What a run answers that ends with this status and no pause.
+// The ending of a run that did not pause, by its status.
 pub fn ending_of(status: Status) -> Ending
     ensures { λ r. ⌜ r ≡ endingOf status ⌝ }
 {
@@ -19,7 +19,7 @@ pub fn ending_of(status: Status) -> Ending
     }
 }
 
-// Document 01's number of an ending.
+// The number of an ending, from the paper's table. A refused run has that of bad layout (7).
 pub fn ending_number(ending: Ending) -> u8
     ensures { λ r. ⌜ r ≡ endingNumber ending ⌝ }
 {

@@ -1,4 +1,4 @@
-// Decides what an event would do: the policy's arrow, room in the log, and for a probe a reading.
+// Decides LOOK and EVENT: the policy's entry for an event, and the pauses before it.
 use crate::installed::entry_address;
 use types::Effect;
 use types::Ending;
@@ -9,7 +9,7 @@ ghost use mathlib.Core.Path.{_≡_};
 ghost use Rattle.spec.specs.Machines.{eventEffect, ifRoom};
 ghost use Rattle.machine_step.specs.view.Views.{lookEffect};
 
-// The policy's entry for event v in the present state; the address is summed without wrap.
+// The effect of LOOK: the policy's entry for event v in the present state goes to register d. Its address is summed without wrap.
 pub fn look(d: usize, cell: u32, table: u32, v: u32, memory: &[u32]) -> Effect
     ensures { λ r. ⌜ r ≡ lookEffect d cell table v (now (memory .entry)) ⌝ }
 {
@@ -23,7 +23,7 @@ pub fn look(d: usize, cell: u32, table: u32, v: u32, memory: &[u32]) -> Effect
     Effect::End(Status::Faulted)
 }
 
-// An event's effect, or the pause before it for want of two free log cells.
+// Effect e, or a pause for log full (23) if fewer than two log cells are free.
 fn unless_log_full(free: usize, e: Effect) -> Effect
     ensures { λ r. ⌜ r ≡ ifRoom free e ⌝ }
 {
@@ -33,7 +33,7 @@ fn unless_log_full(free: usize, e: Effect) -> Effect
     e
 }
 
-// An event, or the pause before it: a silent probe comes before a full log.
+// The effect of EVENT: an order or a reading, or the pause before it. Probe silent (24) is tested before log full (23).
 pub fn event(v: u32, free: usize, left: usize) -> Effect
     ensures { λ r. ⌜ r ≡ eventEffect v free left ⌝ }
 {

@@ -1,4 +1,4 @@
-// Decides whether a jump through a register goes to a listed landing.
+// Decides GOXR, the jump through a register: it goes only to a landing.
 use crate::installed::has_landing;
 use crate::program_point::BUNDLE_LENGTH;
 use crate::view::ViewNumbers;
@@ -12,7 +12,7 @@ ghost use Rattle.types.specs.declared.Effect.the-variants.{Go};
 ghost use Rattle.spec.specs.Machines.{nextPc, isLanding};
 ghost use Rattle.machine_step.specs.view.Views.{landingEffect};
 
-// Whether an address is B + 4j and bit j of the landing cells stands.
+// Whether an address is B + 4j for a bundle j whose bit is set in the landing cells.
 pub fn is_landing(to: u32, base: u32, landings: u32, memory: &[u32]) -> bool
     ensures { λ r. ⌜ r ≡ isLanding (now (memory .entry)) base landings to ⌝ }
 {
@@ -30,7 +30,7 @@ pub fn is_landing(to: u32, base: u32, landings: u32, memory: &[u32]) -> bool
     has_landing(landings, j, memory)
 }
 
-// A jump through a register if its condition holds: only to a landing.
+// The effect of GOXR: a jump to `to` if the condition holds. A taken jump to no landing stops the machine as strayed.
 pub fn jump(holds: bool, to: u32, view: ViewNumbers, memory: &[u32]) -> Effect
     ensures { λ r. ⌜ r ≡ cond holds (landingEffect view (now (memory .entry)) to) (Go (nextPc (view .pc))) ⌝ }
 {

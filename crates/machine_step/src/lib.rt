@@ -1,4 +1,4 @@
-// One step of the machine: the effect of the word at pc, the state after it, and how a run ends.
+// One step of the machine: decides the effect of the word at pc and applies it. Also tells how a run ends.
 pub mod apply;
 pub mod effects;
 pub mod endings;

@@ -1,4 +1,4 @@
-// The program point of a run: pc, status, and the counts of pairs and readings; the engine's too, with its index for pc.
+// The program point of a run: pc, status, and how many pairs and readings it has so far. The engine uses it too, with its index as pc.
 use types::Bundle;
 use types::Status;
 ghost use mathlib.Core.Path.{_≡_};
@@ -7,10 +7,10 @@ ghost use lib.ListN.{getD};
 ghost use Rattle.spec.specs.Machines.{nextPc as nextPcOf, withPair};
 ghost use Rattle.machine_step.specs.program_point.ProgramPoints.{pointOf};
 
-// The commands of a bundle: its steps, and the distance from its address to the next one's.
+// How many commands a bundle has. It takes as many steps, and the next bundle is as many addresses away.
 pub const BUNDLE_LENGTH: u32 = Bundle::LENGTH as u32;
 
-// A run's state beside registers, memory and log; of the engine, pc is the instruction's index.
+// A run's state except registers, memory and log. In the engine, pc is the index of the next instruction.
 pub struct Point {
     pub pc: u32,
     pub status: Status,
@@ -59,7 +59,7 @@ pub fn probed(mut at: Point) -> Point
     ordered(at)
 }
 
-// The next reading, with its pair in the log.
+// Takes the next reading, and records it in the log as event v.
 pub fn read(v: u32, at: Point, readings: &[u32], log: &mut [u32]) -> u32
     requires { ⌜ at .pairs < 2 ^ 62 ⌝ }
     ensures { λ r. ⌜ (r ≡ getD (now (readings .entry)) (at .used) 0)

@@ -1,4 +1,4 @@
-// What a command sees beside registers and memory.
+// What a command can see, except registers and memory.
 use crate::program_point::Point;
 use types::Layout;
 use types::RunAnswer;
@@ -7,7 +7,7 @@ ghost use Prim.Native.Nat.{_*_, _≤_};
 ghost use Rattle.types.specs.Names.{pairCells};
 ghost use Rattle.machine_step.specs.view.Views.{numbersAt};
 
-// pc, the addresses M, P, B and Q, the free cells of the log and the readings left.
+// pc; the addresses M, P, B and Q; how many log cells are free, and how many readings are left.
 pub struct ViewNumbers {
     pub pc: u32,
     pub cell: u32,
@@ -18,7 +18,7 @@ pub struct ViewNumbers {
     pub left: usize,
 }
 
-// What is seen at a point, of a log of `room` cells and of `total` readings.
+// What a command sees at point `at`. The log has `room` cells, and the run was given `total` readings.
 pub fn view_at(layout: Layout, at: Point, room: usize, total: usize) -> ViewNumbers
     requires { ⌜ (pairCells * at .pairs ≤ room) × (at .used ≤ total) ⌝ }
     ensures { λ r. ⌜ r ≡ numbersAt layout at room total ⌝ }

@@ -1,10 +1,10 @@
--- Commands whose registers and numbers are in range, as those of every word are.
+-- Commands whose registers and numbers are in range. Every decoded word is one.
 use Prim.Native.Nat.{_≤_, _<_}
 use Rattle.types.specs.declared.Command.{Command}
 use Rattle.types.specs.declared.Command.the-variants.{Nop, Halt, Plain, Load, Store, GoIf, GoReg, Look, StopIf, Keep, Event, Invalid}
 use Rattle.types.specs.Names.{registers, topWord}
 
--- the registers that are read, and the number
+-- the registers that the command reads, and its number
 unfoldable pub FieldsInRange : Command → Type 0
 FieldsInRange Nop = Unit {0}
 FieldsInRange Halt = Unit {0}
