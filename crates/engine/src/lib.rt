@@ -1,4 +1,4 @@
-// Request 5: the engine, which runs guest words directly under the guest rule.
+// The engine of request 5. It runs guest words as they are written, under the guest rule.
 pub mod refusal;
 pub mod run_loop;
 
@@ -26,7 +26,7 @@ ghost use Rattle.engine.specs.run_loop.Stretches.{KnownWords};
 
 // ---- what a run answers
 
-// An ending's number, which has no place.
+// The answer for an ending: its number, and place 0.
 fn end_answer(ending: Ending) -> Answer
     ensures { λ r. ⌜ r ≡ endAnswer ending ⌝ }
 {
@@ -53,7 +53,7 @@ fn finish(regs: [u32; Engine::REGISTERS], at: Point, ending: Ending, steps: u32)
     }
 }
 
-// A run of an engine that is running. Where the words are not judged, each is judged as it is reached.
+// Runs an engine that is running. Unless the words were `judged` before, each is judged when it is reached.
 fn run_running(
     layout: Layout,
     words: &[u64],
@@ -90,7 +90,7 @@ fn run_running(
     finish(regs, at, ending, loop_exit.steps)
 }
 
-// N − 1, the last index.
+// The last index of a routine, N − 1.
 fn last_index(n: usize) -> u32
     requires { ⌜ n ≤ mostInstructions ⌝ }
     ensures { λ r. ⌜ r + 1 ≡ bundlesFor n ⌝ }
@@ -99,7 +99,7 @@ fn last_index(n: usize) -> u32
     (count - 1) as u32
 }
 
-// What a run answers that changes nothing.
+// The outcome of a run that changes nothing.
 fn unchanged(engine: Engine, answer: Answer) -> EngineOutcome
     ensures { λ r. ⌜ r ≡ outcomeOf engine answer 0 0 0 ⌝ }
 {
@@ -112,7 +112,7 @@ fn unchanged(engine: Engine, answer: Answer) -> EngineOutcome
     }
 }
 
-// A run of an engine in any status. Where the words are not judged, each is judged as it is reached.
+// Runs an engine in any status. One that is not running answers its ending again. For `judged` see `run_running`.
 fn run_on(
     layout: Layout,
     words: &[u64],
@@ -145,7 +145,8 @@ fn run_on(
     unchanged(engine, end_answer(machine_step::endings::ending_of(status)))
 }
 
-// A run, the record by value. Before any instruction it is refused with 7 (bad layout), 5 (oversize), or per word with 3, 2, 4 or 8 and its place; then nothing changes.
+// Runs the engine, with the record by value. All words are judged first. Refused as bad layout (7), then as oversize (5). Then the first bad
+// word is refused as unknown variety (3), foreign matter (2), off grade (4) or bad landing (8). A refused run changes nothing.
 pub fn run(
     layout: Layout,
     words: &[u64],
@@ -166,8 +167,8 @@ pub fn run(
     unchanged(engine, answer)
 }
 
-// The second entry, for words that were judged before: it is refused with 7 (bad layout) and 5 (oversize), and each word is judged as it is reached. One
-// that is no instruction faults with 22, so that any words may be given.
+// Runs words that were judged before, and does not judge all of them again. Refused as bad layout (7), then as oversize (5).
+// Each word is judged when it is reached. One that is no instruction faults (22), so any words are safe.
 pub fn resume(
     layout: Layout,
     words: &[u64],

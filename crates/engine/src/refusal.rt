@@ -1,4 +1,4 @@
-// The refusal of an engine's run, decided before its first instruction.
+// Decides whether a run of the engine is refused, before its first instruction.
 use types::Answer;
 use types::Instr;
 use types::Layout;
@@ -9,7 +9,7 @@ ghost use mathlib.Core.Path.{_≡_};
 ghost use Rattle.engine_spec.specs.Engines.{refusalBy};
 ghost use Rattle.engine_spec.specs.Continues.{continueRefusal};
 
-// The refusal by layout, cells of memory and length, or 0: no word is judged.
+// Refused as bad layout (7), then as oversize (5); else taken (0). No word is judged.
 pub fn continue_refusal(layout: Layout, words: &[u64], cells: usize) -> Answer
     ensures { λ r. ⌜ r ≡ continueRefusal layout (now (words .entry)) cells ⌝ }
 {
@@ -22,7 +22,7 @@ pub fn continue_refusal(layout: Layout, words: &[u64], cells: usize) -> Answer
     Answer::taken(0)
 }
 
-// The refusal of a run with these words and so many cells of memory, or 0.
+// The same, but then all words are judged. The first bad word is refused, at its place.
 pub fn run_refusal(layout: Layout, words: &[u64], cells: usize) -> Answer
     ensures { λ r. ⌜ r ≡ refusalBy layout (now (words .entry)) cells ⌝ }
 {

@@ -1,4 +1,4 @@
-// Request 5: the types of the engine, which runs guest words directly; its definitions and claims are in specs/.
+// The types of the engine of request 5, which runs guest words as they are written. Its definitions and claims are in specs/.
 use types::Answer;
 use types::Machine;
 use types::Status;
@@ -11,12 +11,12 @@ pub struct Engine {
 }
 
 impl Engine {
-    // The guest's registers, all below the hidden one.
+    // The guest's registers: all but the hidden one, which is the last.
     pub const REGISTERS: usize = Machine::HIDDEN;
 }
 
-// What a run of the engine answers and the record that it leaves: a refusal's number and place, or the ending's number;
-// the instructions counted, the pairs recorded and the readings used.
+// The record that a run of the engine leaves, and its answer: the number of its refusal or ending, with a place.
+// Then how many instructions it counted, pairs it recorded and readings it used.
 pub struct EngineOutcome {
     pub engine: Engine,
     pub answer: Answer,

@@ -20,7 +20,7 @@ ghost use Rattle.spec.specs.Machines.{withPair};
 ghost use Rattle.engine_spec.specs.Engines.{entryAt, InRange, applyEffect};
 ghost use Rattle.machine_step.specs.program_point.ProgramPoints.{stateAt};
 
-// A register set.
+// Sets register i, which is known to exist.
 fn set_register(regs: &mut [u32; Engine::REGISTERS], i: usize, x: u32)
     requires { ⌜ (i < guestRegisters) × (length (now regs) ≡ guestRegisters) ⌝ }
     ensures { λ _. ⌜ now (regs .exit) ≡ set (now (regs .entry)) i x ⌝ }
@@ -28,7 +28,7 @@ fn set_register(regs: &mut [u32; Engine::REGISTERS], i: usize, x: u32)
     regs[i] = x;
 }
 
-// The state cell moves with event v.
+// Sets the state cell to the state after event v.
 fn move_state(layout: Layout, v: u32, memory: &mut [u32])
     requires { ⌜ layout .cell < length (now memory) ⌝ }
     ensures { λ _. ⌜ now (memory .exit) ≡ set (now (memory .entry)) (layout .cell) (entryAt layout (now (memory .entry)) v) ⌝ }
@@ -37,7 +37,7 @@ fn move_state(layout: Layout, v: u32, memory: &mut [u32])
     set_cell(memory, layout.cell as usize, x);
 }
 
-// A reading into register 0 and the log.
+// Takes the next reading into r0, and records it as event v.
 fn probe(v: u32, regs: &mut [u32; Engine::REGISTERS], at: Point, readings: &[u32], log: &mut [u32])
     requires { ⌜ (at .pairs < 2 ^ 62) × (length (now regs) ≡ guestRegisters) ⌝ }
     ensures { λ _. ⌜ (now (regs .exit) ≡ set (now (regs .entry)) 0 (getD (now (readings .entry)) (at .used) 0))
@@ -47,7 +47,8 @@ fn probe(v: u32, regs: &mut [u32; Engine::REGISTERS], at: Point, readings: &[u32
     set_register(regs, 0, x);
 }
 
-// The state after an effect. It is in range, so no register and no cell is tested here. The layout's ceilings are lent, so that no event copies them.
+// Applies an effect, and returns the point after it. The effect is in range, so no register and no cell is tested.
+// The ceilings are lent, so that no event copies them.
 pub fn apply(
     e: Effect,
     layout: Layout,

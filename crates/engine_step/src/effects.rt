@@ -1,4 +1,4 @@
-// Decides what the instruction at the index would do; changes nothing.
+// Decides the effect of the instruction at the index. It changes nothing.
 use crate::events::Supplies;
 use crate::events::checked_event;
 use crate::fetch::NO_INSTRUCTION;
@@ -29,8 +29,8 @@ ghost use Rattle.engine_step.specs.fetch.Fetched.{IndexedWords, LastInde
 ghost use Rattle.engine_spec.specs.Engines.{Holds};
 ghost use Rattle.engine_spec.specs.Continues.{isInstructionAt, reachedEffect};
 
-// What a fetched word would do. Every number of four bits has its arm, so the match becomes one jump without a test;
-// and each arm takes only the fields that it uses, so that none is taken before the jump.
+// The effect of a fetched word. Each of the 16 numbers of four bits has an arm, so the match compiles to one jump without a range test.
+// Each arm reads only the fields that it uses, so none is read before the jump.
 fn instruction_effect(
     layout: Layout,
     w: u64,
@@ -86,7 +86,7 @@ fn instruction_effect(
     }
 }
 
-// What the word at the index would do, which is known to be an instruction.
+// The effect of the word at the index, which is known to be an instruction.
 pub fn next_effect(
     layout: Layout,
     words: &[u64],

@@ -1,4 +1,4 @@
-// Decides what an event would do in the engine.
+// Decides EVENT in the engine.
 use crate::known_cells::read_cell;
 use types::Effect;
 use types::Layout;
@@ -20,13 +20,13 @@ pub fn entry(layout: Layout, v: u32, memory: &[u32]) -> usize
     layout.table as usize + PolicyNumbers::EVENTS as usize * (state as usize) + v as usize
 }
 
-// What an event's pauses go by: free cells of the log, and readings left.
+// What an event's pauses depend on: free log cells, and readings left.
 pub struct Supplies {
     pub free: usize,
     pub left: usize,
 }
 
-// An event: the fault, then the stop, then the pauses.
+// The effect of EVENT v. A fault is tested first, then no arrow (21), then the pauses.
 pub fn checked_event(layout: Layout, v: u32, memory: &[u32], supplies: Supplies) -> Effect
     requires { ⌜ layout .cell < length (now memory) ⌝ }
     ensures { λ r. ⌜ r ≡ checkedEvent v (eventView layout (now (memory .entry)) (supplies .free) (supplies .left)) ⌝ }

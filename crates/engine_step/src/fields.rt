@@ -34,7 +34,7 @@ pub fn b_value(w: u64, regs: &[u32; Engine::REGISTERS]) -> u32
     regs[field::b(w) as usize]
 }
 
-// The cell of a LOAD or a STORE.
+// The masked address of a LOAD or STORE.
 pub fn address(w: u64, low: u32, high: u32, regs: &[u32; Engine::REGISTERS]) -> usize
     requires { ⌜ FetchedFields w ⌝ }
     ensures { λ r. ⌜ r ≡ maskOf low high (getD (now (regs .entry)) (aOf w) 0) ⌝ }

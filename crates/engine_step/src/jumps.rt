@@ -1,4 +1,4 @@
-// Decides what GOIF and GOX would do in the engine.
+// Decides GOIF and GOX in the engine.
 use crate::known_cells::read_cell;
 use types::Effect;
 use types::Layout;
@@ -17,7 +17,7 @@ ghost use Rattle.spec.specs.Machines.{nextPc};
 ghost use Rattle.engine_spec.specs.Engines.{indirectEffect};
 ghost use Rattle.engine_step.specs.fetch.Fetched.{LastIndex};
 
-// A GOIF: where its condition holds to its target, else on to the next instruction.
+// The effect of GOIF: to its target if the condition holds, else to the next instruction.
 pub fn branch(c: u64, x: u32, y: u32, to: u32, at: u32) -> Effect
     ensures { λ r. ⌜ r ≡ cond (holdsOf c x y) (Go to) (Go (nextPc at)) ⌝ }
 {
@@ -27,7 +27,7 @@ pub fn branch(c: u64, x: u32, y: u32, to: u32, at: u32) -> Effect
     Effect::Go(alu::add(at, 1))
 }
 
-// Whether the bit of instruction j stands in the landing cells.
+// Whether the bit of instruction j is set in the landing cells.
 fn has_landing(j: u32, landings: u32, memory: &[u32]) -> bool
     requires { ⌜ (j < mostBundles) × (landings + landingCells ≤ length (now memory)) ⌝ }
     ensures { λ r. ⌜ r ≡ marked (now (memory .entry)) landings j ⌝ }
@@ -36,7 +36,7 @@ fn has_landing(j: u32, landings: u32, memory: &[u32]) -> bool
     (bits >> (j % Layout::CELL_BITS)) % 2 == 1
 }
 
-// A GOX that is taken: N is a power of two, so rd modulo N is the mask of 0 to N − 1. It goes to a landing, or stops.
+// The effect of a taken GOX: to instruction rd modulo N if that is a landing, else it stops. N is a power of two, so a mask gives the modulo.
 fn jump_to_landing(to: u32, top: u32, landings: u32, memory: &[u32]) -> Effect
     requires { ⌜ LastIndex top × (landings + landingCells ≤ length (now memory)) ⌝ }
     ensures { λ r. ⌜ r ≡ indirectEffect (now (memory .entry)) landings (top + 1) to ⌝ }
@@ -48,7 +48,7 @@ fn jump_to_landing(to: u32, top: u32, landings: u32, memory: &[u32]) -> Effect
     Effect::End(Status::Strayed)
 }
 
-// A GOX: only one that is taken asks for its landing. Its register is read before its condition is asked, which is quicker.
+// The effect of GOX. Only a taken one looks up its landing. The caller reads rd before the condition is tested, which is faster.
 pub fn jump(
     c: u64,
     x: u32,

@@ -1,4 +1,4 @@
-// A cell that there is, read or set without a test.
+// Reads and sets cells that are known to exist, without a test.
 ghost use mathlib.Core.Path.{_≡_};
 ghost use Prim.Native.Nat.{_<_};
 ghost use lib.ListN.{length, getD, set};

@@ -1,4 +1,4 @@
-// One instruction of the engine: what it would do, and the state after it.
+// One instruction of the engine: decides its effect and applies it.
 pub mod apply;
 pub mod effects;
 pub mod events;
