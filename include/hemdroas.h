@@ -89,7 +89,7 @@ enum {
 enum hemdroas_refusal {
     HEMDROAS_TAKEN = 0,
     HEMDROAS_SHORT_WEIGHT = 1,      /* the bytes end too early */
-    HEMDROAS_FOREIGN_MATTER = 2,    /* a field is present though it is 0 or this kind lacks it, or a stray bit is set */
+    HEMDROAS_FOREIGN_MATTER = 2,    /* a present field is 0, or this kind has no such field, or a stray bit is set */
     HEMDROAS_UNKNOWN_VARIETY = 3,   /* the instruction's kind is above 12 */
     HEMDROAS_OFF_GRADE = 4,         /* a register, condition, shift or event is out of range */
     HEMDROAS_OVERSIZE = 5,          /* more than 1023 instructions */
@@ -199,9 +199,9 @@ struct hemdroas_layout {
 };
 
 /* A machine runs commands. Between runs this struct holds its whole state, except
- * memory. If status is above 4, a run does nothing and leaves the struct as it
- * was. It answers bad layout (7) if it is refused, else fault (22). Its other
- * three numbers are 0. */
+ * memory. A run of a machine whose status is above 4 changes nothing. Its ending
+ * is bad layout (7) if the run is refused, else fault (22); steps, pairs and
+ * readings are 0. */
 struct hemdroas_machine {
     uint32_t r[16];  /* registers; no routine can name r15 */
     uint32_t pc;     /* address of the next command */
@@ -238,7 +238,7 @@ struct hemdroas_answer {
     uint32_t place;
 };
 
-/* What a run answers. If it is refused as bad layout (7), the other three are 0. */
+/* What a run answers. If it is refused as bad layout (7), the other numbers are 0. */
 struct hemdroas_run_answer {
     uint32_t ending;   /* enum hemdroas_ending, or HEMDROAS_BAD_LAYOUT */
     uint32_t steps;    /* commands executed */
@@ -255,7 +255,7 @@ struct hemdroas_engine_answer {
     uint32_t readings;     /* readings used */
 };
 
-/* What hemdroas_precedence answers. If it is refused, the other three are 0. */
+/* What hemdroas_precedence answers. If it is refused, the other numbers are 0. */
 struct hemdroas_precedence_answer {
     uint32_t number; /* enum hemdroas_refusal */
     uint32_t place;  /* bytes of the table written */
@@ -263,7 +263,7 @@ struct hemdroas_precedence_answer {
     uint32_t never;  /* bit e is set if event e can never be allowed, as when pairs form a ring */
 };
 
-/* What hemdroas_determinise answers. If it is refused, the other three are 0. */
+/* What hemdroas_determinise answers. If it is refused, the other numbers are 0. */
 struct hemdroas_determinise_answer {
     uint32_t number; /* enum hemdroas_refusal */
     uint32_t place;  /* bytes of the table written */
@@ -314,10 +314,11 @@ void hemdroas_check(const struct hemdroas_layout *layout, const uint64_t *comman
  * grade (4) or bad landing (8). If no word is bad, the first instruction that is
  * not forward is refused as not forward (18).
  *
- * A forward routine that was rewritten into N bundles and installed ends or stops
- * within 4 * (N - 1) + 1 steps, counted over all its runs. For this the host
- * must resume it after each pause with two free log cells and a reading, and the
- * budgets must suffice. */
+ * Once it is rewritten into N bundles and installed, such a routine ends or stops
+ * within 4 * (N - 1) + 1 steps, counted over all its runs. This holds if the host
+ * resumes it after each pause, always with two free log cells and a reading, and
+ * if the budgets suffice for so many steps. A pause leaves the rest of its budget
+ * unused. */
 void hemdroas_forward(const uint64_t *words, uint64_t n, struct hemdroas_answer *answer);
 
 /* Checks n commands as hemdroas_check does, then that they are a forward routine.
@@ -354,15 +355,16 @@ void hemdroas_load(const struct hemdroas_layout *layout, uint32_t states, uint32
 
 /* ---- running */
 
-/* Runs n commands until the routine ends, stops or pauses. It pauses at the latest
- * after budget commands. A machine that has ended, stopped or faulted answers that
- * again, with 0 steps. Each event is written to the log as two numbers, event
- * and value, from log[0] on. Readings are used from readings[0] on. r is the
- * length of readings, g that of log.
+/* Runs n commands until the routine ends, stops or pauses. It pauses at the
+ * latest after budget commands. A machine that has ended, stopped or faulted
+ * answers its ending again, with 0 steps. Each event is written to the log as
+ * two numbers, event and value, from log[0] on. Readings are used from
+ * readings[0] on. r is the length of readings, g that of log.
  *
  * To resume after a pause, call again with the same machine and memory. After log
  * full (23) or probe silent (24) the state cell holds the policy's state after
- * all recorded events. After spent (25) it may not include the last event yet. */
+ * all recorded events. After spent (25) it may be one event behind: the next run
+ * then stores the new state first. */
 void hemdroas_run(const struct hemdroas_layout *layout, const uint64_t *commands, uint64_t n,
                   struct hemdroas_machine *machine, uint32_t *memory, uint64_t cells, uint32_t budget,
                   const uint32_t *readings, uint64_t r, uint32_t *log, uint64_t g, struct hemdroas_run_answer *answer);
@@ -408,10 +410,10 @@ void hemdroas_engine_continue(const struct hemdroas_layout *layout, const uint64
 
 /* Makes a policy from n / 2 pairs of events: event pairs[2 * i + 1] is allowed
  * only after event pairs[2 * i] has been recorded. n is the length of pairs,
- * room that of table. A state's number has bit k set if the k-th smallest event of
- * the pairs, counted from 0, has been recorded. An event that is in no pair is
- * always allowed and does not change the state. Refused as bad pair (17), then
- * small hopper (9). */
+ * room that of table. The state tells which events of the pairs have been
+ * recorded: its bit 0 stands for the smallest of these events, bit 1 for the next,
+ * and so on. An event that is in no pair is always allowed and does not change the
+ * state. Refused as bad pair (17), then small hopper (9). */
 void hemdroas_precedence(const uint8_t *pairs, uint64_t n, uint8_t *table, uint64_t room,
                          struct hemdroas_precedence_answer *made);
 
@@ -419,13 +421,14 @@ void hemdroas_precedence(const uint8_t *pairs, uint64_t n, uint8_t *table, uint6
  * event, and several states may be starts. Bit s of starts is set if state s is
  * a start. Bit t of arrows[16 * s + e] is set if event e leads from state s to
  * state t. n is the length of arrows, room that of table. The policy allows a
- * list of events exactly if a path from a start through the drawing follows it.
+ * list of events exactly if the drawing has a path of arrows for these events, in
+ * this order, that begins at a start.
  *
  * This is the subset construction: each state of the policy is a nonempty set of
- * the drawing's states that some events lead to. State 0 is the set of starts.
- * The others are numbered as a search finds them. The search takes the sets in the
- * order of their numbers, and for each set the events from 0 to 15. Refused as
- * bad drawing (16), then too many states (15), then small hopper (9). */
+ * the drawing's states, all those that some list of events can lead to. State 0 is
+ * the set of starts. A breadth-first search numbers the others as it finds them:
+ * it follows the events 0 to 15 of state 0, then those of state 1, and so on.
+ * Refused as bad drawing (16), then too many states (15), then small hopper (9). */
 void hemdroas_determinise(uint32_t states, uint32_t starts, const uint16_t *arrows, uint64_t n,
                           uint8_t *table, uint64_t room, struct hemdroas_determinise_answer *made);
 
@@ -435,10 +438,10 @@ void hemdroas_determinise(uint32_t states, uint32_t starts, const uint16_t *arro
  * the result is the same. Each ceiling is the smaller of the two.
  *
  * Each state of the merged policy is a pair of states, one of each policy, that
- * some events lead to. State 0 is the pair of starts. The others are numbered as
- * a search finds them, as in hemdroas_determinise. The answer's place is the
- * number of bytes written to table. Refused as bad policy (10), then too many
- * states (15), then small hopper (9). If it is refused, merged is set to zeros. */
+ * some list of events leads to. State 0 is the pair of starts. The others are
+ * numbered as in hemdroas_determinise. The answer's place is the number of
+ * bytes written to table. Refused as bad policy (10), then too many states
+ * (15), then small hopper (9). If it is refused, merged is set to zeros. */
 void hemdroas_merge(const struct hemdroas_policy *one, const uint8_t *table1, uint64_t len1,
                     const struct hemdroas_policy *other, const uint8_t *table2, uint64_t len2,
                     uint8_t *table, uint64_t room, struct hemdroas_policy *merged, struct hemdroas_answer *answer);
