@@ -1,4 +1,4 @@
-// The page: opens the library, runs the session and keeps the panels at what it shows.
+// The page: opens the library, runs the session and updates the panels.
 import { openLibrary } from "./library/binding.mjs";
 import { countOf } from "./library/words.mjs";
 import { Session } from "./model/session.mjs";
@@ -98,7 +98,7 @@ class App {
     if (!found) byId("now").append(h("p", { class: "hint" }, "From here on, no breakpoint is reached."));
   }
 
-  /** Something that the run is given is new: all is run again, from the installation. Then one stays, or goes a step or to the end. */
+  /** Changes what the run is given, and runs it again from the installation. Then the page stays, takes a step or goes to the end. */
   async give(news, then = "stay") {
     this.stop();
     const wasAsked = byId("pause").contains(document.activeElement);

@@ -1,5 +1,5 @@
-// The proved library as WebAssembly. A call takes arrays that `lend` made in the module's own memory, and passes each on as the
-// header has it: its place and, as a 64-bit number, its length. Nothing is decided here.
+// The proved library as WebAssembly. A call takes arrays that `lend` made in the module's memory. It passes each as the header
+// asks: its address, then its length as a 64-bit number. Nothing is decided here.
 import { named, sizeOf } from "./header.mjs";
 
 const PAGES = 48; // of 64 KiB each: room for all that the page lends
@@ -22,14 +22,14 @@ export class Library {
 
   constructor(exports) {
     this.#c = exports;
-    exports.memory.grow(PAGES); // before the first array is lent: growing takes them all away
+    exports.memory.grow(PAGES); // before the first array is lent: growing detaches all arrays
     this.#top = exports.__heap_base.value;
     for (const struct of ["answer", "run_answer", "engine_answer", "precedence_answer"]) {
       this.#answers[struct] = this.lendStruct(struct);
     }
   }
 
-  /** An array in the module's memory: a copy of `from`, or so many zeros. */
+  /** An array in the module's memory: a copy of `from`, or `from` zeros if it is a number. */
   lend(Type, from) {
     const count = typeof from === "number" ? from : from.length;
     const at = Math.ceil(this.#top / ALIGNMENT) * ALIGNMENT;

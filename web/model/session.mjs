@@ -1,4 +1,4 @@
-// A session: what the viewer has given, the trace of it, and where he stands. Nothing here knows of the page's elements.
+// A session: what the viewer has given, its trace, and the place in it that is shown. It knows nothing of the page's elements.
 import { ENDING, offsetOf } from "../library/header.mjs";
 import { commandName, isAccess, isJump, kindName, wordAt } from "../library/words.mjs";
 import { askFacts, conditionHolds } from "./facts.mjs";
@@ -39,7 +39,7 @@ export class Session {
     return true;
   }
 
-  /** The frames at which one can stand: after each command, or where instructions begin, the routine ends or the budget is spent. */
+  /** The frames that can be shown: after each command; or only where an instruction begins, the routine ends or the budget is spent. */
   #findStops() {
     const { frames, ending } = this.trace;
     const isSpent = (k) => ending === ENDING.SPENT && k === frames.length - 1;
@@ -118,7 +118,7 @@ export class Session {
     return true;
   }
 
-  /** Whether the budget was spent inside the instruction that stands there. */
+  /** Whether the budget was spent within the instruction that is shown. */
   get isInside() {
     return !this.byCommand && this.frame.isRunning && !this.frame.isFirst;
   }
@@ -131,7 +131,7 @@ export class Session {
     if (!this.breakpoints.delete(instruction)) this.breakpoints.add(instruction);
   }
 
-  /** A free cell takes a value at this moment. */
+  /** Writes a value to a free cell at this moment of the run. */
   write(cell, value) {
     const here = this.command;
     const others = this.given.writes.filter((write) => write.at !== here || write.cell !== cell);
@@ -148,12 +148,12 @@ export class Session {
     return wordAt(this.facts.words, instruction);
   }
 
-  /** The word at an instruction, where behind the last stands HALT. */
+  /** The word of an instruction. After the last word follow HALTs. */
   wordOrHalt(instruction) {
     return 2 * instruction < this.facts.words.length ? this.word(instruction) : { kind: 0 };
   }
 
-  /** The last comparison of engine and machine up to here; at the last stop that of the end. */
+  /** The last comparison of engine and machine up to here. At the last stop, it is the comparison at the end. */
   get agreement() {
     const upTo = this.at === this.last ? this.trace.frames.length - 1 : this.command;
     const at = this.trace.frames.findLastIndex((frame, k) => k <= upTo && frame.agree);
@@ -174,7 +174,7 @@ export class Session {
     return found.filter(([, at]) => at >= 0).map(([what, at]) => ({ what, at }));
   }
 
-  /** If the last step was a LOAD or STORE whose address was not in the sandbox: that address, and the cell that the mask made. */
+  /** The address of a LOAD or STORE and the cell that the mask made of it, if the last step was one and they differ; else null. */
   get reach() {
     const began = this.bundleBegan;
     if (!began || !isAccess(this.wordOrHalt(began.index))) return null;
@@ -183,7 +183,7 @@ export class Session {
     return named === hit ? null : { named, hit };
   }
 
-  /** The frame at which the instruction began that the last step finished; null if it finished none. */
+  /** If the last step finished an instruction, the frame at which that instruction began; else null. */
   get bundleBegan() {
     const { frames } = this.trace;
     const isFinished = this.before && (this.frame.isFirst || !this.frame.isRunning);
@@ -221,12 +221,12 @@ export class Session {
     return isSent ? { from: before.state, to: facts.arrows[before.state][word.v] } : null;
   }
 
-  /** The place of the command that the last step did. */
+  /** The index in the list of the command that the last step executed. */
   get lastCommand() {
     return this.before.machine[PC] - this.facts.shape.base;
   }
 
-  /** The event that the policy stopped, if one stands there. */
+  /** The event that the policy stopped, if the routine is stopped here. */
   get stopped() {
     const isStopped = !this.frame.isRunning && this.trace.ending === ENDING.NO_ARROW;
     return isStopped ? this.wordOrHalt(this.frame.index).v : null;

@@ -1,5 +1,5 @@
-// 'Without the mask': one mask taken out of the list. What the checker says of it, and, run all the same, in this page only,
-// what it does from which the mask would keep it: where the two memories come to differ, or where a jump aims.
+// 'Without the mask': removes the mask of one instruction. Shows that the checker refuses the list. Then runs it anyway, in this page only, and
+// shows what the mask prevents: where the two memories differ, or where a jump would go.
 import { answerText } from "../library/header.mjs";
 import { FORMATS, plural } from "../model/numbers.mjs";
 import { cellName, commandLine, instructionText, lineOf, placeText } from "../model/names.mjs";
@@ -56,7 +56,7 @@ export function buildUnmasked(app) {
   byId("mask-address").addEventListener("change", () => runUnmasked(app));
 }
 
-/** If the run never names an address outside the sandbox there, the routine is made to aim at a free cell. */
+/** Chooses a LOAD or STORE that uses an address outside the sandbox. If there is none, chooses the first, and a free cell for it to use. */
 export function chooseAddress(app) {
   const { session } = app;
   if (!byId("mask-of")?.options.length) return;
@@ -112,20 +112,20 @@ function differenceTables({ page, format }, { moved, apart }) {
   ];
 }
 
-/** Nothing was done that the mask would have kept it from, and why. */
+/** The text for a run in which the mask would have prevented nothing, and why. */
 function nothingDone({ isReached, isMade }, isJump, came) {
   const lay = isJump ? "Each time it led to the first command of an instruction." : "Each time the address lay in the sandbox.";
   const why = !isReached ? "The line was not reached." : isMade ? lay : "The condition never held, so the jump was not made.";
   return [h("p", { class: "verdict ok" }, "No difference"), h("p", {}, `${why} Choose another address above. ${came}`)];
 }
 
-/** How it ended, beside how it ends with the mask. */
+/** How the run ended, compared with the run with the mask. */
 function endText(app, trace) {
   const [bare, masked] = [trace, app.session.trace].map((one) => `${answerText(one.ending)} with ${plural(one.events.length, "pair")}`);
   return bare === masked ? `It came out as ${answerText(trace.ending)}.` : `It came out as ${bare}; with the mask, as ${masked}.`;
 }
 
-/** What the mask makes of it; and of a jump, that it was stopped before the memories could differ. */
+/** What happens with the mask. For a jump, also whether it was stopped before the memories could differ. */
 function maskedText({ page }, { masked, isSeen, isMoved }, isJump) {
   if (!isJump) return "With the mask it does not.";
   const alike = isSeen || isMoved ? "" : " Here it was stopped at once, so the two memories do not differ.";

@@ -13,10 +13,10 @@ pub struct Route {
     pub at: Area,
 }
 
-/// How far curves may bend, the straighter first.
+/// How far curves may bend, straight ones first.
 const BENDS: [f64; 9] = [0.0, 40.0, -40.0, 80.0, -80.0, 130.0, -130.0, 190.0, -190.0];
 
-/// Where on a curve its label may stand, the best first.
+/// Where on a curve its label may be, the best place first.
 const SPOTS: [f64; 9] = [0.5, 0.4, 0.6, 0.32, 0.68, 0.25, 0.75, 0.18, 0.82];
 
 /// A quadratic curve.
@@ -32,7 +32,7 @@ impl Curve {
         let (across, down) = (to.x - from.x, to.y - from.y);
         let length = across.hypot(down).max(1.0);
         let middle = ((from.x + to.x) / 2.0, (from.y + to.y) / 2.0);
-        // Twice as far, for a curve goes half the way to its bend.
+        // Twice as far, since a curve goes only half the way to its bend.
         let aside = 2.0 * bend / length;
         Curve {
             from: (from.x, from.y),
@@ -41,7 +41,8 @@ impl Curve {
         }
     }
 
-    /// The point that two parameters blend to; one of the curve, if they are the same.
+    /// The blend of two parameters (the curve's blossom). If both are t, it is the
+    /// curve's point at t.
     fn blend(&self, s: f64, t: f64) -> Point {
         let weights = ((1.0 - s) * (1.0 - t), (1.0 - s) * t + s * (1.0 - t), s * t);
         let mix = |a: f64, b: f64, c: f64| weights.0 * a + weights.1 * b + weights.2 * c;
@@ -89,7 +90,8 @@ struct Laid<'a> {
 }
 
 impl Laid<'_> {
-    /// How badly a curve runs: through states and labels, near other curves, or out of the picture.
+    /// How bad a curve is. It is worse through states or labels, near other curves,
+    /// or outside the picture.
     fn cost(&self, curve: &Curve, arrow: &Arrow) -> usize {
         let others = || {
             let all = self.areas.iter().enumerate();
@@ -117,7 +119,7 @@ impl Laid<'_> {
         curve.points().map(cost).sum::<usize>() + 12 * crowded
     }
 
-    /// The first of some places for a label where it covers nothing.
+    /// The first of these places where a label covers nothing.
     fn label(&mut self, lines: &[String], places: impl Iterator<Item = Point>) -> Area {
         let all: Vec<Area> = places.map(|place| Area::of_lines(lines, place)).collect();
         let is_free = |area: &&Area| {

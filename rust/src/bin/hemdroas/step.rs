@@ -23,11 +23,11 @@ struct Class<'a> {
     /// Readings that were typed and not yet asked for.
     typed: VecDeque<String>,
     breaks: Vec<Goal>,
-    /// How the routine came to where it stands, if it cannot go on from there.
+    /// The ending that the routine reached, if it cannot go on.
     over: Option<Ending>,
-    /// What was typed where a reading was asked for, and is to be done next.
+    /// An order that was typed instead of a reading, to be carried out next.
     next: Option<Order>,
-    /// Whether the person has enough.
+    /// Whether the person has left the lesson.
     is_left: bool,
 }
 
@@ -35,12 +35,13 @@ struct Class<'a> {
 struct Stretch {
     most: u32,
     until: Option<Goal>,
-    /// Whether only what is recorded is shown on the way.
+    /// Whether only recorded pairs are shown on the way.
     is_brief: bool,
 }
 
 impl Class<'_> {
-    /// Tells a person something; scripts that read objects find it on standard error.
+    /// Prints text for a person. With --json it goes to standard error, since
+    /// objects go to standard output.
     fn tell(&self, text: &str) -> Result<(), Problem> {
         match self.args.is_json() {
             true => {
@@ -65,7 +66,7 @@ impl Class<'_> {
         }
     }
 
-    /// Whether the next instruction is a goal.
+    /// Whether the next instruction is the goal.
     fn is_at(&self, goal: &Goal) -> bool {
         let place = self.lesson.engine.at;
         match goal {
@@ -75,8 +76,8 @@ impl Class<'_> {
         }
     }
 
-    /// Does what is typed where a reading is asked for; true if the lesson goes
-    /// on elsewhere.
+    /// Handles an order that was typed instead of a reading. True if it moves the
+    /// lesson, so that the reading is no longer needed.
     fn instead(&mut self, line: &str) -> Result<bool, Problem> {
         match order(self.lesson.loaded, line) {
             Ok(asked @ (Order::Steps(_) | Order::Until(_) | Order::Back(_) | Order::Stop)) => {
@@ -89,7 +90,7 @@ impl Class<'_> {
         Ok(false)
     }
 
-    /// Gets a reading for the probe that is silent; false if there is none.
+    /// Gets a reading for the silent probe. False if there is none.
     fn reading(&mut self) -> Result<bool, Problem> {
         let event = event_of(self.lesson.word()).unwrap_or(0);
         let name = self.lesson.loaded.names.word(event);
@@ -127,7 +128,7 @@ impl Class<'_> {
         }
     }
 
-    /// Goes on; the ending, if it comes to one.
+    /// Executes instructions. Returns the ending, if one is reached.
     fn advance(&mut self, stretch: &Stretch) -> Result<Option<Ending>, Problem> {
         let mut count = 0;
         while count < stretch.most {
@@ -159,7 +160,7 @@ impl Class<'_> {
         Ok(None)
     }
 
-    /// What a person asks to see.
+    /// The answer to a person's question.
     fn answer(&self, asked: &Order) -> String {
         let lesson = &self.lesson;
         let (regs, state) = (&lesson.engine.regs, lesson.state());
@@ -185,7 +186,8 @@ impl Class<'_> {
         }
     }
 
-    /// Goes on, unless it is over, and shows how it ends if it does.
+    /// Executes instructions unless the routine is over. Shows the ending if one
+    /// is reached.
     fn go_on(&mut self, most: u32, until: Option<Goal>) -> Result<(), Problem> {
         if !self.lesson.is_running() {
             return self.tell("it is over: 'back' goes back, 'stop' ends the lesson\n");
@@ -201,7 +203,7 @@ impl Class<'_> {
         }
     }
 
-    /// Shows how and where it stands.
+    /// Shows how the lesson ended, and where.
     fn show_end(&self) -> Result<(), Problem> {
         let lesson = &self.lesson;
         let end = End {
@@ -218,7 +220,7 @@ impl Class<'_> {
         end.show(self.args.is_json())
     }
 
-    /// Does what is asked.
+    /// Carries out an order.
     fn obey(&mut self, asked: Order) -> Result<(), Problem> {
         match asked {
             Order::Stop => self.is_left = true,
@@ -247,7 +249,7 @@ impl Class<'_> {
         Ok(())
     }
 
-    /// Goes through the routine until the person has enough.
+    /// Asks for orders and carries them out, until the person leaves.
     fn teach(&mut self) -> Result<(), Problem> {
         if self.args.has("--all") {
             return self.go_on(u32::MAX, None);

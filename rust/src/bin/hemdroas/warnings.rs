@@ -1,4 +1,4 @@
-//! What check warns of: a routine that is taken, but will not do what was meant.
+//! The warnings of check, about routines that are taken but probably wrong.
 
 use super::load::Checked;
 use super::report::{Level, Report};
@@ -8,7 +8,8 @@ use hemdroas::names::EVENTS;
 use hemdroas::text::{Field, Names, Objection, Table};
 use hemdroas::Refusal;
 
-/// A warning about an instruction, with the refusal that it is not.
+/// A warning about an instruction. An `Objection` must have a refusal, but a
+/// warning does not show it.
 fn warning(checked: &Checked, place: usize, field: Option<Field>, message: String) -> Report {
     let found = Objection {
         field,
@@ -79,7 +80,7 @@ fn followers(checked: &Checked, place: usize) -> Vec<usize> {
     }
 }
 
-/// Code that no run reaches, a report for each piece of it.
+/// Code that no run reaches: one report for each stretch of it.
 fn never_reached(checked: &Checked) -> Vec<Report> {
     let count = checked.routine.words.len();
     let mut reached = vec![false; count];
