@@ -19,7 +19,7 @@ pub const RECORD: usize = Engine::REGISTERS + TRAILER;
 
 pub const ANSWER: usize = 5;
 
-// The engine that a record's numbers mean.
+// Makes an engine from a record's numbers.
 fn engine_of(xs: [u32; RECORD]) -> Engine
     ensures { λ r. ⌜ r ≡ engineFrom xs ⌝ }
 {

@@ -19,7 +19,7 @@ pub const LONGEST: usize = 10;
 // Means that the fast path has no answer. It never refuses an instruction itself.
 const NO_ANSWER: u8 = Refusal::TAKEN;
 
-// A field's value, the index after it, and whether it is present though 0.
+// A field's value, the index after it, and whether it is present but 0.
 struct Part {
     value: u64,
     next: usize,

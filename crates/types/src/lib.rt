@@ -106,7 +106,7 @@ impl Instr {
     pub const MOST: usize = 1023;
 
     pub const COUNT_BYTES: usize = 2;
-    // The kind numbers. As a command, a plain instruction has its kind plus a fixed step.
+    // The kind numbers. A plain instruction becomes the command whose number is its kind plus `PLAIN_STEP`.
     pub const KIND_HALT: u64 = 0;
 
     pub const KIND_SET: u64 = 1;

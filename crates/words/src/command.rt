@@ -40,7 +40,7 @@ fn stray(k: u64) -> u64
     }
 }
 
-// Whether a word of kind k is a command. If the caller passes k as a constant, so is its mask.
+// Whether a word of kind k is a command. If the caller passes a constant k, the mask is a constant too.
 pub fn is_of_kind(k: u64, w: u64) -> bool
     requires { ⌜ (k < commandKinds) × (kindOf w ≡ k) ⌝ }
     ensures { λ r. ⌜ r ≡ isCommand w ⌝ }
