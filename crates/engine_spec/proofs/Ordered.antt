@@ -1,4 +1,4 @@
--- The order before an instruction.
+-- The order of the tests before an instruction.
 use mathlib.Core.Path.{_≡_, refl, sym, _∙_, ap}
 use mathlib.Core.Bool.{Bool, true, false}
 use mathlib.Core.Logic.{inl, inr, ⊎-elim}
@@ -106,7 +106,7 @@ engine-order lay ws m mem rd log j z =
     let k = r .outcome .steps in
     let s = finalState r in
     let size : length (s .mem) ≡ lay .size = run-length lay ws rd j 0 first ∙ taken-size lay ws mem z in
-    -- the run with more: it goes on from here
+    -- the run with a larger budget continues from here
     let on : (n : ℕ) → runFrom lay ws rd (j + (n + 1)) 0 first ≡ runFrom lay ws rd (suc n) k s = λ n. more-from l leaves (λ e k s. refl) (λ s k. refl) j n first in
     let none : j + 0 ≡ j = omega arith in
     let free = length (s .log) - 2 * s .pairs in

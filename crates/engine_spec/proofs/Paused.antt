@@ -1,4 +1,4 @@
--- At a pause engine and machine answer the same number.
+-- At a pause, engine and machine answer the same number.
 use mathlib.Core.Path.{_≡_, refl, sym, _∙_, ap, ap₂, subst}
 use mathlib.Core.Bool.{true}
 use mathlib.Core.List.{List}
@@ -40,17 +40,17 @@ use Rattle.engine_spec.proofs.Runs.{engineLoop, taken-size, enter}
 use Rattle.engine_spec.proofs.Rule.{taken-of, ready-of, routine-of, stays, engine-rule, meet}
 use Rattle.engine_spec.proofs.Ordered.{paused}
 
--- an event that has its arrow: a pause, an order or a reading
+-- an event that the policy allows: a pause, an order or a reading
 event-ind : (P : Effect → Type 0) (v f u : ℕ) → P (Wait LogFull) → P (Wait Silent) → P (Order v) → P (Probe v) → P (eventEffect v f u)
 event-ind P v f u full silent order probe =
     cond-ind P (ltb v orders) (λ _. cond-ind P (ltb f 2) (λ _. full) (λ _. order))
     (λ _. cond-ind P (eqb u 0) (λ _. silent) (λ _. cond-ind P (ltb f 2) (λ _. full) (λ _. probe)))
 
--- the number that a run of one step then answers: the pause's, or 25
+-- the number that a run of one step then answers: the pause's, or spent (25)
 abbrev numberBy : Effect → ℕ
 numberBy e = unlessWait e endingNumber (endingNumber Spent)
 
--- one that does not pause leaves the status
+-- an event that does not pause keeps the status
 abbrev Sent : List ℕ → List ℕ → State → Effect → Type 0
 Sent caps rd s e = Goes e → (numberBy e ≡ endingNumber Spent) × (applyOf caps rd e s .status ≡ s .status)
 

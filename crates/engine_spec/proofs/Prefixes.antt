@@ -1,4 +1,4 @@
--- Every moment within a run of the engine is the end of a run with a smaller budget, and a list cut off there is on the premise.
+-- Every moment of a run is the end of a run with a smaller budget. A list of runs that is cut off there is on the premise too.
 use mathlib.Core.Path.{refl}
 use Rattle.spec.proofs.Loops.{runs-compose-at}
 use Rattle.spec.proofs.Lists.{preserved-prefix}

@@ -1,4 +1,4 @@
--- Words that nobody judged: the second entry does what a run of the repaired words does, but for the fault.
+-- Words that were not judged: the second entry does what a run of the repaired words does, except for the fault.
 use mathlib.Core.Path.{_≡_, refl, sym, _∙_, ap, subst}
 use mathlib.Core.Bool.{Bool, true, false, cond}
 use mathlib.Core.Logic.{_⊎_, inl, inr, ⊎-elim}

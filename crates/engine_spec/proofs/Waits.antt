@@ -1,4 +1,4 @@
--- Where the engine pauses before its next instruction, the machine pauses in the bundle.
+-- If the engine pauses before its next instruction, the machine pauses within the bundle.
 use mathlib.Core.Path.{_≡_, refl, sym, _∙_, ap, ap₂, subst}
 use mathlib.Core.Bool.{true}
 use mathlib.Core.Logic.{inl, inr}
@@ -49,9 +49,9 @@ use Rattle.engine_spec.proofs.Rule.{taken-of, ready-of, routine-of, sta
 use Rattle.engine_spec.proofs.StepTogether.{machine-more, engine-more, paired-more}
 use Rattle.engine_spec.proofs.Paused.{machine-next}
 
--- ---- the engine: a run of one instruction that pauses is before an event that has its arrow
+-- ---- the engine: if a run of one instruction pauses, it is before an event that the policy allows
 
--- what a status answers is no pause
+-- no status answers a pause
 status-answers : (t : Status) → PausedBy (endingNumber (endingOf t)) → ⊥
 status-answers Running (inl h) = omega arith
 status-answers Running (inr h) = omega arith
@@ -89,7 +89,7 @@ send-waits v s w =
     let P : Effect → Type 0 = λ x. x ≡ Wait w → (cellAt s (entryOf s v) ≡ noArrow → ⊥) × (eventEffect v (s .free) (s .left) ≡ Wait w) in
     cond-ind P (ltb (entryOf s v) (length (s .mem))) (λ _. cond-ind P (eqb (cellAt s (entryOf s v)) noArrow) (λ _ y. no (cc)) (λ f y. (eqb-false _ _ f, y))) (λ _ y. no (cc))
 
--- the instruction that waits
+-- the instruction before which it pauses
 record Waited (lay : Layout) (ws rd : List ℕ) (s : State) (w : Ending) : Type 0 where
   event : ℕ
   is : routine ws (s .pc) ≡ EVENT event
@@ -107,7 +107,7 @@ waited lay ws rd s w l z =
 
 -- ---- the machine: before such an event it takes two steps and pauses
 
--- one on from position p of bundle h
+-- one command after position p of bundle h
 takes-step : (base n h p pc : ℕ) → base + bundleLength * n ≤ 2 ^ 32 → h < n → p < 3 → pc ≡ base + bundleLength * h + p → nextPc pc ≡ base + bundleLength * h + suc p
 takes-step base n h p pc room lh lp e = omega arith
 
@@ -205,7 +205,7 @@ record Pause (lay : Layout) (code : List ℕ) (c : MachineSession) (n : Session)
   counted : afterRun lay code n h .counted ≡ n .counted
   engine : afterRun lay code n h .consumed ≡ n .consumed
 
--- the two memories have one entry for event e
+-- both memories have the same entry for event e
 same-entry : (lay : Layout) (pol : Policy) (mem mem′ : List ℕ) (e : ℕ) → Memory lay pol mem → Guarded lay pol mem′
     → getD mem′ (lay .cell) 0 ≡ getD mem (lay .cell) 0 → e < events → tableEnd lay ≤ lay .size → (entryAddress lay mem′ e < length mem′)
     × (getD mem′ (entryAddress lay mem′ e) 0 ≡ getD mem (entryAddress lay mem e) 0)
@@ -217,7 +217,7 @@ same-entry lay pol mem mem′ e m m′ cells l end =
     let below : events * q + e < events * lay .states = omega (arith, m .below) in
     (omega (arith, m′ .size, end, below, i′), ap (λ (k : ℕ). getD mem′ k 0) i′ ∙ m′ .table (events * q + e) below ∙ sym (ap (λ (k : ℕ). getD mem k 0) i ∙ m .guarded .table (events * q + e) below))
 
--- the machine on the first command of bundle j and the engine before its instruction, an event in which it pauses
+-- the machine is on the first command of bundle j, the engine before that instruction, an event at which it pauses
 module _ (lay : Layout) (code : List ℕ) (room : ℕ) (c : MachineSession) (n : Session) (g h : RunInput) (j v : ℕ) (w : Ending)
     (z : rewriteAnswer lay code room .number ≡ 0) (top : lay .base + bundleLength * bundlesFor (length code) ≤ 2 ^ 32)
     (l : j < bundlesFor (length code)) (e : routine code j ≡ EVENT v) (pc : c .machine .pc ≡ addressOf lay j + 0) (run : c .machine .status ≡ Running) (regs : length (c .machine .regs) ≡ registers)

@@ -1,4 +1,4 @@
--- Each effect applied, in plain variables.
+-- Laws of applying each effect, over plain variables.
 use Prim.Native.Nat.{ℕ, _+_}
 use mathlib.Core.Path.{_≡_}
 use mathlib.Core.List.{List}

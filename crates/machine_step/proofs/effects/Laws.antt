@@ -1,4 +1,4 @@
--- Laws of words and fetching that the functions' proofs cite.
+-- Laws of words and fetching, cited by the proofs of functions.
 use Prim.Native.Nat.{ℕ, _+_, _-_, _*_, _%_, _^_, _≤_, _<_}
 use mathlib.Core.Path.{_≡_, refl, sym, _∙_, ap, subst}
 use mathlib.Core.Bool.{Bool, true, false, _&&_, cond}
@@ -23,7 +23,7 @@ use Rattle.words.proofs.Laws.{named-in}
 use Rattle.machine_step.specs.effects.CommandFields.{FieldsInRange}
 use Rattle.machine_step.specs.view.Views.{effectAt}
 
--- the command of a word is sound
+-- the fields of every decoded command are in range
 pub sound-command : (w : ℕ) → w < 2 ^ 64 → FieldsInRange (commandOf w)
 unfolding commandOf FieldsInRange
 sound-command w l =
@@ -46,7 +46,7 @@ sound-command w l =
     (λ _. cond-ind FieldsInRange (eqb (kindOf w) (command .event)) (λ _. v) (λ _. tt))))))))))))
     (λ _. tt)
 
--- a word's effect is its command's
+-- the effect of a word is that of its command
 pub decoded : (w : ℕ) (c : Command) (s : View) (r : Effect) → c ≡ commandOf w → r ≡ effectOf c s → r ≡ effectOf (commandOf w) s
 decoded w c s r e q = q ∙ ap (λ (x : Command). effectOf x s) e
 
@@ -119,7 +119,7 @@ module _ (c : Command) (s : FieldsInRange c) where
 pub word-fits : (v : ℕ) → v ≤ topWord → Held w32 v
 word-fits v h = record { fits = omega arith }
 
--- a kind that is not plain puts nothing of its own
+-- for a kind that is not plain the value is 0
 pub other-kind : (k x y v : ℕ) → (k ≡ command .set → ⊥) → (k ≡ command .move → ⊥) → (k ≡ command .add → ⊥) → (k ≡ command .sub → ⊥) → (k ≡ command .and → ⊥)
     → (k ≡ command .or → ⊥) → (k ≡ command .sar → ⊥) → (k ≡ command .andi → ⊥) → (k ≡ command .ori → ⊥) → (k ≡ command .shl → ⊥)
     → 0 ≡ plainOf k x y v
@@ -191,7 +191,7 @@ module _ (view : View) (c : Command) where
   unfolding effectOf
   does-event v r e q = rw (q, e)
 
--- the place of pc in the list, at 64 bits: a pc below the base lies past any list
+-- the index of pc in the list, in 64 bits: for a pc below the base it is past any list
 fetch-in : (ws : List ℕ) (base pc at : ℕ) → (at + base) % 2 ^ 64 ≡ pc → base < 2 ^ 32 → pc < 2 ^ 32 → length ws < 2 ^ 63 → at < length ws
     → fetchOf ws base pc ≡ commandOf (getD ws at 0)
 unfolding fetchOf
@@ -209,7 +209,7 @@ fetch-out ws base pc at e b p n h = go (leb base pc) refl
     go true q = let i : base ≤ pc = leb-true base pc q in let j : pc - base ≡ at = omega arith in rw (j, le-ltb _ _ h)
     go false q = refl
 
--- the effect of the word at pc: `at` is its place in the list
+-- the effect of the word at pc; `at` is its index in the list
 module _ (ws : List ℕ) (s : View) (at : ℕ) (is : (at + s .base) % 2 ^ 64 ≡ s .pc) (base : s .base < 2 ^ 32) (pc : s .pc < 2 ^ 32) where
   pub in-list : (r : Effect) → length ws < 2 ^ 63 → at < length ws → r ≡ effectOf (commandOf (getD ws at 0)) s → r ≡ effectAt ws s
   in-list r n h e = e ∙ ap (λ (c : Command). effectOf c s) (sym (fetch-in ws (s .base) (s .pc) at is base pc n h))

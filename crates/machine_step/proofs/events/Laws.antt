@@ -1,4 +1,4 @@
--- What a LOOK does, branch by branch.
+-- The effect of LOOK, branch by branch.
 use Prim.Native.Nat.{ℕ, _≤_, _<_}
 use mathlib.Core.Path.{_≡_}
 use mathlib.Core.List.{List}

@@ -7,11 +7,11 @@ use Rattle.engine_step.proofs.effects.Laws.{halts, sets, moves, adds, s
 use Rattle.engine_step.proofs.effects.instruction_effect.Statement.{statement}
 use Rattle.engine_step.proofs.effects.instruction_effect.Tie as tie
 
--- ---- what the calls ask for
+-- ---- what the calls require
 in-memory : tie.Need-read-cell-requires
 in-memory c κs = search (in-box, needs)
 
--- ---- each kind does what its instruction says
+-- ---- the effect of each kind is its instruction's
 halts-so : tie.Need-returns
 halts-so c = search (halts, needs)
 
