@@ -114,7 +114,7 @@ enum hemdroas_ending {
     HEMDROAS_ENDING_NO_ARROW = 21,     /* the policy stopped the routine: the event was not allowed */
     HEMDROAS_ENDING_FAULT = 22,        /* bad address or bad command; checked commands never fault if you change only free cells */
     HEMDROAS_ENDING_LOG_FULL = 23,     /* pause: run again with an empty log */
-    HEMDROAS_ENDING_PROBE_SILENT = 24, /* pause: run again with new readings; answered even if the log is full too */
+    HEMDROAS_ENDING_PROBE_SILENT = 24, /* pause: run again with new readings; tested before log full (23) */
     HEMDROAS_ENDING_SPENT = 25,        /* pause: run again with a new budget */
     HEMDROAS_ENDING_NO_LANDING = 26    /* stopped: a GOX to an instruction that is no landing */
 };
