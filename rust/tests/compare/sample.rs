@@ -45,6 +45,6 @@ fn the_sample_of_the_rules() {
         &mut log,
     );
     assert_eq!(answer, expected);
-    assert_eq!((answer, machine), ahead);
+    assert_eq!((answer, machine, memory.to_vec()), ahead);
     assert_eq!((log[..4].to_vec(), memory[0]), (vec![0, 70, 2, 70], 1));
 }
