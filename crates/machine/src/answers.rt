@@ -5,7 +5,6 @@ use types::Machine;
 use types::Outcome;
 use types::RunAnswer;
 ghost use mathlib.Core.Path.{_≡_};
-ghost use Rattle.spec.specs.Machines.{endingOf};
 ghost use Rattle.types.specs.Records.{machineOf, outcomeOf};
 
 // The outcome of a run that ends or pauses at point `at`.
@@ -22,13 +21,4 @@ pub fn finish(regs: [u32; Machine::REGISTERS], at: Point, ending: Ending, steps:
             used: at.used,
         },
     }
-}
-
-// The outcome of a run that did not pause. Its status decides the ending.
-pub fn finish_unpaused(regs: [u32; Machine::REGISTERS], at: Point, steps: u32) -> Outcome
-    ensures { λ r. ⌜ r ≡ outcomeOf (machineOf regs (at .pc) (at .status)) (endingOf (at .status)) steps (at .pairs) (at .used) ⌝ }
-{
-    let status = at.status;
-    let end = machine_step::endings::ending_of(status);
-    finish(regs, at, end, steps)
 }

@@ -1,5 +1,6 @@
 // The program point of a run: pc, status, and how many pairs and readings it has so far. The engine uses it too, with its index as pc.
 use types::Bundle;
+use types::Ending;
 use types::Status;
 ghost use mathlib.Core.Path.{_≡_};
 ghost use Prim.Native.Nat.{_+_, _<_, _^_};
@@ -16,6 +17,14 @@ pub struct Point {
     pub status: Status,
     pub pairs: usize,
     pub used: usize,
+}
+
+// What a loop of steps leaves: the point where the run is, its ending, and how many steps it has taken. As long as the run goes on, the ending is
+// spent.
+pub struct LoopExit {
+    pub at: Point,
+    pub ending: Ending,
+    pub steps: u32,
 }
 
 pub fn next_pc(mut at: Point) -> Point
