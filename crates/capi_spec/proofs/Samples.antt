@@ -21,7 +21,7 @@ use Rattle.spec.proofs.Bools.{no}
 use Rattle.capi_spec.specs.Numbers.{layoutFrom}
 use Rattle.capi_spec.specs.Hosts.{checkFor, installFor, loadFor, runFor}
 use Rattle.capi_spec.specs.Claims.{callsOf, installed, loaded}
-use Rattle.capi_spec.specs.Sample.{layout, bytes, lot, left, SampleHolds}
+use Rattle.capi_spec.specs.Sample.{layout, bytes, firstLoad, left, SampleHolds}
 
 -- storing to a free cell gives a low-equivalent memory
 pub free-set : (mem : List ℕ) (i x : ℕ) → (inBox (layoutFrom layout) i || protected (layoutFrom layout) i) ≡ false → LowEqual (layoutFrom layout) (set mem i x) mem
@@ -37,7 +37,7 @@ sample-holds =
     record {
       loaded = refl;
       ready = loaded bytes (replicate 40 0) refl;
-      preserved = λ x. (λ l. free-set (lot .memory) 9 x refl, (λ l. absurd (let z : _≡_ {A = ℕ} 0 128 = l in omega arith), (λ l. free-set (left x) 8 x refl, tt)));
+      preserved = λ x. (λ l. free-set (firstLoad .memory) 9 x refl, (λ l. absurd (let z : _≡_ {A = ℕ} 0 128 = l in omega arith), (λ l. free-set (left x) 8 x refl, tt)));
       alike = λ x y. (
         record { readings = refl; budget = refl; log = refl; memory = refl },
         (record { readings = refl; budget = refl; log = refl; memory = refl }, (record { readings = refl; budget = refl; log = refl; memory = refl }, tt)),

@@ -27,8 +27,8 @@ other = policyOf 2 1 (replicate 32 0) (3 ∷ [])
 abbrev pub bytes : List ℕ
 bytes = 4 ∷ 0 ∷ 33 ∷ 1 ∷ 70 ∷ 0 ∷ 0 ∷ 0 ∷ 1 ∷ 12 ∷ 33 ∷ 12 ∷ 2 ∷ 0 ∷ 0 ∷ 0 ∷ 1 ∷ 12 ∷ []
 
-abbrev pub lot : HostLoaded
-lot = loadFor layout policy bytes (replicate 40 0) (replicate 128 0)
+abbrev pub firstLoad : HostLoaded
+firstLoad = loadFor layout policy bytes (replicate 40 0) (replicate 128 0)
 
 abbrev pub runInput : List ℕ → ℕ → RunInput
 runInput mem budget = record { memory = mem; budget = budget; readings = []; log = replicate 8 0 }
@@ -36,27 +36,27 @@ runInput mem budget = record { memory = mem; budget = budget; readings = []; log
 -- the session before the first call; then three calls: six steps after the host wrote x to free cell 9; a memory too short;
 -- a thousand steps after it wrote x to free cell 8
 abbrev pub firstSession : Session
-firstSession = sessionOf (machineFrom (lot .machine)) (lot .memory) [] [] 0
+firstSession = sessionOf (machineFrom (firstLoad .machine)) (firstLoad .memory) [] [] 0
 
 abbrev pub firstCall : ℕ → RunInput
-firstCall x = runInput (set (lot .memory) 9 x) 6
+firstCall x = runInput (set (firstLoad .memory) 9 x) 6
 
 abbrev pub left : ℕ → List ℕ
-left x = afterRun (layoutFrom layout) (counted lot) firstSession (firstCall x) .memory
+left x = afterRun (layoutFrom layout) (counted firstLoad) firstSession (firstCall x) .memory
 
 abbrev pub calls : ℕ → List RunInput
 calls x = firstCall x ∷ runInput [] 6 ∷ runInput (set (left x) 8 x) 1000 ∷ []
 
--- the next lot: the other policy, installed in the memory that the first call left
+-- the other policy, installed in the memory that the first call left
 abbrev pub next : ℕ → HostInstalled
 next x = installFor layout other (left x)
 
 -- for every x; so two lists with x and y satisfy the premise of HostNoninterference
 pub record SampleHolds : Type 0 where
-  pub loaded : lot .answer ≡ 0 ∷ 32 ∷ []
-  pub ready : Prepared layout policy (replicate 128 0) (counted lot) (lot .machine) (lot .memory)
-  pub preserved : (x : ℕ) → CallsPreserved layout (counted lot) (lot .machine) (lot .memory) (calls x)
+  pub loaded : firstLoad .answer ≡ 0 ∷ 32 ∷ []
+  pub ready : Prepared layout policy (replicate 128 0) (counted firstLoad) (firstLoad .machine) (firstLoad .memory)
+  pub preserved : (x : ℕ) → CallsPreserved layout (counted firstLoad) (firstLoad .machine) (firstLoad .memory) (calls x)
   pub alike : (x y : ℕ) → Pairwise SameInputs (calls x) (calls y)
-  pub answers : (x : ℕ) → map (λ r. r .answer) (callsOf (runCall layout (counted lot)) (lot .machine) (calls x)) ≡ (25 ∷ 6 ∷ 0 ∷ 0 ∷ []) ∷ (7 ∷ 0 ∷ 0 ∷ 0 ∷ []) ∷ (21 ∷ 8 ∷ 2 ∷ 0 ∷ []) ∷ []
-  pub again : (x : ℕ) → Prepared layout other (left x) (counted lot) (next x .machine) (next x .memory)
-  pub ended : (x : ℕ) → map (λ r. r .answer) (callsOf (runCall layout (counted lot)) (next x .machine) (runInput (next x .memory) 1000 ∷ [])) ≡ (20 ∷ 17 ∷ 3 ∷ 0 ∷ []) ∷ []
+  pub answers : (x : ℕ) → map (λ r. r .answer) (callsOf (runCall layout (counted firstLoad)) (firstLoad .machine) (calls x)) ≡ (25 ∷ 6 ∷ 0 ∷ 0 ∷ []) ∷ (7 ∷ 0 ∷ 0 ∷ 0 ∷ []) ∷ (21 ∷ 8 ∷ 2 ∷ 0 ∷ []) ∷ []
+  pub again : (x : ℕ) → Prepared layout other (left x) (counted firstLoad) (next x .machine) (next x .memory)
+  pub ended : (x : ℕ) → map (λ r. r .answer) (callsOf (runCall layout (counted firstLoad)) (next x .machine) (runInput (next x .memory) 1000 ∷ [])) ≡ (20 ∷ 17 ∷ 3 ∷ 0 ∷ []) ∷ []

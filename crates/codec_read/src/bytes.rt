@@ -5,7 +5,7 @@ ghost use lib.ListN.{length};
 ghost use Rattle.spec.specs.Bytes.{quadAt};
 ghost use Rattle.codec_read.specs.bytes.Pairs.{pairAt};
 
-pub fn wide(x: u8) -> u64
+pub fn widen(x: u8) -> u64
     ensures { λ r. ⌜ (r ≡ x) × (r < 256) ⌝ }
 {
     x as u64
@@ -16,7 +16,7 @@ fn pair(s: &[u8], at: usize) -> u64
     requires { ⌜ at + 2 ≤ length (now s) ⌝ }
     ensures { λ r. ⌜ (r ≡ pairAt (now (s .entry)) at) × (r < 65536) ⌝ }
 {
-    wide(s[at]) + 256 * wide(s[at + 1])
+    widen(s[at]) + 256 * widen(s[at + 1])
 }
 
 // The four bytes of v, low first. If its map bit is 0, the field is absent and its value 0.

@@ -1,6 +1,6 @@
 // Decodes a valid instruction if at least ten bytes are left from its map on. For any other it gives no answer, and the full path decides.
 use crate::bytes::quad;
-use crate::bytes::wide;
+use crate::bytes::widen;
 use types::Decoded;
 use types::Refusal;
 use words::field;
@@ -37,7 +37,7 @@ fn byte_part(s: &[u8], at: usize, bit: usize) -> Part
             zero: false,
         };
     }
-    let value = wide(s[at]);
+    let value = widen(s[at]);
     Part {
         value,
         next: at + 1,
@@ -110,7 +110,7 @@ pub fn read_fast(s: &[u8]) -> Decoded
     requires { ⌜ longest ≤ length (now s) ⌝ }
     ensures { λ r. ⌜ FastAnswer r (now (s .entry)) ⌝ }
 {
-    let m = wide(s[0]) as usize;
+    let m = widen(s[0]) as usize;
     if m > TOP_MAP {
         return Decoded::RefusedWith(NO_ANSWER);
     }

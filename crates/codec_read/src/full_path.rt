@@ -1,6 +1,6 @@
 // Decodes any instruction, or finds its first refusal.
 use crate::bytes::quad;
-use crate::bytes::wide;
+use crate::bytes::widen;
 use crate::map::map_of;
 use crate::map::size_of;
 use types::Decoded;
@@ -22,7 +22,7 @@ fn byte(s: &[u8], at: usize, bit: usize) -> u64
     requires { ⌜ (bit ≤ 1) × (1 ≤ length (now s)) × (at + bit ≤ length (now s)) ⌝ }
     ensures { λ r. ⌜ r ≡ byteAt bit (now (s .entry)) at ⌝ }
 {
-    bit as u64 * wide(s[at * bit])
+    bit as u64 * widen(s[at * bit])
 }
 
 // Reads the fields from b on that the map m announces. The caller has read the others.
@@ -78,7 +78,7 @@ pub fn read_full(s: &[u8]) -> Decoded
     if s.len() == 0 {
         return Decoded::RefusedWith(Refusal::SHORT);
     }
-    let m = wide(s[0]) as usize;
+    let m = widen(s[0]) as usize;
     if m > TOP_MAP {
         return Decoded::RefusedWith(Refusal::FOREIGN);
     }

@@ -78,7 +78,7 @@ machine-holds =
       pausedBegun = refl;
       waiting = record { running = refl; event = 8; third = refl };
       pausedUsed = λ i h. absurd (omega (arith, h));
-      resumable = record { preserved = λ l i s. refl; enough = record { memory = refl; log = lit≤ tt; readings = lit≤ tt }; reading = refl };
+      resumable = record { preserved = λ l i s. refl; resumable = record { memory = refl; log = lit≤ tt; readings = lit≤ tt }; reading = refl };
     }
 
 -- and the engine

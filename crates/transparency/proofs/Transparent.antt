@@ -203,7 +203,7 @@ transparent-step lay pol code mem raw reads room gs x s t g o =
     let y : Sandboxed lay pol code mem raw reads room gs (c .begun) =
     record { taken = x .taken; premise = x .premise; behaved = record { box = b .box; readings = b .readings; behaves = λ j m. b .behaves j (omega arith) } } in
     follows-at lay pol code mem raw reads room gs (c .begun + 1) (c .begun) 0 (omega arith) x (guest-rule lay pol code mem room gs (x .taken) (x .premise) s) g o
-    (transparent-next lay pol code mem raw reads room gs y s t g (o .preserved) (o .enough))
+    (transparent-next lay pol code mem raw reads room gs y s t g (o .preserved) (o .resumable))
 
 -- on the third command no bundle begins
 begins-none : (lay : Layout) (ws : List ℕ) (m : Machine) → Waiting lay ws m → begins lay (m .pc) ≡ 0
@@ -219,7 +219,7 @@ transparent-resumed lay pol code mem raw reads room gs x w g o =
     let e : suc (c .begun - 1) ≡ c .begun = omega (arith, q .begun) in
     let none : c .begun + begins lay (c .machine .pc) ≡ c .begun = omega (arith, begins-none lay ws (c .machine) w) in
     follows-at lay pol code mem raw reads room gs (c .begun) (c .begun - 1) 2 e x (q .simulates) g o
-    (subst (ReachesBoundary lay ws c g) none (resumes lay pol ws mem gs (x .premise) (w .running) g (o .preserved) (o .enough)))
+    (subst (ReachesBoundary lay ws c g) none (resumes lay pol ws mem gs (x .premise) (w .running) g (o .preserved) (o .resumable)))
 
 pub engine-transparent : EngineTransparent
 engine-transparent lay pol code mem raw reads gs v b =

@@ -81,7 +81,7 @@ TransparentNext =
 -- a run's input with the last memory, two log cells and the raw run's next reading
 pub record ResumableAsRaw (lay : Layout) (c : Session) (reads : List ℕ) (g : RunInput) : Type 0 where
   pub preserved : MemoryPreserved lay (c .memory) g
-  pub enough : Resumable lay g
+  pub resumable : Resumable lay g
   pub reading : getD (g .readings) 0 0 ≡ getD reads (length (c .consumed)) 0
 
 -- within four steps the machine is at a boundary with k bundles begun, and agrees with the raw run after k instructions

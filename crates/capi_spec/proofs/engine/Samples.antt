@@ -17,7 +17,7 @@ use Rattle.sandbox_spec.specs.Loading.{translateAnswer, loadAnswer, loadCommand
 use Rattle.capi_spec.specs.Numbers.{layoutFrom}
 use Rattle.capi_spec.specs.Hosts.{checkFor, installFor, loadFor}
 use Rattle.capi_spec.specs.Claims.{callsOf}
-use Rattle.capi_spec.specs.Sample.{bytes, lot}
+use Rattle.capi_spec.specs.Sample.{bytes, firstLoad}
 use Rattle.capi_spec.proofs.Samples.{free-set}
 use Rattle.engine_spec.specs.Engines.{checkedEvent, instrEffect, instrEffectAt, withState, applyEffect, refusalBy, runOf}
 use Rattle.engine_spec.specs.Claims.{runOn, afterTaken, afterRun}
@@ -33,9 +33,9 @@ unfolding ones leadingZeros layoutFrom rightLayout rightPolicy rightLandings inB
     instrEffectAt withState applyEffect refusalBy runOf runOn afterTaken afterRun engineFor callsOf eachRun
 sample-holds =
     record {
-      laid = loaded bytes (replicate 40 0) refl;
+      installedMemory = loaded bytes (replicate 40 0) refl;
       taken = refl;
-      preserved = λ x. (λ l. free-set (lot .memory) 9 x refl, (λ l. absurd (let z : _≡_ {A = ℕ} 0 128 = l in omega arith), (λ l. free-set (left x) 8 x refl, tt)));
+      preserved = λ x. (λ l. free-set (firstLoad .memory) 9 x refl, (λ l. absurd (let z : _≡_ {A = ℕ} 0 128 = l in omega arith), (λ l. free-set (left x) 8 x refl, tt)));
       alike = λ x y. (
         record { readings = refl; budget = refl; log = refl; memory = refl },
         (record { readings = refl; budget = refl; log = refl; memory = refl }, (record { readings = refl; budget = refl; log = refl; memory = refl }, tt)),

@@ -9,7 +9,7 @@ use Rattle.spec.specs.Runs.{RunInput, Pairwise}
 use Rattle.spec.specs.Claims.{SameInputs}
 use Rattle.capi_spec.specs.Numbers.{layoutFrom}
 use Rattle.capi_spec.specs.Claims.{callsOf}
-use Rattle.capi_spec.specs.Sample.{layout, policy, bytes, lot, runInput}
+use Rattle.capi_spec.specs.Sample.{layout, policy, bytes, firstLoad, runInput}
 use Rattle.engine_spec.specs.Engines.{initialEngine, refusalOf}
 use Rattle.engine_spec.specs.Claims.{Session, sessionOf, afterRun}
 use Rattle.capi_spec.specs.engine.Claims.{zeros, engineCall, InstalledMemory, CallsPreserved}
@@ -21,10 +21,10 @@ words = wordsIn bytes
 -- the session before the first call; then three calls: two instructions after the host wrote x to free cell 9; a memory too short;
 -- a thousand after it wrote x to free cell 8
 abbrev pub firstSession : Session
-firstSession = sessionOf initialEngine (lot .memory) [] [] 0
+firstSession = sessionOf initialEngine (firstLoad .memory) [] [] 0
 
 abbrev pub firstCall : ℕ → RunInput
-firstCall x = runInput (set (lot .memory) 9 x) 2
+firstCall x = runInput (set (firstLoad .memory) 9 x) 2
 
 abbrev pub left : ℕ → List ℕ
 left x = afterRun (layoutFrom layout) words firstSession (firstCall x) .memory
@@ -34,8 +34,8 @@ calls x = firstCall x ∷ runInput [] 2 ∷ runInput (set (left x) 8 x) 1000 ∷
 
 -- for every x that the host writes
 pub record SampleHolds : Type 0 where
-  pub laid : InstalledMemory layout policy (replicate 128 0) (lot .memory)
-  pub taken : refusalOf (layoutFrom layout) words (lot .memory) .number ≡ 0
-  pub preserved : (x : ℕ) → CallsPreserved layout words (lot .memory) (calls x)
+  pub installedMemory : InstalledMemory layout policy (replicate 128 0) (firstLoad .memory)
+  pub taken : refusalOf (layoutFrom layout) words (firstLoad .memory) .number ≡ 0
+  pub preserved : (x : ℕ) → CallsPreserved layout words (firstLoad .memory) (calls x)
   pub alike : (x y : ℕ) → Pairwise SameInputs (calls x) (calls y)
   pub answers : (x : ℕ) → map (λ r. r .answer) (callsOf (engineCall layout words) zeros (calls x)) ≡ (25 ∷ 0 ∷ 2 ∷ 1 ∷ 0 ∷ []) ∷ (7 ∷ 0 ∷ 0 ∷ 0 ∷ 0 ∷ []) ∷ (21 ∷ 0 ∷ 2 ∷ 1 ∷ 0 ∷ []) ∷ []

@@ -222,7 +222,7 @@ module _ (next : ℕ → ℕ → ℕ) (q : ℕ) (ok : Arrows next q) where
             (λ i. indexOf (nodes next q) (m .node i))
             (λ i h. omega (arith, below i h))
             (λ i j h k e. m .apart i j h k (sym (place-at (nodes next q) (m .node i) (below i h)) ∙ ap (λ (x : ℕ). getD (nodes next q) x 0) e ∙ place-at (nodes next q) (m .node j) (below j k)));
-        enough = λ t more. rests (events * mostStates) more (omega (arith, leb-true (statesOf next q) mostStates t));
+        fixpoint = λ t more. rests (events * mostStates) more (omega (arith, leb-true (statesOf next q) mostStates t));
       }
 
 pub nodes-exact : NodesExact

@@ -41,7 +41,7 @@ pub record Exactly (next : ℕ → ℕ → ℕ) (q : ℕ) : Type 0 where
   pub many : nodesFit next q ≡ false → MoreThan mostStates next q
   pub not-many : nodesFit next q ≡ true → MoreThan mostStates next q → ⊥
   -- following more arrows would find no other node
-  pub enough : nodesFit next q ≡ true → (more : ℕ) → reachedBy next q (events * mostStates + more) ≡ nodes next q
+  pub fixpoint : nodesFit next q ≡ true → (more : ℕ) → reachedBy next q (events * mostStates + more) ≡ nodes next q
 
 abbrev pub NodesExact : Type 0
 NodesExact = (next : ℕ → ℕ → ℕ) (q : ℕ) → Arrows next q → Exactly next q
