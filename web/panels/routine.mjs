@@ -8,7 +8,7 @@ import { byId, h, reveal, sign, spoken } from "./dom.mjs";
 import { drawJumps } from "./jumps.mjs";
 
 const PC = offsetOf("machine", "pc");
-const LINE = /^(\s*(?:landing\b\s*)?(?:[^\s:#]+:\s*)*)([^#]*)(#.*)?$/i; // marks and labels, instruction, comment
+const LINE = /^(\s*(?:landing\b\s*)?(?:[^\s:#]+:\s*)*)([^#]*)(#.*)?$/is; // marks and labels, instruction, comment
 const INDENT = 2;
 const REVEAL_MARGIN = 70;
 
@@ -18,7 +18,7 @@ const narrowed = (text) => text.replace(/ {2,}/g, "  ");
 /** A line with its label, name, operands and comment marked. */
 function coloured(text) {
   const [, label, code, comment] = narrowed(text).match(LINE);
-  const [, space, name, rest] = code.match(/^(\s*)(\S*)(.*?)\s*$/);
+  const [, space, name, rest] = code.match(/^(\s*)(\S*)(.*?)\s*$/s);
   const isIndent = label.trim() === "";
   const start = isIndent ? " ".repeat(Math.min(INDENT, (label + space).length)) : [h("span", { class: "label" }, label.trim()), " "];
   const note = comment ? h("span", { class: name ? "comment beside" : "comment" }, comment) : null;

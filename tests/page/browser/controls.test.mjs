@@ -433,3 +433,9 @@ test("colours are switched", async () => {
   await page.click("#theme");
   assert.equal(await back(), light);
 });
+test("a comment may have every character that the assembler takes", async () => {
+  await openRoutine("odd", "SET r1, 2 # one line\u2028for it, two for a browser\nHALT\n");
+  assert.equal(await page.run("document.getElementById('loud').hidden"), true);
+  assert.match(await said(".line .comment"), /two for a browser/);
+});
+
