@@ -99,8 +99,9 @@ export function updateNow(app) {
   byId("now").replaceChildren(...whatWasDone(app));
   const pause = byId("pause");
   pause.hidden = session.at !== session.last;
-  if (pause.hidden || (pause.contains(document.activeElement) && pause.dataset.frames === String(frames.length))) return;
-  pause.dataset.frames = frames.length;
+  const isSame = app.pausedIn === session.trace;
+  if (pause.hidden || (isSame && pause.contains(document.activeElement))) return;
+  app.pausedIn = session.trace;
   pause.className = toneOf(ending);
   const event = eventName(app.page, session.wordOrHalt(frames.at(-1).index).v);
   pause.replaceChildren(h("div", {}, OFFERS[ending](app, event)), summary(session));

@@ -180,6 +180,17 @@ test("a full log is emptied, and a spent budget raised", async () => {
 
 test("what is done at a pause by key keeps the focus on the page", async () => {
   const focus = () => page.run("document.activeElement.id");
+test("a budget that was spent where the probe is silent: once it is raised, a reading is asked for", async () => {
+  await openRoutine("silent", "EVENT bean\nHALT\n", { more: ["--budget", "2"] });
+  await page.key("End");
+  assert.match(await said("#pause"), /The budget is spent\. 2 commands done\./);
+  await page.click("#pause button.main");
+  await isIdle();
+  await page.settle();
+  assert.match(await said("#pause"), /The probe is silent\. bean waits for a reading\./);
+  assert.equal(await page.run("document.activeElement.id"), "next-reading");
+});
+
   const press = async () => {
     await page.run("document.activeElement.blur()");
     await page.key("End");
