@@ -98,19 +98,24 @@ class App {
     if (!found) byId("now").append(h("p", { class: "hint" }, "From here on, no breakpoint is reached."));
   }
 
-  /** Changes what the run is given, and runs it again from the installation. Then the page stays, takes a step or goes to the end. */
-  async give(news, then = "stay") {
-    this.stop();
-    const wasAsked = byId("pause").contains(document.activeElement);
-    Object.assign(this.session.given, news);
+  /** Runs the routine from the installation, with a bar that moves. False if a newer run took over. */
+  async run() {
     const bar = byId("bar");
     const isDone = await this.session.run((done, most) => {
       bar.hidden = false;
       bar.querySelector("progress").value = done / most;
       bar.querySelector("span").textContent = `${plural(done, "command")} of at most ${most} done`;
     });
-    if (!isDone) return;
-    bar.hidden = true;
+    if (isDone) bar.hidden = true;
+    return isDone;
+  }
+
+  /** Changes what the run is given, and runs it again. Then the page stays, takes a step or goes to the end. */
+  async give(news, then = "stay") {
+    this.stop();
+    const wasAsked = byId("pause").contains(document.activeElement);
+    Object.assign(this.session.given, news);
+    if (!(await this.run())) return;
     if (then === "step") this.session.step();
     if (then === "end") this.session.go(this.session.last);
     this.show();
@@ -148,8 +153,9 @@ async function start() {
   const session = new Session(lib, readPage(byId("data").textContent));
   const app = new App(session);
   introduce(session);
+  await app.run(); // before the first control can be used
   for (const build of BUILDS) build(app);
-  await app.give({});
+  app.show();
   chooseAddress(app);
   await runUnmasked(app);
   document.body.classList.add("ready");

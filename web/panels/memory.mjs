@@ -51,7 +51,7 @@ export function buildMemory(app) {
   const label = ({ name, cell }) => h("span", { class: "name" }, h("b", {}, name), h("small", {}, `cell ${cell}`));
   byId("named").append(...page.free.map((named) => writeForm(app, named.cell, `free-${named.cell}`, label(named))));
   buildPicker(app);
-  new ResizeObserver(() => app.session.trace && drawMap(app)).observe(byId("map").parentElement);
+  new ResizeObserver(() => drawMap(app)).observe(byId("map").parentElement);
 }
 
 /** What the chosen cell holds, in both memories. */

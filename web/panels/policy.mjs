@@ -34,7 +34,7 @@ export function buildPolicy(app) {
   const states = leftOut + order.length;
   if (leftOut) byId("drawing").after(h("p", { class: "hint" }, `${leftOut} of ${states} states are left out: no events lead to them.`));
   byId("ceilings").textContent = ceilingsText(page, session.facts);
-  new ResizeObserver(() => session.trace && byId("drawing").clientWidth !== app.drawnIn && updatePolicy(app)).observe(byId("drawing"));
+  new ResizeObserver(() => byId("drawing").clientWidth !== app.drawnIn && updatePolicy(app)).observe(byId("drawing"));
   byId("arrows").append(...arrowTexts(page, app.policy));
 }
 

@@ -6,7 +6,7 @@ import { swatch } from "./marks.mjs";
 import { drawPlot } from "./plot.mjs";
 
 export function buildRecord(app) {
-  new ResizeObserver(() => app.session.trace && drawPlot(app)).observe(byId("plot"));
+  new ResizeObserver(() => drawPlot(app)).observe(byId("plot"));
 }
 
 function pairRow({ page, session, format }, pair, number) {

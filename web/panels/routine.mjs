@@ -118,7 +118,7 @@ export function buildRoutine(app) {
   });
   list.append(behindRow(app));
   byId("to-breakpoint").addEventListener("click", () => app.runToBreakpoint());
-  new ResizeObserver(() => app.session.trace && drawJumps(app)).observe(list);
+  new ResizeObserver(() => drawJumps(app)).observe(list);
 }
 
 function markRow({ session, rows }, row) {
