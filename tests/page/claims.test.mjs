@@ -328,7 +328,7 @@ test("names that are too long lose their middle", () => {
 test("a field's text is read, or a sentence says what is wrong with it", () => {
   assert.deepEqual(readNumbers("1500, 0x10 -1;7"), { values: [1500, 16, 4294967295, 7] });
   assert.match(readNumbers("1500 hot").problem, /“hot” is no number/);
-  assert.match(readNumbers("4294967296").problem, /more than 32 bits/);
+  for (const number of ["4294967296", "-2147483649"]) assert.match(readNumbers(number).problem, /^−?\d+ has more than 32 bits\. Write a number from −2147483648 to 4294967295\.$/);
   assert.deepEqual(readNumber("12", 12), { value: 12 });
   assert.match(readNumber("13", 12).problem, /up to 12/);
   assert.match(readNumber("-1", 12).problem, /^−1 is below 0\. Write a number from 0 to 12\.$/);

@@ -25,7 +25,8 @@ function readWord(word, scale) {
   if (decimals.length > placesOf(scale)) return { problem: `${word} has too many decimals: ${plural(placesOf(scale), "place")} at most.` };
   const number = RAW.test(word) ? Number(word) : Math.round(Number(word) * scale);
   if (scale !== 1 && !RAW.test(word) && number > HIGHEST_SIGNED) return { problem: `${word} is too much. Write a number up to ${HIGHEST_SIGNED / scale}.` };
-  if (number < LOWEST || number >= ABOVE_ALL) return { problem: `${word} has more than 32 bits. Write a smaller number.` };
+  const range = `Write a number from ${FORMATS.signed(LOWEST)} to ${ABOVE_ALL - 1}.`;
+  if (number < LOWEST || number >= ABOVE_ALL) return { problem: `${word.replace("-", MINUS)} has more than 32 bits. ${range}` };
   return { value: number >>> 0 };
 }
 

@@ -39,6 +39,16 @@ export function complain(input, problem) {
   input.closest("label, .field").after(said);
 }
 
+/** Shows in a field what holds, unless the viewer writes in it or what was written is not right. */
+export function fill(field, text) {
+  if (field !== document.activeElement && field.getAttribute("aria-invalid") !== "true") field.value = text;
+}
+
+/** Whether a screen reader says what changes in a region: only what the viewer just asked for, in these controls. */
+export function speakIfAsked(region, controls) {
+  region.setAttribute("aria-live", controls.contains(document.activeElement) ? "polite" : "off");
+}
+
 /** A button that is of no use now keeps the focus, so it is not disabled: it says so, and does nothing. */
 export const setUsable = (button, isUsable) => button.setAttribute("aria-disabled", String(!isUsable));
 export const ifUsable = (act) => (pressed) => pressed.currentTarget.getAttribute("aria-disabled") !== "true" && act(pressed);

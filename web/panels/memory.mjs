@@ -1,7 +1,7 @@
 // The whole memory: the map, what the regions are, and the free cells, which the viewer may write at any moment.
 import { FORMATS, readNumber } from "../model/numbers.mjs";
 import { cellName, stateName } from "../model/names.mjs";
-import { byId, complain, h, svg } from "./dom.mjs";
+import { byId, complain, fill, h, spoken, svg } from "./dom.mjs";
 import { cellAt, changedCells, drawMap } from "./map.mjs";
 import { REGIONS, rangesOf, regionWord } from "./regions.mjs";
 
@@ -29,6 +29,7 @@ function select(app, cell) {
   const { cells } = app.session.facts.shape;
   app.selected = Math.max(0, Math.min(cells - 1, cell));
   byId("pick").value = app.selected;
+  complain(byId("pick"), null);
   app.show();
 }
 
@@ -36,8 +37,8 @@ function buildPicker(app) {
   const { cells } = app.session.facts.shape;
   const choose = (e) => {
     const { value, problem } = readNumber(e.target.value, cells - 1);
-    complain(e.target, problem);
-    if (!problem) select(app, value);
+    if (problem) complain(e.target, problem);
+    else select(app, value);
   };
   const pick = h("input", { id: "pick", inputmode: "numeric", autocomplete: "off", value: app.selected, onchange: choose });
   byId("inspect").append(h("label", { class: "picker" }, "Cell ", pick), h("dl", { id: "inspected" }), h("div", { id: "writer" }));
@@ -99,7 +100,7 @@ export function updateMemory(app) {
   drawMap(app);
   forgetSaid(app);
   for (const field of byId("named").querySelectorAll("input")) {
-    if (field !== document.activeElement) field.value = FORMATS[format](session.now.memory[Number(field.dataset.cell)]);
+    fill(field, FORMATS[format](session.now.memory[Number(field.dataset.cell)]));
   }
   byId("inspected").replaceChildren(...inspect(app));
   updateWriter(app);

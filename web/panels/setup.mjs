@@ -1,7 +1,7 @@
 // What the run is given: readings, budget, log; and the colours.
 import { numbersText, readNumber, readNumbers } from "../model/numbers.mjs";
 import { MOST_BUDGET, MOST_LOG, MOST_READINGS } from "../model/trace.mjs";
-import { byId, complain, ifUsable, setUsable } from "./dom.mjs";
+import { byId, complain, fill, ifUsable, setUsable } from "./dom.mjs";
 
 function readReadings(text, { typed }) {
   const { values, problem } = readNumbers(text, typed.scalesFrom());
@@ -30,10 +30,7 @@ export function buildSetup(app) {
 /** The fields as the run is given them, but for one in which the viewer writes or which is not right. */
 export function updateSetup({ session: { given, typed } }) {
   const texts = { readings: numbersText(given.readings, typed.scalesFrom()), budget: given.budget, log: given.log };
-  for (const [id, text] of Object.entries(texts)) {
-    const field = byId(id);
-    if (field !== document.activeElement && field.getAttribute("aria-invalid") !== "true") field.value = text;
-  }
+  for (const [id, text] of Object.entries(texts)) fill(byId(id), text);
   setUsable(byId("forget"), given.writes.length > 0);
 }
 

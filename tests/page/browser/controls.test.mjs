@@ -241,6 +241,23 @@ test("bad input gets a sentence at its field", async () => {
 
 test("a free cell is written in the middle of a run, and nothing differs", async () => {
   for (let i = 0; i < 10; i++) await page.key("ArrowRight");
+test("a sentence at a field stays as long as what is wrong, and no longer", async () => {
+  const state = (id) => page.run(`[document.getElementById("${id}").value, document.getElementById("${id}").getAttribute("aria-invalid"), document.getElementById("${id}-problem") !== null]`);
+  await page.type("#free-8", "hot");
+  await page.click("#do-step");
+  assert.deepEqual(await state("free-8"), ["hot", "true", true]);
+  await page.type("#free-8", "7");
+  await isIdle();
+  await page.click("#do-step");
+  assert.deepEqual(await state("free-8"), ["7", "false", false]);
+  await page.type("#pick", "5000");
+  await page.run("document.activeElement.blur()");
+  await page.click("#map");
+  const [cell, ...said] = await state("pick");
+  assert.ok(Number(cell) < 1024, cell);
+  assert.deepEqual(said, ["false", false]);
+});
+
   await page.type("#free-8", "123456");
   await page.until("document.getElementById('said').textContent !== ''");
   assert.equal(await said("#said"), "Cell 8 is now 123456. The run was done again from here: no difference.");
