@@ -13,8 +13,8 @@ function regionItem(facts, [name, { title, use }]) {
   return h("li", {}, swatch, h("b", {}, title), " ", h("span", { class: "range" }, rangesOf(facts.region, name)), h("small", {}, use));
 }
 
-/** A form that writes a number to a free cell. */
-function writeForm(app, cell, id, label) {
+/** A form that writes a number to a free cell. `name` is what the cell is called. */
+function writeForm(app, cell, { id, label, name }) {
   const field = h("input", { id, inputmode: "numeric", autocomplete: "off", placeholder: "new value", "data-cell": cell });
   const write = (submitted) => {
     submitted.preventDefault();
@@ -22,7 +22,7 @@ function writeForm(app, cell, id, label) {
     complain(field, problem);
     if (!problem) app.write(cell, value);
   };
-  return h("form", { class: "write", onsubmit: write }, h("label", {}, label, field), h("button", { type: "submit" }, "Write"));
+  return h("form", { class: "write", onsubmit: write }, h("label", {}, label, field), h("button", { type: "submit" }, "Write", spoken(` ${name}`)));
 }
 
 function select(app, cell) {
@@ -49,8 +49,8 @@ export function buildMemory(app) {
   const { page, session: { facts } } = app;
   app.selected = page.free[0]?.cell ?? facts.freeCells[0] ?? 0;
   byId("regions").append(...Object.entries(REGIONS).map((entry) => regionItem(facts, entry)));
-  const label = ({ name, cell }) => h("span", { class: "name" }, h("b", {}, name), h("small", {}, `cell ${cell}`));
-  byId("named").append(...page.free.map((named) => writeForm(app, named.cell, `free-${named.cell}`, label(named))));
+  const label = ({ name, cell }) => h("span", { class: "name" }, h("b", {}, name), " ", h("small", {}, `cell ${cell}`));
+  byId("named").append(...page.free.map((named) => writeForm(app, named.cell, { id: `free-${named.cell}`, label: label(named), name: named.name })));
   buildPicker(app);
   new ResizeObserver(() => drawMap(app)).observe(byId("map").parentElement);
 }
@@ -75,10 +75,10 @@ function updateWriter(app) {
   const box = byId("writer");
   if (box.dataset.cell === String(selected)) return;
   box.dataset.cell = selected;
-  const label = h("span", { class: "spoken" }, `New value of cell ${selected}`);
+  const label = spoken(`New value of cell ${selected}`);
   const isFree = session.facts.region[selected] === "free";
   const reason = h("p", { class: "hint" }, "Only free cells are yours to write: the host must leave the others alone.");
-  box.replaceChildren(isFree ? writeForm(app, selected, "new-value", label) : reason);
+  box.replaceChildren(isFree ? writeForm(app, selected, { id: "new-value", label, name: `cell ${selected}` }) : reason);
 }
 
 function touchedText({ session, format }) {

@@ -4,7 +4,7 @@ import { FORMATS, numbersText, plural, readNumbers, valueText } from "../model/n
 import { eventName, scaleOf } from "../model/names.mjs";
 import { Preview } from "../model/preview.mjs";
 import { MOST_READINGS } from "../model/trace.mjs";
-import { byId, complain, h } from "./dom.mjs";
+import { byId, complain, h, speakIfAsked } from "./dom.mjs";
 import { kindClass, swatch } from "./marks.mjs";
 
 const MOST_PAIRS = 40;
@@ -49,6 +49,7 @@ function foreseen({ page, session, format }, ahead) {
 
 export function updatePreview(app) {
   const field = byId("if");
+  speakIfAsked(byId("foreseen"), field);
   const { values, problem } = readNumbers(field.value, app.session.typed.scalesFrom(app.session.now));
   const tooMany = values?.length > MOST_READINGS ? `Write ${MOST_READINGS} readings at most.` : null;
   complain(field, problem ?? tooMany);

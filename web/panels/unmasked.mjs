@@ -6,7 +6,7 @@ import { cellName, commandLine, instructionText, lineOf, placeText } from "../mo
 import { inSlices } from "../model/slices.mjs";
 import { lendBench, Trace } from "../model/trace.mjs";
 import { AS_WRITTEN, deedsOf, differences, forbiddenTargets, isJumpMask, maskedInstructions, withoutMask } from "../model/unmasked.mjs";
-import { byId, h } from "./dom.mjs";
+import { byId, h, speakIfAsked } from "./dom.mjs";
 
 const MOST_ROWS = 8;
 const WRITTEN = "written";
@@ -164,3 +164,4 @@ export async function runUnmasked(app) {
   if (!(await inSlices(trace.run(), isLatest))) return;
   byId("unmasked").replaceChildren(bundleTable(app, bare), checkerText(app, bare), ...outcome(app, trace));
 }
+  speakIfAsked(byId("unmasked"), byId("unmasked-form"));

@@ -16,6 +16,73 @@ after(async () => {
   assert.deepEqual(complaints, []);
 });
 
+/** What a screen reader has of a role: the names, in the page's order. */
+async function namesOf(role) {
+  await page.call("Accessibility.enable");
+  const { nodes } = await page.call("Accessibility.getFullAXTree");
+  return nodes.filter((node) => !node.ignored && node.role?.value === role).map((node) => node.name.value);
+}
+
+test("each button and each field has a name that no other has", async () => {
+  for (const role of ["button", "textbox"]) {
+    const names = await namesOf(role);
+    assert.deepEqual(names.filter((name, i) => names.indexOf(name) !== i), [], role);
+  }
+  assert.ok((await namesOf("button")).includes("Write purge timer"));
+  assert.ok((await namesOf("textbox")).includes("purge timer cell 8"));
+});
+
+/** The live regions in which something changes while `act` is done in the page. */
+const spoken = (act) =>
+  page.run(`(async () => {
+    const heard = new Set();
+    const watch = new MutationObserver((changes) => {
+      for (const { target } of changes) {
+        const region = (target.nodeType === Node.TEXT_NODE ? target.parentElement : target)?.closest("[aria-live], output, [role=status], [role=alert]");
+        if (region && region.getAttribute("aria-live") !== "off" && !region.closest("[hidden]")) heard.add(region.id);
+      }
+    });
+    watch.observe(document.body, { subtree: true, childList: true, characterData: true });
+    ${act};
+    await new Promise((done) => setTimeout(done, 300));
+    return [...heard].sort();
+  })()`);
+
+const TYPE_AHEAD = 'const field = document.getElementById("if"); field.focus(); field.value = "1700"; field.dispatchEvent(new Event("input"))';
+const GIVE = 'const field = document.getElementById("readings"); field.focus(); field.value = "1500"; field.dispatchEvent(new Event("change"))';
+const UNMASK = 'const field = document.getElementById("mask-of"); field.focus(); field.selectedIndex = 1; field.dispatchEvent(new Event("change"))';
+
+test("a screen reader hears what was asked for, and not each panel at each step", async () => {
+  assert.deepEqual(await spoken('document.getElementById("do-step").click()'), ["now", "where"]);
+  assert.deepEqual(await spoken(TYPE_AHEAD), ["foreseen"]);
+  assert.deepEqual(await spoken(GIVE), ["now", "where"]);
+  assert.deepEqual(await spoken(UNMASK), ["unmasked"]);
+});
+
+test("a moving bar is a progress bar, and not spoken at each move", async () => {
+  assert.equal(await page.run("document.getElementById('bar').closest('[role=status], [aria-live]')"), null);
+  assert.equal(await page.run("document.querySelector('#bar progress').getAttribute('aria-label')"), "Commands done");
+});
+
+/** The colours of an element's part, as they are drawn. */
+const backOf = (css, part) => page.run(`getComputedStyle(document.querySelector(${JSON.stringify(css)}), ${JSON.stringify(part)}).backgroundColor`);
+
+test("in colours that the viewer forces: the switch, a breakpoint and the chosen form of numbers can be seen", async () => {
+  await page.call("Emulation.setEmulatedMedia", { features: [{ name: "forced-colors", value: "active" }] });
+  assert.notEqual(await backOf(".switch .track", "::after"), await backOf(".switch .track", null));
+  const empty = await backOf(".stop", "::before");
+  await page.click(".stop");
+  assert.notEqual(await backOf(".stop", "::before"), empty);
+  assert.notEqual(await backOf("#formats input:checked + span", null), await backOf("#formats input:not(:checked) + span", null));
+});
+
+test("regions of the map differ by pattern, not by colour alone", async () => {
+  const fills = await page.run("Object.fromEntries(['sandbox', 'state', 'table', 'landings', 'free'].map((name) => [name, getComputedStyle(document.querySelector('#map .region.' + name)).fill]))");
+  const patterned = ["sandbox", "table", "landings"].map((name) => fills[name]);
+  assert.ok(patterned.every((fill) => fill.startsWith("url(")), JSON.stringify(fills));
+  assert.equal(new Set(patterned).size, patterned.length);
+});
+
 const LOOP = "loop: ADD r1, r1, r2\n STORE r3, r1\n GOIF r0, r0, always, loop\n";
 
 /** Presses what there is, again and again, until the page is ready. */
