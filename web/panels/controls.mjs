@@ -15,26 +15,28 @@ const BUTTONS = [
   ["reset", "Reset", "Home"],
   ["back", "Back", "left arrow"],
   ["step", "Step", "right arrow"],
-  ["event", "Next event", "E"],
+  ["event", "Next event", "shift and right arrow"],
   ["play", "Run", "space"],
   ["end", "End", "End"],
 ];
 
-const KEYS = { ArrowRight: "step", ArrowLeft: "back", Home: "reset", End: "end", e: "event", " ": "play" };
+/** No letters: who speaks to the computer would press them by chance. */
+const KEYS = { ArrowRight: "step", ArrowLeft: "back", Home: "reset", End: "end", " ": "play" };
+const SHIFT_KEYS = { ArrowRight: "event" };
 
 const icon = (name) => svg("svg", { viewBox: "0 0 16 16", class: "icon", "aria-hidden": "true" }, svg("path", { d: ICONS[name] }));
 
 /** Whether a key belongs to what has the focus: text in a field, the slider's arrows, a button's space. */
 function isTaken(key, target) {
   if (target.matches("input:not([type=checkbox], [type=radio], [type=range]), select")) return true;
-  if (target.matches("[type=range]")) return key !== " " && key.toLowerCase() !== "e";
+  if (target.matches("[type=range]")) return key !== " ";
   if (target.matches("[type=radio]") && key.startsWith("Arrow")) return true;
   return key === " " && target.closest("button, summary, input, a") !== null;
 }
 
 function listen(acts) {
   document.addEventListener("keydown", (event) => {
-    const act = KEYS[event.key.length === 1 ? event.key.toLowerCase() : event.key];
+    const act = (event.shiftKey ? SHIFT_KEYS : KEYS)[event.key];
     if (!act || event.altKey || event.ctrlKey || event.metaKey || isTaken(event.key, event.target)) return;
     event.preventDefault();
     acts[act]();

@@ -12,7 +12,7 @@ const READY_MS = 20000;
 const POLL_MS = 50;
 const SHOT_QUALITY = 75;
 const SHIFT = 8;
-const KEY_CODES = { ArrowRight: 39, ArrowLeft: 37, Home: 36, End: 35, " ": 32, Tab: 9, Enter: 13, e: 69 };
+const KEY_CODES = { ArrowRight: 39, ArrowLeft: 37, Home: 36, End: 35, " ": 32, Tab: 9, Enter: 13 };
 
 export const pause = (ms) => new Promise((done) => setTimeout(done, ms));
 
@@ -89,8 +89,8 @@ class Page {
     await this.call("Input.dispatchKeyEvent", { type: "keyUp", ...event });
   }
 
-  shiftTab() {
-    return this.key("Tab", undefined, SHIFT);
+  withShift(key) {
+    return this.key(key, undefined, SHIFT);
   }
 
   /** A click with the mouse on the middle of an element. */

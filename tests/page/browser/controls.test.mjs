@@ -23,11 +23,13 @@ const said = (css) => see(page, text, css);
 const nowLine = () => said(".line.now .number");
 const isIdle = () => page.until("document.getElementById('bar').hidden");
 
-test("keys: right, left, space, home, end, e", async () => {
-  for (const [key, where] of [["End", LAST], ["ArrowLeft", LAST - 1], ["Home", 0], ["ArrowRight", 1], ["e", 6]]) {
+test("keys: right, left, space, home, end, and right with shift", async () => {
+  for (const [key, where] of [["End", LAST], ["ArrowLeft", LAST - 1], ["Home", 0], ["ArrowRight", 1]]) {
     await page.key(key);
     assert.equal(await at(), where, key);
   }
+  await page.withShift("ArrowRight");
+  assert.equal(await at(), 6);
   await page.key(" ");
   await page.until("document.getElementById('do-play').textContent === 'Pause'");
   await page.until("Number(document.getElementById('slider').value) > 7");
@@ -383,9 +385,9 @@ test("a button that becomes unusable keeps the focus, and does nothing", async (
   assert.equal(await page.run("document.getElementById('do-end').getAttribute('aria-disabled')"), "false");
 });
 
-test("E works with Shift too", async () => {
-  await page.key("E");
-  assert.equal(await at(), 6);
+test("no letter is a key of the page: who speaks to the computer would press it by chance", async () => {
+  for (const letter of "abcdefghijklmnopqrstuvwxyz") await page.key(letter);
+  assert.equal(await at(), 0);
 });
 
 test("to the breakpoint, and a sentence where none is reached", async () => {

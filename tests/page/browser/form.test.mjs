@@ -94,7 +94,7 @@ test("what has the focus is not covered by what stays in the window, forwards an
     const count = await page.run("document.querySelectorAll('a, button, input, select, summary, [tabindex]').length");
     const covered = new Set();
     for (let i = 0; i < 2 * count; i++) {
-      await (i < count ? page.key("Tab") : page.shiftTab());
+      await (i < count ? page.key("Tab") : page.withShift("Tab"));
       await page.settle();
       covered.add(await see(page, coveredFocus));
     }
