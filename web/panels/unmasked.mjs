@@ -19,7 +19,9 @@ function chosen({ session }) {
 
 function cellChoices({ page, session: { facts } }) {
   const named = page.free.map(({ cell, name }) => [cell, `${name} (cell ${cell})`]);
-  return named.length || !facts.freeCells.length ? named : [[facts.freeCells[0], `free cell ${facts.freeCells[0]}`]];
+  const first = facts.freeCells.slice(0, 1).map((cell) => [cell, `free cell ${cell}`]);
+  const state = facts.shape.state_cell;
+  return [...(named.length ? named : first), [state, `the policy’s state cell (${state})`]];
 }
 
 function targetChoices({ session: { facts } }) {

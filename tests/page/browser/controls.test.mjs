@@ -180,8 +180,6 @@ test("a full log is emptied, and a spent budget raised", async () => {
   assert.match(await said("#pause .sum"), /^ended \(20\)/);
 });
 
-test("what is done at a pause by key keeps the focus on the page", async () => {
-  const focus = () => page.run("document.activeElement.id");
 test("a budget that was spent where the probe is silent: once it is raised, a reading is asked for", async () => {
   await openRoutine("silent", "EVENT bean\nHALT\n", { more: ["--budget", "2"] });
   await page.key("End");
@@ -193,6 +191,8 @@ test("a budget that was spent where the probe is silent: once it is raised, a re
   assert.equal(await page.run("document.activeElement.id"), "next-reading");
 });
 
+test("what is done at a pause by key keeps the focus on the page", async () => {
+  const focus = () => page.run("document.activeElement.id");
   const press = async () => {
     await page.run("document.activeElement.blur()");
     await page.key("End");
@@ -241,8 +241,6 @@ test("bad input gets a sentence at its field", async () => {
   }
 });
 
-test("a free cell is written in the middle of a run, and nothing differs", async () => {
-  for (let i = 0; i < 10; i++) await page.key("ArrowRight");
 test("a sentence at a field stays as long as what is wrong, and no longer", async () => {
   const state = (id) => page.run(`[document.getElementById("${id}").value, document.getElementById("${id}").getAttribute("aria-invalid"), document.getElementById("${id}-problem") !== null]`);
   await page.type("#free-8", "hot");
@@ -260,6 +258,8 @@ test("a sentence at a field stays as long as what is wrong, and no longer", asyn
   assert.deepEqual(said, ["false", false]);
 });
 
+test("a free cell is written in the middle of a run, and nothing differs", async () => {
+  for (let i = 0; i < 10; i++) await page.key("ArrowRight");
   await page.type("#free-8", "123456");
   await page.until("document.getElementById('said').textContent !== ''");
   assert.equal(await said("#said"), "Cell 8 is now 123456. The run was done again from here: no difference.");
@@ -449,6 +449,20 @@ test("a drum without free cells has no second memory to compare, and says so", a
   assert.equal(await said("#twin"), "This drum has no free cell, so there is no second memory with other free cells.");
 });
 
+test("a comment may have every character that the assembler takes", async () => {
+  await openRoutine("odd", "SET r1, 2 # one line\u2028for it, two for a browser\nHALT\n");
+  assert.equal(await page.run("document.getElementById('loud').hidden"), true);
+  assert.match(await said(".line .comment"), /two for a browser/);
+});
+
+test("without the mask: a drum without free cells leaves another address to choose, the state cell", async () => {
+  const drum = write("full.drum", "U 65\nSL 0\nSH 15\nM 64\nP 16\nS 1\nB 4096\nQ 32\nlandings all\nevent 0 gas\n");
+  const any = write("any.policy", "state any\n  others -> any\nstart any\n");
+  await openRoutine("full", "SET r0, 7\nSTORE r0, r0\n", { files: ["--drum", drum, "--policy", any] });
+  await choose("mask-address", "64");
+  await page.until("document.getElementById('unmasked').textContent.includes('The routine wrote the policy’s state cell')");
+});
+
 test("four digits of a line's number fit", async () => {
   await openRoutine("lines", `${"# a line\n".repeat(1200)}HALT\n`);
   const fits = "[...document.querySelectorAll('.line .number')].every((n) => n.scrollWidth <= n.clientWidth)";
@@ -463,9 +477,3 @@ test("colours are switched", async () => {
   await page.click("#theme");
   assert.equal(await back(), light);
 });
-test("a comment may have every character that the assembler takes", async () => {
-  await openRoutine("odd", "SET r1, 2 # one line\u2028for it, two for a browser\nHALT\n");
-  assert.equal(await page.run("document.getElementById('loud').hidden"), true);
-  assert.match(await said(".line .comment"), /two for a browser/);
-});
-
