@@ -4,7 +4,7 @@ import { execFileSync } from "node:child_process";
 import { readFileSync, readdirSync } from "node:fs";
 import { join } from "node:path";
 import { test } from "node:test";
-import { COUNTS, ENDING, REFUSALS, STATUS, STRUCTS, answerText, offsetOf, sizeOf } from "../../web/library/header.mjs";
+import { COUNTS, ENDING, NO_CEILING, REFUSALS, STATUS, STRUCTS, answerText, offsetOf, sizeOf } from "../../web/library/header.mjs";
 import { ROOT, WASM, folder, write } from "./command.mjs";
 
 const NUMBER_BYTES = 4;
@@ -29,6 +29,7 @@ test("counts, endings and statuses are the header's", () => {
   asInHeader("", COUNTS);
   asInHeader("ENDING_", ENDING);
   asInHeader("STATUS_", STATUS);
+  assert.deepEqual([NO_CEILING], askHeader(["((uint32_t[])HEMDROAS_NO_CEILINGS)[0]"]));
 });
 
 test("refusals and endings have the header's words", () => {

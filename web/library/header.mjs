@@ -9,6 +9,9 @@ export const COUNTS = {
   MOST_COMMANDS: 4096,
 };
 
+/** The ceiling of an order that has none: any number is allowed. */
+export const NO_CEILING = 0xffffffff;
+
 export const REFUSALS = {
   0: "taken",
   1: "short weight",

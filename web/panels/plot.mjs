@@ -1,4 +1,5 @@
 // The plot: readings above, orders below, over the pairs of the whole run; those to come are left blank. Ceilings are lines.
+import { NO_CEILING } from "../library/header.mjs";
 import { eventName, scaleOf } from "../model/names.mjs";
 import { axisText, shownNumber, valueText } from "../model/numbers.mjs";
 import { clipped } from "../model/policy.mjs";
@@ -6,7 +7,6 @@ import { byId, h, svg } from "./dom.mjs";
 import { kindClass, mark, swatch } from "./marks.mjs";
 import { BASELINE } from "./shapes.mjs";
 
-const NO_CEILING = 0xffffffff; // any number
 const NARROWEST = 280;
 const LEAST_LEFT = 54;
 const RIGHT = 16;

@@ -1,5 +1,6 @@
 // The policy: its drawing with the present state lit, the events allowed from here, the ceilings, and all arrows as text. The
 // arrows are what the engine answered for each event in each state.
+import { NO_CEILING } from "../library/header.mjs";
 import { eventName, scaleOf, stateName } from "../model/names.mjs";
 import { valueText } from "../model/numbers.mjs";
 import { policyModel } from "../model/policy.mjs";
@@ -7,7 +8,6 @@ import { drawArcs } from "./arcs.mjs";
 import { drawColumn, fitsColumn } from "./column.mjs";
 import { byId, h, reveal, sign, spoken } from "./dom.mjs";
 
-const NO_CEILING = 0xffffffff; // any number
 const REVEAL_MARGIN = 110;
 
 const eventsWhere = (page, isIt) => [...page.events.keys()].filter(isIt);

@@ -164,6 +164,6 @@ export async function runUnmasked(app) {
   const trace = new Trace(session.lib, bare, { ...session.given }, app.bareBench, { withEngine: false });
   const isLatest = () => turn === app.bareTurn;
   if (!(await inSlices(trace.run(), isLatest))) return;
+  speakIfAsked(byId("unmasked"), byId("unmasked-form"));
   byId("unmasked").replaceChildren(bundleTable(app, bare), checkerText(app, bare), ...outcome(app, trace));
 }
-  speakIfAsked(byId("unmasked"), byId("unmasked-form"));
