@@ -4,7 +4,7 @@ import { countOf } from "./library/words.mjs";
 import { Session } from "./model/session.mjs";
 import { lineOf } from "./model/names.mjs";
 import { readPage } from "./model/page.mjs";
-import { plural } from "./model/numbers.mjs";
+import { FORMATS, plural } from "./model/numbers.mjs";
 import { byId, h } from "./panels/dom.mjs";
 import { updateChecks } from "./panels/checks.mjs";
 import { buildControls, updateControls } from "./panels/controls.mjs";
@@ -128,7 +128,7 @@ class App {
     await this.give({});
     const outcome = this.session.failures.length ? "a difference" : "no difference";
     this.written = { cell, value };
-    byId("said").textContent = `Cell ${cell} is now ${value}. The run was done again from here: ${outcome}.`;
+    byId("said").textContent = `Cell ${cell} is now ${FORMATS[this.format](value)}. The run was done again from here: ${outcome}.`;
   }
 }
 

@@ -271,6 +271,13 @@ test("a free cell is written in the middle of a run, and nothing differs", async
   await isIdle();
 });
 
+test("what is said of a written cell has its number as all others are written", async () => {
+  await page.run("document.querySelector('[value=signed]').click()");
+  await page.type("#free-8", "-5");
+  await page.until("document.getElementById('said').textContent !== ''");
+  assert.match(await said("#said"), /^Cell 8 is now −5\. /);
+});
+
 test("a named cell's name stands on one line", async () => {
   const lines = "[...document.querySelectorAll('#named .name')].map((name) => Math.round(name.getBoundingClientRect().height / parseFloat(getComputedStyle(name).lineHeight)))";
   assert.deepEqual(await page.run(lines), [1, 1, 1]);
