@@ -53,7 +53,7 @@ export function buildControls(app) {
   const button = ([id, text, key]) =>
     h("button", { id: `do-${id}`, type: "button", class: "do", title: `${text} (${key})`, onclick: ifUsable(app.acts[id]) }, icon(id), h("span", {}, text));
   const slide = (e) => app.move(() => app.session.go(Number(e.target.value)));
-  const slider = h("input", { id: "slider", type: "range", min: 0, value: 0, "aria-label": "Step", oninput: slide });
+  const slider = h("input", { id: "slider", type: "range", min: 0, value: 0, "aria-label": "Place in the run", oninput: slide });
   byId("controls").append(
     h("div", { class: "buttons" }, BUTTONS.map(button)),
     h("div", { class: "slide" }, slider, h("output", { id: "where", for: "slider" })),

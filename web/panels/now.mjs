@@ -96,6 +96,8 @@ function toneOf(ending) {
 export function updateNow(app) {
   const { session } = app;
   const { ending, frames } = session.trace;
+  const live = app.isPlaying ? "off" : "polite"; // a run by itself is too quick to be spoken
+  for (const id of ["now", "where"]) byId(id).setAttribute("aria-live", live);
   byId("now").replaceChildren(...whatWasDone(app));
   const pause = byId("pause");
   pause.hidden = session.at !== session.last;

@@ -16,20 +16,14 @@ after(async () => {
   assert.deepEqual(complaints, []);
 });
 
-/** What a screen reader has of a role: the names, in the page's order. */
-async function namesOf(role) {
+const CONTROLS = ["button", "textbox", "slider", "switch", "radio", "combobox", "link"];
+
+test("each control has a name that no other has", async () => {
   await page.call("Accessibility.enable");
   const { nodes } = await page.call("Accessibility.getFullAXTree");
-  return nodes.filter((node) => !node.ignored && node.role?.value === role).map((node) => node.name.value);
-}
-
-test("each button and each field has a name that no other has", async () => {
-  for (const role of ["button", "textbox"]) {
-    const names = await namesOf(role);
-    assert.deepEqual(names.filter((name, i) => names.indexOf(name) !== i), [], role);
-  }
-  assert.ok((await namesOf("button")).includes("Write purge timer"));
-  assert.ok((await namesOf("textbox")).includes("purge timer cell 8"));
+  const names = nodes.filter((node) => !node.ignored && CONTROLS.includes(node.role?.value)).map((node) => node.name.value);
+  assert.deepEqual(names.filter((name, i) => names.indexOf(name) !== i), []);
+  for (const name of ["Write purge timer", "purge timer cell 8"]) assert.ok(names.includes(name), name);
 });
 
 /** The live regions in which something changes while `act` is done in the page. */
@@ -54,6 +48,8 @@ const UNMASK = 'const field = document.getElementById("mask-of"); field.focus();
 
 test("a screen reader hears what was asked for, and not each panel at each step", async () => {
   assert.deepEqual(await spoken('document.getElementById("do-step").click()'), ["now", "where"]);
+  assert.deepEqual(await spoken('document.getElementById("do-play").click()'), []);
+  assert.deepEqual(await spoken('document.getElementById("do-play").click()'), ["now", "where"]);
   assert.deepEqual(await spoken(TYPE_AHEAD), ["foreseen"]);
   assert.deepEqual(await spoken(GIVE), ["now", "where"]);
   assert.deepEqual(await spoken(UNMASK), ["unmasked"]);
