@@ -4,14 +4,12 @@ import { STATUS, answerText } from "../library/header.mjs";
 import { allOk } from "../model/compare.mjs";
 import { FORMATS, plural } from "../model/numbers.mjs";
 import { cellName } from "../model/names.mjs";
-import { byId, h, spoken, tick } from "./dom.mjs";
+import { behindFirst, byId, h, spoken, tableHead, tick } from "./dom.mjs";
 
 const MOST_NAMED = 6;
 const TWIN_ROWS = ["all 16 registers", "next command", "running or not", "sandbox", "state cell", "record"];
 
 const verdict = (ok, yes, no, more) => h("p", { class: `verdict ${ok ? "ok" : "wrong"}` }, ok ? `✓ ${yes}` : `✕ ${no}`, more);
-
-const heads = (...titles) => h("thead", {}, h("tr", {}, titles.map((title, i) => h("th", { scope: "col", class: i ? "num" : "" }, title))));
 
 /** The free cells to show: those with names, those that the viewer wrote, the chosen one. */
 function shownCells({ page, session, selected }) {
@@ -29,7 +27,7 @@ function freeTable(app) {
     h("tr", {}, h("th", { scope: "row" }, cellName(page, cell) ?? `cell ${cell}`), number(now.memory[cell]), number(now.there.memory[cell]));
   const differ = facts.freeCells.filter((cell) => now.memory[cell] !== now.there.memory[cell]).length;
   const foot = `≠ ${differ} of ${facts.freeCells.length} free cells differ`;
-  return h("table", {}, heads("free cells", "this", "the other"), h("tbody", {}, shownCells(app).map(row)),
+  return h("table", {}, tableHead(["free cells", "this", "the other"], behindFirst), h("tbody", {}, shownCells(app).map(row)),
     h("tfoot", {}, h("tr", {}, h("td", { colspan: 3 }, foot))));
 }
 
@@ -68,10 +66,9 @@ function updateAgreement({ session }) {
   const row = ({ what, here, there, ok }) =>
     h("tr", { class: ok ? "" : "wrong" }, h("th", { scope: "row" }, what), h("td", {}, valueText(what, here)),
       h("td", {}, valueText(what, there)), h("td", { class: ok ? "ok" : "wrong" }, tick(ok)));
-  const columns = ["compared", "machine", "engine"].map((title) => h("th", { scope: "col" }, title));
   byId("agree").replaceChildren(
     verdict(allOk(rows), "They agree", "THEY DO NOT AGREE", h("small", {}, `compared ${plural(compared, "time")}${middle}`)),
-    h("table", {}, h("thead", {}, h("tr", {}, columns, h("th", { scope: "col" }, spoken("same?")))), h("tbody", {}, rows.map(row))),
+    h("table", {}, tableHead(["compared", "machine", "engine", spoken("same?")]), h("tbody", {}, rows.map(row))),
   );
 }
 

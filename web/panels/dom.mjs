@@ -22,6 +22,15 @@ export const spoken = (text) => h("span", { class: "spoken" }, text);
 /** A sign that a screen reader does not say. */
 export const sign = (text) => h("span", { "aria-hidden": "true" }, text);
 
+/** The head of a table. `isNumbers` is asked for each column, by its place. */
+export function tableHead(titles, isNumbers = () => false) {
+  const head = (title, i) => h("th", { scope: "col", class: isNumbers(i) ? "num" : null }, title);
+  return h("thead", {}, h("tr", {}, titles.map(head)));
+}
+
+/** For a table whose first column names the numbers of the others. */
+export const behindFirst = (i) => i > 0;
+
 export const tick = (ok) => [sign(ok ? "✓" : "✕"), spoken(ok ? "the same" : "different")];
 
 /** Says at a field what is wrong with it, or, with null, that nothing is. */

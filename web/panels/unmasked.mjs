@@ -6,7 +6,7 @@ import { cellName, commandLine, instructionText, lineOf, placeText } from "../mo
 import { inSlices } from "../model/slices.mjs";
 import { lendBench, Trace } from "../model/trace.mjs";
 import { AS_WRITTEN, deedsOf, differences, forbiddenTargets, isJumpMask, maskedInstructions, withoutMask } from "../model/unmasked.mjs";
-import { byId, h, speakIfAsked } from "./dom.mjs";
+import { behindFirst, byId, h, speakIfAsked, tableHead } from "./dom.mjs";
 
 const MOST_ROWS = 8;
 const WRITTEN = "written";
@@ -84,8 +84,8 @@ function bundleTable({ page, session: { facts } }, bare) {
     return h("tr", { class: isNew ? "changed" : "" }, h("td", {}, String(facts.shape.base + bare.first + i)), h("td", {}, h("code", {}, old)),
       h("td", {}, h("code", {}, isNew ? now : "the same")));
   };
-  const head = ["address", "with the mask", "without"].map((title) => h("th", { scope: "col" }, title));
-  return h("table", {}, h("thead", {}, h("tr", {}, head)), h("tbody", {}, Array.from({ length: facts.bundle }, row)));
+  const rows = Array.from({ length: facts.bundle }, row);
+  return h("table", {}, tableHead(["address", "with the mask", "without"]), h("tbody", {}, rows));
 }
 
 function checkerText(app, { answer }) {
@@ -99,9 +99,8 @@ function checkerText(app, { answer }) {
 function table(titles, rows) {
   if (!rows.length) return [];
   const row = ([what, ...values]) => h("tr", {}, h("th", { scope: "row" }, what), values.map((value) => h("td", { class: "num" }, value)));
-  const head = titles.map((title, i) => h("th", { scope: "col", class: i ? "num" : "" }, title));
   const more = rows.length > MOST_ROWS ? [h("p", { class: "hint" }, `and ${plural(rows.length - MOST_ROWS, "more row")}`)] : [];
-  return [h("table", {}, h("thead", {}, h("tr", {}, head)), h("tbody", {}, rows.slice(0, MOST_ROWS).map(row))), ...more];
+  return [h("table", {}, tableHead(titles, behindFirst), h("tbody", {}, rows.slice(0, MOST_ROWS).map(row))), ...more];
 }
 
 /** The free cells that were changed, and what differs between the memories. */
