@@ -141,6 +141,7 @@ function introduce({ page, facts }) {
 
 /** The library that is packed in this file. */
 async function openPacked() {
+  if (!globalThis.WebAssembly) throw new Error("This browser has no WebAssembly, or it is switched off. Allow it and open the page again.");
   try {
     return await openLibrary(await (await globalThis.unpack("wasm")).arrayBuffer());
   } catch (cause) {

@@ -61,6 +61,15 @@ test("a request to a file beside the page would be noticed", async () => {
   await page.close();
 });
 
+test("a browser in which WebAssembly is switched off is told of, and the library is not blamed", async () => {
+  const page = await browser.page(makePage(ROAST), DESKTOP);
+  await page.call("Page.addScriptToEvaluateOnNewDocument", { source: "delete globalThis.WebAssembly" });
+  await page.call("Page.reload");
+  await page.until("document.getElementById('loud')?.hidden === false");
+  assert.match(await see(page, text, "#loud"), /This browser has no WebAssembly, or it is switched off\./);
+  await page.close();
+});
+
 test("a damaged library is told of", async () => {
   const file = makePage({ ...ROAST, name: "damaged" });
   const spoil = (_, head, packed) => `${head}${packed.slice(0, 400)}AAAA${packed.slice(404)}`;
