@@ -49,20 +49,23 @@ export function agreement(facts, machine, engine) {
   return rows;
 }
 
+const allRegisters = (side) => side.machine.subarray(0, ALL_REGISTERS);
+
+/** What must be the same on two memories. */
+const TWINS = {
+  "all 16 registers": (facts, one, other) => same(allRegisters(one), allRegisters(other)),
+  "next command": (facts, one, other) => one.machine[PC] === other.machine[PC],
+  "running or not": (facts, one, other) => one.machine[STATUS] === other.machine[STATUS],
+  sandbox: (facts, one, other) => same(sandbox(facts, one.memory), sandbox(facts, other.memory)),
+  "state cell": ({ shape }, one, other) => one.memory[shape.state_cell] === other.memory[shape.state_cell],
+  record: (facts, one, other) => same(one.record, other.record),
+};
+
 /** The same commands on two memories. */
-export function twinRows(facts, one, other) {
-  const cell = facts.shape.state_cell;
-  const registers = (side) => side.machine.subarray(0, ALL_REGISTERS);
-  const rows = [
-    ["all 16 registers", same(registers(one), registers(other))],
-    ["next command", one.machine[PC] === other.machine[PC]],
-    ["running or not", one.machine[STATUS] === other.machine[STATUS]],
-    ["sandbox", same(sandbox(facts, one.memory), sandbox(facts, other.memory))],
-    ["state cell", one.memory[cell] === other.memory[cell]],
-    ["record", same(one.record, other.record)],
-  ];
-  return rows.map(([what, ok]) => ({ what, ok }));
-}
+export const twinRows = (...sides) => Object.entries(TWINS).map(([what, isSame]) => ({ what, ok: isSame(...sides) }));
+
+/** The rows of memories that do not differ. */
+export const equalTwins = () => Object.keys(TWINS).map((what) => ({ what, ok: true }));
 
 /** The free cells that are not as their owner wrote them. */
 export const movedCells = (facts, side) => facts.freeCells.filter((cell) => side.memory[cell] !== side.host[cell]);

@@ -1,13 +1,12 @@
 // Two comparisons at every step: the same commands on another memory, and the engine beside the machine. Were one ever to fail,
 // the page says so above all else.
 import { STATUS, answerText } from "../library/header.mjs";
-import { allOk } from "../model/compare.mjs";
+import { allOk, equalTwins } from "../model/compare.mjs";
 import { FORMATS, plural } from "../model/numbers.mjs";
 import { cellName } from "../model/names.mjs";
 import { behindFirst, byId, h, spoken, tableHead, tick } from "./dom.mjs";
 
 const MOST_NAMED = 6;
-const TWIN_ROWS = ["all 16 registers", "next command", "running or not", "sandbox", "state cell", "record"];
 
 const verdict = (ok, yes, no, more) => h("p", { class: `verdict ${ok ? "ok" : "wrong"}` }, ok ? `✓ ${yes}` : `✕ ${no}`, more);
 
@@ -34,7 +33,7 @@ function freeTable(app) {
 function updateTwin(app) {
   const { session } = app;
   const { now, facts } = session;
-  const rows = now.twins ?? TWIN_ROWS.map((what) => ({ what, ok: true }));
+  const rows = now.twins ?? equalTwins();
   const item = ({ what, ok }) => h("li", { class: ok ? "ok" : "wrong" }, tick(ok), " ", what);
   const count = facts.freeCells.length;
   if (!count) {
