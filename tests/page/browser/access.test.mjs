@@ -3,6 +3,8 @@ import assert from "node:assert/strict";
 import { after, before, beforeEach, afterEach, test } from "node:test";
 import { ROAST, makePage, write } from "../command.mjs";
 import { browserName, openBrowser } from "./chromium.mjs";
+import { LEAST_DRAWN, contrast } from "./contrast.mjs";
+import { see } from "./seen.mjs";
 
 const DESKTOP = { width: 1280, height: 900 };
 
@@ -77,6 +79,21 @@ test("regions of the map differ by pattern, not by colour alone", async () => {
   const patterned = ["sandbox", "table", "landings"].map((name) => fills[name]);
   assert.ok(patterned.every((fill) => fill.startsWith("url(")), JSON.stringify(fills));
   assert.equal(new Set(patterned).size, patterned.length);
+});
+
+/** The two colours of each region that tell it from the others: ink and paper. It is run in the page, so it stands alone. */
+function regionColours() {
+  const fill = (css) => getComputedStyle(document.querySelector(css)).fill;
+  const patterns = ["sandbox", "table", "landings"].map((name) => [name, fill(`.${name}-ink`), fill(`.${name}-back`)]);
+  return [...patterns, ["free", getComputedStyle(document.querySelector("#map .region.free")).stroke, fill("#map .region.free")]];
+}
+
+test("the patterns of the map can be seen, in light and dark", async () => {
+  for (const isDark of [false, true]) {
+    await page.run(`document.documentElement.dataset.theme = ${JSON.stringify(isDark ? "dark" : "light")}`);
+    const faint = (await see(page, regionColours)).filter(([, ink, paper]) => contrast(ink, paper) < LEAST_DRAWN);
+    assert.deepEqual(faint, [], isDark ? "dark" : "light");
+  }
 });
 
 const LOOP = "loop: ADD r1, r1, r2\n STORE r3, r1\n GOIF r0, r0, always, loop\n";

@@ -4,6 +4,7 @@ import assert from "node:assert/strict";
 import { after, before, test } from "node:test";
 import { EXAMPLES, ROAST, makePage, write } from "../command.mjs";
 import { browserName, openBrowser } from "./chromium.mjs";
+import { LEAST_DRAWN, contrast, drawnOver } from "./contrast.mjs";
 import { lookAtForm } from "./form.mjs";
 import { see, text } from "./seen.mjs";
 
@@ -120,22 +121,12 @@ test("a policy of 16 states is drawn legibly, at a phone's width too", async () 
   }
 });
 
-/** The lowest contrast of the arrows against the card behind them. It is run in the page, so it stands alone. */
-function arrowContrast() {
-  const numbers = (colour) => colour.match(/[\d.]+/g).map(Number);
-  const channel = (v) => (v / 255 <= 0.03928 ? v / 255 / 12.92 : ((v / 255 + 0.055) / 1.055) ** 2.4);
-  const luminance = ([r, g, b]) => 0.2126 * channel(r) + 0.7152 * channel(g) + 0.0722 * channel(b);
-  const card = numbers(getComputedStyle(document.getElementById("panel-policy")).backgroundColor);
-  const ratio = (path) => {
-    const { stroke, opacity } = getComputedStyle(path);
-    const shown = numbers(stroke).slice(0, 3).map((v, i) => v * opacity + card[i] * (1 - opacity));
-    const [dark, light] = [luminance(shown), luminance(card)].sort((a, b) => a - b);
-    return (light + 0.05) / (dark + 0.05);
-  };
-  return Math.min(...[...document.querySelectorAll("#automaton .arrow path:not(.head)")].map(ratio));
+/** The card's colour and those of the arrows on it, with their opacity. It is run in the page, so it stands alone. */
+function arrowColours() {
+  const colours = (path) => [getComputedStyle(path).stroke, Number(getComputedStyle(path).opacity)];
+  const card = getComputedStyle(document.getElementById("panel-policy")).backgroundColor;
+  return { card, arrows: [...document.querySelectorAll("#automaton .arrow path:not(.head)")].map(colours) };
 }
-
-const LEAST_ARROW_CONTRAST = 3; // WCAG AA for drawings
 
 test("16 states with long names: each name fits its box and differs from the others, idle arrows can be seen in light and dark", async () => {
   const name = (s) => `the_phase_of_roasting_number_${s % 16}`;
@@ -145,7 +136,8 @@ test("16 states with long names: each name fits its box and differs from the oth
   const file = makePage({ name: "phases", files: [routine, "--drum", drum, "--policy", policy], readings: ROAST.readings });
   for (const size of [DESKTOP, { ...DESKTOP, isDark: true }, SIZES[0]]) {
     const page = await browser.page(file, size);
-    assert.ok((await see(page, arrowContrast)) >= LEAST_ARROW_CONTRAST);
+    const { card, arrows } = await see(page, arrowColours);
+    assert.ok(Math.min(...arrows.map(([arrow, opacity]) => contrast(drawnOver(arrow, card, opacity), card))) >= LEAST_DRAWN);
     const boxes = await page.run(`[...document.querySelectorAll("#automaton .state")].map((s) => { const [box, name] = [s.querySelector("rect"), s.querySelector("text")];
       return { said: name.textContent, fits: name.getBBox().width <= box.getBBox().width - 8 }; })`);
     assert.deepEqual(boxes.filter(({ fits }) => !fits), []);
