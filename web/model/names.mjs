@@ -2,7 +2,7 @@
 import { commandText, wordAt } from "../library/words.mjs";
 
 export const eventName = (page, event) => page.events[event] ?? `event ${event}`;
-export const eventWord = (page, event) => page.events[event] ?? String(event);
+const eventWord = (page, event) => page.events[event] ?? String(event);
 export const stateName = (page, state) => page.policy.names[state] ?? `state ${state}`;
 export const scaleOf = (page, event) => page.scales[event];
 export const cellName = (page, cell) => page.free.find((named) => named.cell === cell)?.name ?? null;

@@ -14,7 +14,7 @@ const GOLDEN = 0x9e3779b1; // an odd number with well mixed bits
 const EVERY_NUMBER = 2 ** 32;
 
 /** What stands in the other memory where this one has `value`: never the same. */
-export const otherValue = (cell, value) => ((value + (Math.imul(cell + 1, GOLDEN) >>> 1) + 1) % EVERY_NUMBER) >>> 0;
+const otherValue = (cell, value) => ((value + (Math.imul(cell + 1, GOLDEN) >>> 1) + 1) % EVERY_NUMBER) >>> 0;
 
 /** The arrays that a trace and its replays are lent, once. */
 export function lendBench(lib, facts) {
