@@ -162,10 +162,15 @@ async function start() {
   document.body.classList.add("ready");
 }
 
+/** Says what the page cannot go on from. It stays: what is shown from then on may be wrong. */
 function failed(error) {
-  byId("loud").hidden = false;
-  byId("loud").textContent = `The page cannot run. ${error.message}`;
+  const loud = byId("loud");
+  loud.hidden = false;
+  loud.dataset.stays = "true";
+  loud.textContent = `The page cannot go on. ${error.message}`;
   console.error(error.cause ?? error);
 }
 
+addEventListener("error", ({ error }) => error && failed(error)); // a warning of the browser has no error
+addEventListener("unhandledrejection", ({ reason }) => failed(reason));
 start().catch(failed);

@@ -75,6 +75,7 @@ function updateAgreement({ session }) {
 function updateLoud({ session }) {
   const { failures } = session;
   const loud = byId("loud");
+  if (loud.dataset.stays) return;
   loud.hidden = failures.length === 0;
   const said = failures.map(({ what, at }) => `${what}, from command ${at} on.`);
   loud.textContent = failures.length ? `This should never happen. ${said.join(" ")} Keep this file and tell the maker.` : "";

@@ -21,7 +21,7 @@ function arrowTexts(page, model) {
   return model.order.flatMap((state) => model.groups.get(state).map(text(state)));
 }
 
-export function ceilingsText(page, { shape }) {
+function ceilingsText(page, { shape }) {
   const limited = [...shape.ceilings.entries()].filter(([, most]) => most !== NO_CEILING);
   const texts = limited.map(([event, most]) => `${eventName(page, event)} ${valueText(most, scaleOf(page, event))}`);
   return texts.length ? `Ceilings: ${texts.join(", ")}. A higher order is cut.` : "No order has a ceiling.";

@@ -52,6 +52,19 @@ test("a cell is written, and what the run sees of it later is told at once", asy
   await page.close();
 });
 
+test("a library that breaks off in the midst is told of, and stays told", async () => {
+  const file = spoiltPage("broken", "hemdroas_run", "if (globalThis.isBroken) throw new Error('unreachable');");
+  for (const act of ["document.getElementById('do-step').click()", "document.querySelector('#named form').requestSubmit()"]) {
+    const page = await browser.page(file, DESKTOP);
+    await page.run(`globalThis.isBroken = true; ${act}`);
+    await page.until("!document.getElementById('loud').hidden");
+    assert.match(await see(page, text, "#loud"), /^The page cannot go on\. unreachable$/);
+    await page.run("globalThis.isBroken = false; document.getElementById('do-step').click()");
+    assert.equal(await page.run("document.getElementById('loud').hidden"), false);
+    await page.close();
+  }
+});
+
 test("a request to a file beside the page would be noticed", async () => {
   const file = makePage({ ...ROAST, name: "asking" });
   const asking = readFileSync(file, "utf8").replace(/<meta http-equiv="Content-Security-Policy"[^>]*>/, '<link rel="stylesheet" href="beside.css">');
