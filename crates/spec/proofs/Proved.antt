@@ -7,7 +7,7 @@ use Rattle.spec.proofs.RoundTrip.{words-round-trip, bytes-round-trip}
 use Rattle.spec.proofs.Conditions.{installs}
 use Rattle.spec.proofs.Passing.{rewrite-leaves, rewritten-passes, passed-rewrites, passed-decodes}
 use Rattle.spec.proofs.Shapes.{shapes, checks}
-use Rattle.spec.proofs.Endings.{ending-status}
+use Rattle.spec.proofs.Endings.{ending-status, previews}
 use Rattle.spec.proofs.Ordered.{machine-order, over-stays, ends-only-when}
 use Rattle.spec.proofs.Isolation.{guest-rule, recorded, isolation, no-wrap}
 use Rattle.spec.proofs.Ceilings.{ceilings}
@@ -35,6 +35,7 @@ proved =
       machineOrder = machine-order;
       overStays = over-stays;
       endsOnlyWhen = ends-only-when;
+      previews = previews;
       runsCompose = runs-compose;
       prefixClosed = prefix-closed;
       guestRule = guest-rule;

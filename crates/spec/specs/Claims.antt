@@ -10,7 +10,7 @@ use Rattle.spec.specs.Words.{routine, bundlesFor}
 use Rattle.spec.specs.Bytes.{readAnswer, readOutput, writeAnswer, writeOutput}
 use Rattle.spec.specs.Commands.{shlOf, fetchOf}
 use Rattle.spec.specs.Bundles.{addressOf, lastAddress, positionOf, shapeOf, bundleOf, valid, decodeBundle, bundleAt, isBundle, baseRight, countRight, commandsOf, rewriteAnswer, rewriteOutput, checkAnswer}
-use Rattle.spec.specs.Machines.{State, nextPc, RunResult, runResultOf, finalState, fits, runFrom, runOf, installAnswer, installMemory}
+use Rattle.spec.specs.Machines.{State, nextPc, RunResult, runResultOf, finalState, fits, runFrom, runOf, previewOf, installAnswer, installMemory}
 use Rattle.types.specs.Records.{outcomeOf}
 use Rattle.spec.specs.Guests.{Pair, Guest, guestAfter, guestStart, boxOf}
 use Rattle.spec.specs.Runs.{begins, begunFrom, RunInput, Every, Pairwise, eachRun, Session, runOn, afterRun, runAs, allRuns, after, Run, recordedIn, LowEqual, MemoryPreserved, HostPremise, pairsOf, eventsOf, waitingAt, pendingAt}
@@ -174,6 +174,21 @@ abbrev pub EndingStatus : Type 0
 EndingStatus =
     (lay : Layout) (ws : List ℕ) (m : Machine) (mem : List ℕ) (budget : ℕ) (reads log : List ℕ) →
     EndingLaws lay m mem log (runOf lay ws m mem budget reads log)
+
+-- ---- previews
+
+-- request 10, for a `work` of U cells: a preview 'gives the ending, steps, pairs, readings used and final record of a run', and its log 'ends as that run's log
+-- would'. If the run is not refused, `work` ends as its memory would. 'A refused preview gives back the record it was given', with `work` and log as they were
+pub record PreviewLaws (lay : Layout) (m : Machine) (mem work log : List ℕ) (r p : RunResult) : Type 0 where
+  pub outcome : length work ≡ lay .size → p .outcome ≡ r .outcome
+  pub logged : length work ≡ lay .size → p .log ≡ r .log
+  pub memory : length work ≡ lay .size → fits lay mem ≡ true → p .mem ≡ r .mem
+  pub refused : endingNumber (p .outcome .answer .ending) ≡ numberOf BadLayout → p ≡ runResultOf (outcomeOf m Refused 0 0 0) work log
+
+abbrev pub Previews : Type 0
+Previews =
+    (lay : Layout) (ws : List ℕ) (m : Machine) (mem work : List ℕ) (budget : ℕ) (reads log : List ℕ) →
+    PreviewLaws lay m mem work log (runOf lay ws m mem budget reads log) (previewOf lay ws m mem work budget reads log)
 
 -- ---- every moment
 

@@ -1,6 +1,6 @@
 -- All claims of this crate, one field each. Their proof is `proved` in proofs/Proved.antt.
 use Rattle.spec.specs.Endings.{MachineOrder, OverStays, EndsOnlyWhen}
-use Rattle.spec.specs.Claims.{Masks, LandingBits, Installs, Sizes, Signs, WordsRoundTrip, BytesRoundTrip, RewriteLeaves, RewrittenPasses, PassedRewrites, Shapes, Checks, PassedDecodes, EndingStatus, RunsCompose, PrefixClosed, GuestRule, EveryMoment, Resumes, Progress, Recorded, Ceilings, Isolation, NoWrap, StateCell, PausedWaits, PauseRule}
+use Rattle.spec.specs.Claims.{Masks, LandingBits, Installs, Sizes, Signs, WordsRoundTrip, BytesRoundTrip, RewriteLeaves, RewrittenPasses, PassedRewrites, Shapes, Checks, PassedDecodes, EndingStatus, Previews, RunsCompose, PrefixClosed, GuestRule, EveryMoment, Resumes, Progress, Recorded, Ceilings, Isolation, NoWrap, StateCell, PausedWaits, PauseRule}
 
 pub record Proved : Type 0 where
   pub masks : Masks
@@ -20,6 +20,7 @@ pub record Proved : Type 0 where
   pub machineOrder : MachineOrder
   pub overStays : OverStays
   pub endsOnlyWhen : EndsOnlyWhen
+  pub previews : Previews
   pub runsCompose : RunsCompose
   pub prefixClosed : PrefixClosed
   pub guestRule : GuestRule
