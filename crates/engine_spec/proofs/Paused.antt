@@ -38,7 +38,8 @@ use Rattle.engine_spec.specs.Engines.{nextOf, withMemory, applyEffect, w
 use Rattle.engine_spec.specs.Claims.{after, runOn, EngineSimulates, EnginePauses}
 use Rattle.engine_spec.proofs.Runs.{engineLoop, taken-size, enter}
 use Rattle.engine_spec.proofs.Rule.{taken-of, ready-of, routine-of, stays, engine-rule, meet}
-use Rattle.engine_spec.proofs.Ordered.{paused}
+use Rattle.engine_spec.specs.Endings.{EventAt}
+use Rattle.engine_spec.proofs.Ordered.{sends}
 
 -- an event that the policy allows: a pause, an order or a reading
 event-ind : (P : Effect → Type 0) (v f u : ℕ) → P (Wait LogFull) → P (Wait Silent) → P (Order v) → P (Probe v) → P (eventEffect v f u)
@@ -130,7 +131,9 @@ engine-pauses lay pol code mem room gs es v w count g h sg sh lent logs readings
     let s = machineStart (c .machine) (g .memory) (g .log) in
     let here : machineNext lay ws (g .readings) s ≡ eventEffect e (length (g .log) - 2 * 0) (length (g .readings) - 0) =
     machine-next lay code (g .readings) room s (G .at) e (v .rewritten) (subst (λ (x : ℕ). x < N) at within) (p .event) (p .simulates .next (w .running)) in
-    let there = paused lay code (h .readings) 0 (startOf (n .engine) (h .memory) (h .log)) sh e within event inside (λ y. p .arrow (sym entry ∙ y)) in
+    let t0 = startOf (n .engine) (h .memory) (h .log) in
+    let at-event : EventAt lay code t0 e = record { next = record { below = within; instruction = event }; inside = inside } in
+    let there = sends lay code (h .readings) t0 sh e at-event (λ y. p .arrow (sym entry ∙ y)) in
     rw (fit, eq-eqb _ _ z)
     (machine-one lay ws (g .readings) s e (length (g .log) - 2 * 0) (length (g .readings) - 0) (w .running) here
     ∙ ap₂ (λ (x y : ℕ). numberBy (eventEffect e (x - 2 * 0) (y - 0))) logs readings

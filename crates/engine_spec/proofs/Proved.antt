@@ -8,12 +8,13 @@ use Rattle.engine_spec.proofs.Unjudged.{unjudged-words}
 use Rattle.engine_spec.proofs.Prefixes.{engine-runs-compose, engine-prefix-closed}
 use Rattle.engine_spec.proofs.Paused.{engine-pauses}
 use Rattle.engine_spec.proofs.Waits.{engine-waits}
-use Rattle.engine_spec.proofs.Ordered.{engine-order, engine-refuses, engine-rewriter, engine-takes}
+use Rattle.engine_spec.proofs.Ordered.{engine-order, engine-ends-only-when, engine-refuses, engine-rewriter, engine-takes}
 
 pub proved : Proved
 proved =
     record {
       engineOrder = engine-order;
+      engineEndsOnlyWhen = engine-ends-only-when;
       engineRefuses = engine-refuses;
       engineRewriter = engine-rewriter;
       engineTakes = engine-takes;

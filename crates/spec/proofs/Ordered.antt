@@ -172,7 +172,7 @@ module _ (lay : Layout) (ws rd : List ℕ) (s : State) (size : length (s .mem) �
   reasons (Keep d) q = cond-ind Reason (ltb (lay .cell) (length (s .mem))) (λ _. tt) (past _ q (lay .cell) (head-used (lay .cell) []))
   reasons (Event v) q =
       let full : ((v < orders) ⊎ (s .used < length rd)) → ltb (view .free) 2 ≡ true → WaitsAt lay ws rd s LogFull =
-      λ g f. record { event = v; command = q; given = g; room = let h = ltb-true (view .free) 2 f in omega arith } in
+      λ g f. record { event = v; command = q; given = ⊎-elim (λ x. inl x) (λ x. inr (omega (arith, x))) g; room = let h = ltb-true (view .free) 2 f in omega arith } in
       cond-ind Reason (ltb v orders) (λ t. cond-ind Reason (ltb (view .free) 2) (full (inl (ltb-true v orders t))) (λ _. tt))
       (λ o. cond-ind Reason (eqb (view .left) 0)
       (λ e. record { event = v; command = q; reading = ltb-false v orders o; none = let h = eqb-true (view .left) 0 e in omega arith })
