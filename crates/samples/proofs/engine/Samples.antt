@@ -20,6 +20,7 @@ use Rattle.samples.specs.Sample.{layout, policy, code, commands, memory,
 use Rattle.samples.proofs.Samples.{free-set, sample-holds as machine-holds}
 use Rattle.engine_spec.specs.Engines.{checkedEvent, instrEffect, instrEffectAt, withState, applyEffect, refusalBy, runOf}
 use Rattle.engine_spec.specs.Claims.{runOn, afterTaken, afterRun, after, HostPremise, PairedRuns}
+use Rattle.engine_spec.specs.Continues.{reachedEffect, continueRefusal, continueOf, callOf, callRefusal, callOn, afterCall, eachCall}
 use Rattle.samples.specs.engine.Sample.{left, runs, machineOne, engineOne, SampleHolds}
 
 premise-with : (x y : ℕ) → HostPremise layout policy code (memory x) (runs y)
@@ -84,7 +85,8 @@ one-each x g h lg lh none =
     }
 
 pub sample-holds : SampleHolds
-unfolding ones leadingZeros rightLayout rightPolicy rightLandings bitsFrom landingsOf fieldsRefusal refusalAt firstRefused instrOf routine bundlesFor plainOf
+unfolding reachedEffect continueRefusal continueOf callOf callRefusal callOn afterCall eachCall
+    ones leadingZeros rightLayout rightPolicy rightLandings bitsFrom landingsOf fieldsRefusal refusalAt firstRefused instrOf routine bundlesFor plainOf
     installAnswer installMemory applyOf checkedEvent instrEffect instrEffectAt withState applyEffect loopFrom refusalBy runOf runOn afterTaken afterRun
     afterAll eachRun rewriteAnswer baseRoomAnswer
 sample-holds =
@@ -104,6 +106,10 @@ sample-holds =
       running = λ x. machine-boundary x .1;
       even = λ x. machine-boundary x .2;
       pauses = λ x. inl refl;
+      mixed = λ x. record { taken = premise-with x x .taken; installed = premise-with x x .installed; preserved = (λ l i s. refl, tt) };
+      stopped = λ x. refl;
+      unjudgedPremise = λ x. record { most = omega arith; installed = premise-with x x .installed; preserved = (λ l i s. refl, tt) };
+      faulted = λ x. refl;
       unknown = refl;
       landing = refl;
     }

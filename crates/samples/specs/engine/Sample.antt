@@ -5,7 +5,7 @@ use mathlib.Core.List.{List, [], _∷_, map}
 use lib.ListN.{getD, set}
 use Rattle.types.specs.declared.Answer.{Answer}
 use Rattle.types.specs.declared.Status.the-variants.{Running}
-use Rattle.types.specs.Names.{answer}
+use Rattle.types.specs.Names.{guest, answer}
 use Rattle.spec.specs.Words.{packOf}
 use Rattle.spec.specs.Machines.{installMemory}
 use Rattle.spec.specs.Guests.{pairOf}
@@ -15,6 +15,7 @@ use Rattle.samples.specs.Sample.{layout, policy, code, commands, memory,
 use Rattle.engine_spec.specs.declared.EngineOutcome.{EngineOutcome}
 use Rattle.engine_spec.specs.Engines.{refusalOf}
 use Rattle.engine_spec.specs.Claims.{initialSession, runOn, afterRun, after, HostPremise, PairedRuns, PausedBy, allRuns}
+use Rattle.engine_spec.specs.Continues.{callAs, eachCall, CallPremise, reachedCalls, UnjudgedPremise}
 
 -- three runs: two instructions after the host wrote x to free cell 650; a memory too short; a thousand after it wrote x to free cell 600
 abbrev pub firstRun : ℕ → RunInput
@@ -32,6 +33,13 @@ machineOne x = runInput (installMemory layout policy (memory x)) 4 x
 
 abbrev pub engineOne : ℕ → RunInput
 engineOne x = runInput (installMemory layout policy (memory x)) 1 x
+
+-- words that nobody judged: SET r0, 70, then a word of kind 13. One call of the second entry, in the memory that installing left
+abbrev pub unjudged : List ℕ
+unjudged = packOf (guest .set) 0 0 0 0 70 ∷ packOf 13 0 0 0 0 0 ∷ []
+
+abbrev pub oneRun : ℕ → RunInput
+oneRun x = runInput (installMemory layout policy (memory x)) 1000 x
 
 abbrev pub answersIn : List (Run EngineOutcome) → List Answer
 answersIn rs = map (λ r. r .result .outcome .answer) rs
@@ -59,6 +67,11 @@ pub record SampleHolds : Type 0 where
   pub running : (x : ℕ) → machineAfter layout policy commands (memory x) (machineOne x ∷ []) .machine .status ≡ Running
   pub even : (x : ℕ) → machineAfter layout policy commands (memory x) (machineOne x ∷ []) .begun ≡ after layout policy code (memory x) (engineOne x ∷ []) .counted
   pub pauses : (x : ℕ) → PausedBy (runOn layout code (after layout policy code (memory x) (engineOne x ∷ [])) (withBudget (pausedRun x) 1) .outcome .answer .number)
+  -- the second entry runs the routine to its stop, and unjudged words to the fault at the second
+  pub mixed : (x : ℕ) → CallPremise layout policy code (memory x) (reachedCalls (oneRun x ∷ []))
+  pub stopped : (x : ℕ) → answersIn (eachCall (callAs layout code) layout code (initialSession layout policy (memory x)) (reachedCalls (oneRun x ∷ []))) ≡ answer 21 0 ∷ []
+  pub unjudgedPremise : (x : ℕ) → UnjudgedPremise layout policy unjudged (memory x) (oneRun x ∷ [])
+  pub faulted : (x : ℕ) → answersIn (eachCall (callAs layout unjudged) layout unjudged (initialSession layout policy (memory x)) (reachedCalls (oneRun x ∷ []))) ≡ answer 22 0 ∷ []
   -- refused: a kind above 12 in the second word, and a GOIF past the end
   pub unknown : refusalOf layout (packOf 1 0 0 0 0 70 ∷ packOf 13 0 0 0 0 0 ∷ []) (memory 0) ≡ answer 3 1
   pub landing : refusalOf layout (packOf 10 0 0 0 0 2 ∷ []) (memory 0) ≡ answer 8 0
