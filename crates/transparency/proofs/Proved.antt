@@ -1,6 +1,7 @@
 -- The proof of all claims of this crate.
 use Rattle.transparency.specs.Proved.{Proved}
-use Rattle.transparency.proofs.Transparent.{transparent, engine-transparent, transparent-paused, transparent-next, transparent-step, transparent-resumed, engine-transparent-next}
+use Rattle.transparency.proofs.Transparent.{transparent, transparent-paused, transparent-next, transparent-step, transparent-resumed}
+use Rattle.transparency.proofs.Transparent.{engine-transparent, engine-transparent-next, engine-transparent-step}
 use Rattle.transparency.proofs.Samples.{sample-holds}
 
 pub proved : Proved
@@ -13,5 +14,6 @@ proved =
       transparentStep = transparent-step;
       transparentResumed = transparent-resumed;
       engineTransparentNext = engine-transparent-next;
+      engineTransparentStep = engine-transparent-step;
       sampleHolds = sample-holds;
     }

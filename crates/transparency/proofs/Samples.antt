@@ -21,7 +21,7 @@ use Rattle.engine_spec.specs.Engines.{checkedEvent, instrEffect, instrEffectAt,
 use Rattle.engine_spec.specs.Claims.{runOn as engineOn, afterTaken as engineTaken, afterRun as engineRun, after as engineAfter}
 use Rattle.transparency.specs.Raw.{rawEvent, rawExec, rawStep, rawAfter, Behaves}
 use Rattle.transparency.specs.Claims.{IsPrefix, Behaved, ResumableAsRaw}
-use Rattle.transparency.specs.Sample.{policy, code, commands, memory, readings, run, pausedRun, resumedRun, rawAt, SampleHolds}
+use Rattle.transparency.specs.Sample.{policy, code, commands, memory, readings, run, pausedRun, resumedRun, engineResumedRun, rawAt, SampleHolds}
 
 passed : checkAnswer layout commands .number ≡ 0
 unfolding ones leadingZeros rightLayout instrOf routine bundlesFor wordOf shapeOf valid decodeBundle bundleAt isBundle shapedAt passesAt checkFrom checkAnswer
@@ -64,7 +64,7 @@ record MachineHolds : Type 0 where
   pausedBegun : after layout policy commands memory (pausedRun ∷ []) .begun ≡ 7
   waiting : Waiting layout commands (after layout policy commands memory (pausedRun ∷ []) .machine)
   pausedUsed : IsPrefix (after layout policy commands memory (pausedRun ∷ []) .consumed) readings
-  resumable : ResumableAsRaw layout (after layout policy commands memory (pausedRun ∷ [])) readings resumedRun
+  resumable : let c = after layout policy commands memory (pausedRun ∷ []) in ResumableAsRaw layout (c .memory) (c .consumed) readings resumedRun
 
 machine-holds : MachineHolds
 unfolding ones leadingZeros rightLayout rightPolicy rightLandings bitsFrom landingsOf marked instrOf routine bundlesFor wordOf shapeOf decodeBundle bundleAt
@@ -87,12 +87,24 @@ record EngineHolds : Type 0 where
   counted : engineAfter layout policy code memory (run ∷ []) .counted ≡ 8
   over : engineAfter layout policy code memory (run ∷ []) .engine .status ≡ Ended
   used : IsPrefix (engineAfter layout policy code memory (run ∷ []) .consumed) readings
+  pausedCounted : engineAfter layout policy code memory (pausedRun ∷ []) .counted ≡ 6
+  pausedUsed : IsPrefix (engineAfter layout policy code memory (pausedRun ∷ []) .consumed) readings
+  resumable : let c = engineAfter layout policy code memory (pausedRun ∷ []) in ResumableAsRaw layout (c .memory) (c .consumed) readings engineResumedRun
 
 engine-holds : EngineHolds
 unfolding ones leadingZeros rightLayout rightPolicy rightLandings bitsFrom landingsOf marked fieldsRefusal refusalAt firstRefused instrOf routine bundlesFor
     plainOf installAnswer installMemory applyOf checkedEvent instrEffect instrEffectAt withState applyEffect loopFrom refusalBy engineRunOf engineOn
     engineTaken engineRun afterAll
-engine-holds = record { taken = refl; counted = refl; over = refl; used = λ i h. refl }
+engine-holds =
+    record {
+      taken = refl;
+      counted = refl;
+      over = refl;
+      used = λ i h. refl;
+      pausedCounted = refl;
+      pausedUsed = λ i h. absurd (omega (arith, h));
+      resumable = record { preserved = λ l i s. refl; resumable = record { memory = refl; log = lit≤ tt; readings = lit≤ tt }; reading = refl };
+    }
 
 pub sample-holds : SampleHolds
 unfolding instrOf routine plainOf rawEvent rawExec rawStep rawAfter eachRun
@@ -114,4 +126,9 @@ sample-holds =
       engineBehaved = behaved _ 8 (lit≤ tt) (e .used);
       counted = e .counted;
       engineOver = e .over;
+      enginePausedPremise = record { taken = e .taken; installed = installed; preserved = (λ l i s. refl, tt) };
+      enginePausedCounted = e .pausedCounted;
+      enginePausedBehaved = behaved _ 7 (lit≤ tt) (e .pausedUsed);
+      rawGoesOn = refl;
+      engineResumable = e .resumable;
     }

@@ -31,14 +31,15 @@ use Rattle.spec.proofs.Masks.{masks}
 use Rattle.spec.proofs.Isolation.{guest-rule}
 use Rattle.spec.proofs.Pauses.{pause-rule}
 use Rattle.spec.proofs.Progress.{resumes, progress}
-use Rattle.engine_spec.specs.Claims.{after as engineAfter}
-use Rattle.engine_spec.specs.Engines.{refusalBy}
+use Rattle.engine_spec.specs.Claims.{Session as EngineSession, HostPremise as EnginePremise, after as engineAfter}
+use Rattle.engine_spec.specs.Claims.{initialSession as initialEngine, runOn as engineOn, afterTaken as engineTaken, afterRun as engineRun}
+use Rattle.engine_spec.specs.Engines.{refusalOf, refusalBy}
 use Rattle.engine_spec.proofs.Rule.{engine-rule, same-guest, step-uses}
 use Rattle.engine_spec.proofs.StepTogether.{run-counts-one, machine-uses}
 use Rattle.transparency.specs.Raw.{rawStart, rawRun}
 use Rattle.transparency.specs.Claims.{IsPrefix, Behaved, SameAsRaw, Sandboxed, MachineSameAsRaw, Transparent, EngineTransparent}
 use Rattle.transparency.specs.Claims.{TransparentPaused, TransparentNext, ResumableAsRaw, ReachesSameAsRaw, TransparentStep, TransparentResumed}
-use Rattle.transparency.specs.Claims.{EngineTransparentNext}
+use Rattle.transparency.specs.Claims.{EngineSameAsRaw, EngineTransparentNext, EngineTransparentStep}
 use Rattle.transparency.proofs.RawSimulation.{RawSimulates, after-like}
 
 -- a cell of the sandbox, in memory and in the guest's copy
@@ -162,7 +163,7 @@ module _ (lay : Layout) (pol : Policy) (code mem raw reads : List ℕ) (room : �
       (cases (ltb i (length us)))
 
   follows : (j p : ℕ) → Sandboxed lay pol code mem raw reads room gs (suc j) → SimulatesAt lay p (guestFor lay pol code mem now j) now
-      → (g : RunInput) → ResumableAsRaw lay now reads g → ReachesBoundary lay commands now g (suc j) → ReachesSameAsRaw lay code raw reads now g (suc j)
+      → (g : RunInput) → ResumableAsRaw lay (now .memory) (now .consumed) reads g → ReachesBoundary lay commands now g (suc j) → ReachesSameAsRaw lay code raw reads now g (suc j)
   follows j p x a g o r =
       let h = withBudget g (r .budget) in
       let more : after lay pol commands mem (gs ++ (h ∷ [])) ≡ afterRun lay commands now h = after-more (afterRun lay commands) (initialSession lay pol mem) gs h in
@@ -192,7 +193,7 @@ module _ (lay : Layout) (pol : Policy) (code mem raw reads : List ℕ) (room : �
 
   -- the same with the count written as k
   follows-at : (k j p : ℕ) → suc j ≡ k → Sandboxed lay pol code mem raw reads room gs k → SimulatesAt lay p (guestFor lay pol code mem now j) now
-      → (g : RunInput) → ResumableAsRaw lay now reads g → ReachesBoundary lay commands now g k → ReachesSameAsRaw lay code raw reads now g k
+      → (g : RunInput) → ResumableAsRaw lay (now .memory) (now .consumed) reads g → ReachesBoundary lay commands now g k → ReachesSameAsRaw lay code raw reads now g k
   follows-at k j p e x a g o r =
       subst (ReachesSameAsRaw lay code raw reads now g) e (follows j p (subst (Sandboxed lay pol code mem raw reads room gs) (sym e) x) a g o (subst (ReachesBoundary lay commands now g) (sym e) r))
 
@@ -226,9 +227,53 @@ engine-transparent lay pol code mem raw reads gs v b =
     let a = engine-rule lay pol code mem gs v in
     alike lay pol code mem raw _ reads _ (v .installed) b _ (engineAfter lay pol code mem gs .memory) _ _ (a .ending) (a .regs) (a .box) (a .records) (a .used)
 
+-- a run with a memory of U cells is not refused
+engine-taken : (lay : Layout) (pol : Policy) (code mem : List ℕ) (gs : List RunInput) → EnginePremise lay pol code mem gs → (g : RunInput) → length (g .memory) ≡ lay .size
+    → refusalOf lay code (g .memory) .number ≡ 0
+engine-taken lay pol code mem gs v g size =
+    let fit = eqb-true _ _ (both (rightLayout lay) _ (fits-of lay pol mem (v .installed) .0) .1) in
+    ap (λ (k : ℕ). refusalBy lay code k .number) (size ∙ sym fit) ∙ v .taken
+
 pub engine-transparent-next : EngineTransparentNext
 engine-transparent-next lay pol code mem raw reads gs v b t g lg n =
     let u = engine-transparent lay pol code mem raw reads gs v b in
-    let fit = eqb-true _ _ (both (rightLayout lay) _ (fits-of lay pol mem (v .installed) .0) .1) in
-    let z = ap (λ (k : ℕ). refusalBy lay code k .number) (n .memory ∙ sym fit) ∙ v .taken in
-    run-counts-one lay code (engineAfter lay pol code mem gs) g z (u .ending ∙ t) (n .log) (n .readings)
+    run-counts-one lay code (engineAfter lay pol code mem gs) g (engine-taken lay pol code mem gs v g (n .memory)) (u .ending ∙ t) (n .log) (n .readings)
+
+-- the readings used after a run
+engine-uses : (lay : Layout) (ws : List ℕ) (c : EngineSession) (g : RunInput) → refusalOf lay ws (g .memory) .number ≡ 0
+    → engineRun lay ws c g .consumed ≡ c .consumed ++ take (engineOn lay ws c g .outcome .used) (g .readings)
+unfolding engineRun engineTaken
+engine-uses lay ws c g z = rw (eq-eqb _ _ z)
+
+pub engine-transparent-step : EngineTransparentStep
+engine-transparent-step lay pol code mem raw reads gs v b t g o =
+    let c = engineAfter lay pol code mem gs in
+    let h = withBudget g 1 in
+    let d = engineAfter lay pol code mem (gs ++ (h ∷ [])) in
+    let start = initialEngine lay pol mem in
+    let less : Behaved lay pol code mem raw (c .consumed) reads (c .counted) = record { box = b .box; readings = b .readings; behaves = λ j m. b .behaves j (omega arith) } in
+    let more : d ≡ engineRun lay code c h = after-more (engineRun lay code) start gs h in
+    let w : EnginePremise lay pol code mem (gs ++ (h ∷ [])) =
+    record {
+      taken = v .taken;
+      installed = v .installed;
+      preserved = lends-more (engineRun lay code) lay (λ (x : EngineSession). x .memory) start gs h (v .preserved) (o .preserved);
+    } in
+    let one : engineRun lay code c h .counted ≡ c .counted + 1 = engine-transparent-next lay pol code mem raw reads gs v less t g (o .preserved) (o .resumable) in
+    let next : c .counted + 1 ≡ suc (c .counted) = omega arith in
+    let k : d .counted ≡ suc (c .counted) = ap (λ (x : EngineSession). x .counted) more ∙ one ∙ next in
+    let n = engineOn lay code c h .outcome .used in
+    let used : d .consumed ≡ c .consumed ++ take n (g .readings) =
+    ap (λ (x : EngineSession). x .consumed) more ∙ engine-uses lay code c h (engine-taken lay pol code mem gs v h (o .resumable .memory)) in
+    let later = subst (λ (us : List ℕ). length us ≡ guestGiven lay pol code mem raw reads 0 gs us (suc (c .counted)) .used) used
+    (subst (λ (i : ℕ). length (d .consumed) ≡ guestGiven lay pol code mem raw reads 0 gs (d .consumed) i .used) k (engine-rule lay pol code mem (gs ++ (h ∷ [])) w .used)) in
+    let given : IsPrefix (d .consumed) reads =
+    subst (λ (us : List ℕ). IsPrefix us reads) (sym used)
+    (prefix-more lay pol code mem raw reads 0 gs (c .consumed) (c .counted) n (g .readings) (engine-rule lay pol code mem gs v .used) later (b .readings) (o .reading)) in
+    let all : Behaved lay pol code mem raw (d .consumed) reads (c .counted + 1) = record { box = b .box; readings = given; behaves = b .behaves } in
+    let count : d .counted ≡ c .counted + 1 = k ∙ sym next in
+    let met = engine-transparent lay pol code mem raw reads (gs ++ (h ∷ [])) w (subst (Behaved lay pol code mem raw (d .consumed) reads) (sym count) all) in
+    record {
+      counted = one;
+      same = subst (EngineSameAsRaw lay (rawRun lay code raw reads (c .counted + 1))) more (subst (λ (i : ℕ). EngineSameAsRaw lay (rawRun lay code raw reads i) d) count met);
+    }

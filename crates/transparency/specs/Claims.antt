@@ -15,7 +15,7 @@ use Rattle.spec.specs.Bundles.{rewriteAnswer, commandsOf}
 use Rattle.spec.specs.Guests.{Pair}
 use Rattle.spec.specs.Runs.{RunInput, Session, afterRun, MemoryPreserved, HostPremise, after}
 use Rattle.spec.specs.Claims.{AtBoundary, Waiting, ReachesBoundary, withBudget, Resumable}
-use Rattle.engine_spec.specs.Claims.{HostPremise as EnginePremise, after as engineAfter, afterRun as engineRun}
+use Rattle.engine_spec.specs.Claims.{Session as EngineSession, HostPremise as EnginePremise, after as engineAfter, afterRun as engineRun}
 use Rattle.transparency.specs.Raw.{Raw, rawStart, rawRun, BehavesFor}
 
 -- a memory for the raw run that has the same cells in the sandbox
@@ -78,11 +78,11 @@ TransparentNext =
     Sandboxed lay pol code mem raw reads room gs (c .begun) → AtBoundary lay (c .machine) → rawRun lay code raw reads (c .begun) .status ≡ Running →
     (g : RunInput) → MemoryPreserved lay (c .memory) g → Resumable lay g → ReachesBoundary lay (commandsOf lay code) c g (c .begun + 1)
 
--- a run's input with the last memory, two log cells and the raw run's next reading
-pub record ResumableAsRaw (lay : Layout) (c : Session) (reads : List ℕ) (g : RunInput) : Type 0 where
-  pub preserved : MemoryPreserved lay (c .memory) g
+-- a run's input with the last memory, two log cells and, after the readings used, the raw run's next one
+pub record ResumableAsRaw (lay : Layout) (mem used reads : List ℕ) (g : RunInput) : Type 0 where
+  pub preserved : MemoryPreserved lay mem g
   pub resumable : Resumable lay g
-  pub reading : getD (g .readings) 0 0 ≡ getD reads (length (c .consumed)) 0
+  pub reading : getD (g .readings) 0 0 ≡ getD reads (length used) 0
 
 -- within four steps the machine is at a boundary with k bundles begun, and agrees with the raw run after k instructions
 pub record ReachesSameAsRaw (lay : Layout) (code raw reads : List ℕ) (c : Session) (g : RunInput) (k : ℕ) : Type 0 where
@@ -95,7 +95,7 @@ TransparentStep =
     (lay : Layout) (pol : Policy) (code mem raw reads : List ℕ) (room : ℕ) (gs : List RunInput) →
     let c = after lay pol (commandsOf lay code) mem gs in
     Sandboxed lay pol code mem raw reads room gs (c .begun + 1) → AtBoundary lay (c .machine) → rawRun lay code raw reads (c .begun) .status ≡ Running →
-    (g : RunInput) → ResumableAsRaw lay c reads g → ReachesSameAsRaw lay code raw reads c g (c .begun + 1)
+    (g : RunInput) → ResumableAsRaw lay (c .memory) (c .consumed) reads g → ReachesSameAsRaw lay code raw reads c g (c .begun + 1)
 
 -- from a pause, it follows the instruction whose bundle it had begun
 abbrev pub TransparentResumed : Type 0
@@ -103,9 +103,13 @@ TransparentResumed =
     (lay : Layout) (pol : Policy) (code mem raw reads : List ℕ) (room : ℕ) (gs : List RunInput) →
     let c = after lay pol (commandsOf lay code) mem gs in
     Sandboxed lay pol code mem raw reads room gs (c .begun) → Waiting lay (commandsOf lay code) (c .machine) →
-    (g : RunInput) → ResumableAsRaw lay c reads g → ReachesSameAsRaw lay code raw reads c g (c .begun)
+    (g : RunInput) → ResumableAsRaw lay (c .memory) (c .consumed) reads g → ReachesSameAsRaw lay code raw reads c g (c .begun)
 
 -- ---- the engine
+
+-- the engine after its runs
+abbrev pub EngineSameAsRaw : Layout → Raw → EngineSession → Type 0
+EngineSameAsRaw lay r c = SameAsRaw lay r (c .engine .regs) (c .memory) (c .records) (length (c .consumed)) (c .engine .status)
 
 -- wherever a list of runs ends, the engine agrees with the raw run after as many instructions
 abbrev pub EngineTransparent : Type 0
@@ -113,7 +117,7 @@ EngineTransparent =
     (lay : Layout) (pol : Policy) (code mem raw reads : List ℕ) (gs : List RunInput) → EnginePremise lay pol code mem gs →
     let c = engineAfter lay pol code mem gs in
     Behaved lay pol code mem raw (c .consumed) reads (c .counted) →
-    SameAsRaw lay (rawRun lay code raw reads (c .counted)) (c .engine .regs) (c .memory) (c .records) (length (c .consumed)) (c .engine .status)
+    EngineSameAsRaw lay (rawRun lay code raw reads (c .counted)) c
 
 -- if the raw run has not ended, the engine executes one more instruction
 abbrev pub EngineTransparentNext : Type 0
@@ -122,3 +126,16 @@ EngineTransparentNext =
     let c = engineAfter lay pol code mem gs in
     Behaved lay pol code mem raw (c .consumed) reads (c .counted) → rawRun lay code raw reads (c .counted) .status ≡ Running →
     (g : RunInput) → MemoryPreserved lay (c .memory) g → Resumable lay g → engineRun lay code c (withBudget g 1) .counted ≡ c .counted + 1
+
+-- the engine has counted k instructions, and agrees with the raw run after k
+pub record FollowsRaw (lay : Layout) (code raw reads : List ℕ) (c : EngineSession) (k : ℕ) : Type 0 where
+  pub counted : c .counted ≡ k
+  pub same : EngineSameAsRaw lay (rawRun lay code raw reads k) c
+
+-- from any moment, after a pause too, the engine follows the raw run's next instruction, if that behaves well
+abbrev pub EngineTransparentStep : Type 0
+EngineTransparentStep =
+    (lay : Layout) (pol : Policy) (code mem raw reads : List ℕ) (gs : List RunInput) → EnginePremise lay pol code mem gs →
+    let c = engineAfter lay pol code mem gs in
+    Behaved lay pol code mem raw (c .consumed) reads (c .counted + 1) → rawRun lay code raw reads (c .counted) .status ≡ Running →
+    (g : RunInput) → ResumableAsRaw lay (c .memory) (c .consumed) reads g → FollowsRaw lay code raw reads (engineRun lay code c (withBudget g 1)) (c .counted + 1)

@@ -3,7 +3,7 @@ use Prim.Native.Nat.{ℕ}
 use mathlib.Core.Path.{_≡_}
 use mathlib.Core.List.{List, [], _∷_, _++_}
 use lib.ListN.{replicate}
-use Rattle.types.specs.declared.Status.the-variants.{Ended}
+use Rattle.types.specs.declared.Status.the-variants.{Running, Ended}
 use Rattle.spec.specs.Policies.{Policy, policyOf}
 use Rattle.spec.specs.Words.{packOf}
 use Rattle.spec.specs.Bundles.{commandsOf}
@@ -50,8 +50,12 @@ pausedRun = record { memory = installMemory layout policy memory; budget = 1000;
 abbrev pub resumedRun : RunInput
 resumedRun = record { memory = after layout policy commands memory (pausedRun ∷ []) .memory; budget = 1000; readings = readings; log = replicate 2 0 }
 
+-- the engine waits there too, and this run resumes it
+abbrev pub engineResumedRun : RunInput
+engineResumedRun = record { memory = engineAfter layout policy code memory (pausedRun ∷ []) .memory; budget = 1000; readings = readings; log = replicate 2 0 }
+
 -- the premises of Transparent are met: the sandboxed run ends after eight bundles, the raw run after eight instructions.
--- So are those of TransparentPaused and TransparentResumed, with the seventh bundle begun, and those of EngineTransparent
+-- So are those of TransparentPaused and TransparentResumed, with the seventh bundle begun, and those of EngineTransparent and, at the pause, EngineTransparentStep
 pub record SampleHolds : Type 0 where
   pub sandboxed : Sandboxed layout policy code memory memory readings 64 (run ∷ []) 8
   pub begun : after layout policy commands memory (run ∷ []) .begun ≡ 8
@@ -62,8 +66,13 @@ pub record SampleHolds : Type 0 where
   pub pausedBegun : after layout policy commands memory (pausedRun ∷ []) .begun ≡ 7
   pub waiting : Waiting layout commands (after layout policy commands memory (pausedRun ∷ []) .machine)
   pub resumedSandboxed : Sandboxed layout policy code memory memory readings 64 (pausedRun ∷ []) 7
-  pub resumable : ResumableAsRaw layout (after layout policy commands memory (pausedRun ∷ [])) readings resumedRun
+  pub resumable : let c = after layout policy commands memory (pausedRun ∷ []) in ResumableAsRaw layout (c .memory) (c .consumed) readings resumedRun
   pub enginePremise : EnginePremise layout policy code memory (run ∷ [])
   pub engineBehaved : Behaved layout policy code memory memory (engineAfter layout policy code memory (run ∷ []) .consumed) readings 8
   pub counted : engineAfter layout policy code memory (run ∷ []) .counted ≡ 8
   pub engineOver : engineAfter layout policy code memory (run ∷ []) .engine .status ≡ Ended
+  pub enginePausedPremise : EnginePremise layout policy code memory (pausedRun ∷ [])
+  pub enginePausedCounted : engineAfter layout policy code memory (pausedRun ∷ []) .counted ≡ 6
+  pub enginePausedBehaved : Behaved layout policy code memory memory (engineAfter layout policy code memory (pausedRun ∷ []) .consumed) readings 7
+  pub rawGoesOn : rawAt 6 .status ≡ Running
+  pub engineResumable : let c = engineAfter layout policy code memory (pausedRun ∷ []) in ResumableAsRaw layout (c .memory) (c .consumed) readings engineResumedRun
