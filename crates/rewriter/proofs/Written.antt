@@ -18,11 +18,10 @@ use Rattle.spec.specs.Words.{refusalAt, routine, bundlesFor}
 use Rattle.spec.specs.Bundles.{bundlesFrom, baseRight, commandCount, commandsOf, baseRoomAnswer, rewriteAnswer, rewriteOutput, valid}
 use Rattle.spec.proofs.Facts.{Valid}
 use Rattle.spec.proofs.Bools.{cond-ind, unless-ind}
-use Rattle.spec.proofs.Refusals.{taken-then, output-kept, output-written}
+use Rattle.spec.proofs.Refusals.{taken-then, store-front, output-kept, output-written}
 use Rattle.spec.proofs.Layouts.{layout-facts}
 use Rattle.spec.proofs.Masks.{base-room}
 use Rattle.spec.proofs.Conditions.{Taken, taken-of, size-laws, count-most, routine-valid, routine-length}
-use Rattle.buffers.proofs.stores.Storing.{store-front}
 use Rattle.rewriter.specs.Rewriting.{BundlesFit}
 
 -- an instruction's facts pass its test

@@ -4,7 +4,6 @@ pub mod bundles;
 
 use crate::answers::rewrite_answer;
 use crate::bundles::bundle;
-use buffers::stores::store_words;
 use types::Answer;
 use types::Bundle;
 use types::Instr;
@@ -12,6 +11,7 @@ use types::Layout;
 use types::Refusal;
 use words::count::bundles;
 use words::fields::instruction;
+use words::stores::store_words;
 ghost use mathlib.Core.Path.{_≡_};
 ghost use mathlib.Core.List.{[], _∷_};
 ghost use Prim.Native.Nat.{_+_, _*_, _≤_, _<_};

@@ -74,6 +74,11 @@ else-none a b =
     (λ t e. (eqb-true _ _ t, e)) (λ t e. absurd (eqb-false _ _ t e))
 
 -- ---- an output
+
+-- stored from the start
+pub store-front : (out t : List ℕ) → length t ≤ length out → sets out 0 t ≡ t ++ drop (length t) out
+store-front out t h = sets-eq t out 0 (rw zero-add h) ∙ rw zero-add
+
 module _ (a : Answer) (xs out : List ℕ) where
   pub output-kept : (a .number ≡ 0 → ⊥) → out ≡ outputOf a xs out
   output-kept n = rw (ne-eqb _ _ n)
@@ -83,7 +88,7 @@ module _ (a : Answer) (xs out : List ℕ) where
     output-is = rw (eq-eqb _ _ z)
 
     pub output-written : length xs ≤ length out → sets out 0 xs ≡ outputOf a xs out
-    output-written h = sets-eq xs out 0 (rw zero-add h) ∙ rw zero-add (sym output-is)
+    output-written h = store-front out xs h ∙ sym output-is
 
     pub output-start : (n : ℕ) → length xs ≡ n → take n (outputOf a xs out) ≡ xs
     output-start n l = rw output-is (take-at xs (drop (length xs) out) n l)

@@ -3,9 +3,10 @@ use Prim.Native.Nat.{ℕ, suc, _+_, _<_, _≤_}
 use mathlib.Core.Path.{_≡_, refl, sym, ap, _∙_}
 use mathlib.Core.List.{List, _++_, append-nil}
 use native.Mathlib.Omega.{arith}
-use native.Mathlib.Nat.{add-zero, zero-add, le-of-eq}
+use native.Mathlib.Nat.{add-zero, le-of-eq}
 use lib.ListN.{length, getD, set, drop, length-set, drop-of-length-le}
-use lib.Seq.{sets, sets-eq, drop-cons}
+use lib.Seq.{sets, drop-cons}
+pub use Rattle.spec.proofs.Refusals.{store-front}
 
 -- i elements of t are stored over out₀ from `at` on; storing the rest gives the whole
 pub record Stored (out₀ : List ℕ) (at : ℕ) (t : List ℕ) (i : ℕ) (out : List ℕ) : Type 0 where
@@ -28,9 +29,6 @@ module _ (out₀ : List ℕ) (at : ℕ) (t : List ℕ) where
     pub store-done : length t ≤ i → out ≡ sets out₀ at t
     store-done h = sym (ap (sets out (at + i)) (drop-of-length-le t h)) ∙ s .whole
 
--- stored from the start, and over the whole list
-pub store-front : (out t : List ℕ) → length t ≤ length out → sets out 0 t ≡ t ++ drop (length t) out
-store-front out t h = sets-eq t out 0 (omega arith) ∙ rw zero-add
-
+-- stored over the whole list
 pub store-all : (out t : List ℕ) → length out ≡ length t → sets out 0 t ≡ t
 store-all out t e = store-front out t (omega arith) ∙ rw (drop-of-length-le out (le-of-eq e), append-nil)
