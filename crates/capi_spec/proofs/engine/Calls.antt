@@ -13,7 +13,7 @@ use Rattle.types.specs.declared.Refusal.the-variants.{Taken}
 use Rattle.spec.specs.Policies.{Policy}
 use Rattle.spec.specs.Words.{refusalAt, firstRefused}
 use Rattle.spec.specs.Machines.{installAnswer, installMemory}
-use Rattle.spec.specs.Runs.{RunInput, LowEqual, eachRun, Session as MachineSession}
+use Rattle.spec.specs.Runs.{RunInput, Run, LowEqual, eachRun, Session as MachineSession}
 use Rattle.spec.specs.Claims.{SameInputs, SameObservations}
 use Rattle.spec.proofs.Bools.{both, cond-ind}
 use Rattle.spec.proofs.Conditions.{fits-of, installs}
@@ -28,12 +28,14 @@ use Rattle.engine_spec.specs.declared.EngineOutcome.{EngineOutcome}
 use Rattle.engine_spec.specs.Engines.{RunResult, engineOf, initialEngine, applyEffect, withMemory, withState, startOf, refusalOf, refusalBy, runOf}
 use Rattle.engine_spec.specs.Claims.{Session, sessionOf, initialSession, runOn, afterTaken, afterRun, runAs, MemoriesPreserved, HostPremise}
 use Rattle.engine_spec.proofs.Runs.{engineLoop, taken-size}
-use Rattle.engine_spec.specs.Continues.{Entry, judgesAll, judgesReached, Call, inputsOf}
+use Rattle.engine_spec.specs.Continues.{continueRefusal, continueOf, Entry, judgesAll, judgesReached, Call, callOf, callRefusal, callOn, afterCall, callAs}
+use Rattle.engine_spec.specs.Continues.{eachCall, EntriesPreserved, inputsOf, reachedCalls, UnjudgedPremise}
 use Rattle.engine_spec.proofs.Isolation.{engine-isolation}
 use Rattle.capi_spec.specs.engine.Records.{engineTo, answerTo, resultTo, engineFor, engineFrom, continueFor}
 use Rattle.capi_spec.specs.engine.Claims.{EngineRoundTrips, engineCall, InstalledMemory, installed, loaded, HostEngineIsolation, pairsPlace}
-use Rattle.capi_spec.specs.engine.Claims.{HostEngineNoninterference, zeros, entryFor, entryCall, HostEntriesMix}
-use Rattle.engine_spec.proofs.Continues.{entries-agree, words-taken, preserved-as-runs}
+use Rattle.capi_spec.specs.engine.Claims.{HostEngineNoninterference, zeros, entryFor, entryCall, HostEntriesMix, continueCall, HostUnjudgedIsolation}
+use Rattle.engine_spec.proofs.Continues.{continueLoop, entries-agree, words-taken, preserved-as-runs}
+use Rattle.engine_spec.proofs.Unjudged.{unjudged-isolation}
 
 pub engine-round-trips : EngineRoundTrips
 engine-round-trips = comes-back guestRegisters engineOf (λ m. m .regs) (λ m. m .at) (λ m. m .status) (λ _. refl) (λ _ _ _. refl)
@@ -147,3 +149,51 @@ host-entries-mix lay pol mem ws left xs laid take lends =
     let e = words-taken (layoutFrom lay) ws left take in
     let r = host-engine-isolation lay pol mem ws left (inputsOf xs) laid take (preserved-as-runs (layoutFrom lay) ws e _ xs lends) in
     record { calls = same-entries lay ws e zeros xs ∙ r .calls; premise = r .premise; isolated = r .isolated }
+
+-- ---- words that nobody judged
+abbrev reached : RunInput → Call
+reached g = record { entry = judgesReached; input = g }
+
+reached-carries : (lay : Layout) (ws : List ℕ) (c : Session) (g : RunInput) (t : Bool) → eqb (continueRefusal lay ws (length (g .memory)) .number) 0 ≡ t
+    → (callOn lay ws c (reached g) .outcome .engine ≡ afterCall lay ws c (reached g) .engine) × (length (afterCall lay ws c (reached g) .engine .regs) ≡ length (c .engine .regs))
+unfolding afterCall callOn callOf callRefusal continueOf applyEffect
+reached-carries lay ws c g true e =
+    rw e (
+      refl,
+      keeps-regs (continueLoop lay ws (g .readings)) (λ r. r .outcome .engine .regs) (λ _ _ _. refl)
+          (λ x s. apply-regs (lay .ceilings) (g .readings) x (withMemory s (withState lay x (s .mem)))) (g .budget) 0 (startOf (c .engine) (g .memory) (g .log)),
+    )
+reached-carries lay ws c g false e = rw e (refl, refl)
+
+each-reached : (lay : Layout) (ws : List ℕ) (c : Session) (gs : List RunInput)
+    → eachRun (λ c g. callAs lay ws c (reached g)) (λ c g. afterCall lay ws c (reached g)) c gs ≡ eachCall (callAs lay ws) lay ws c (reachedCalls gs)
+unfolding eachRun eachCall
+each-reached lay ws c [] = refl
+each-reached lay ws c (g ∷ gs) = ap (λ (rs : List (Run EngineOutcome)). callAs lay ws c (reached g) ∷ rs) (each-reached lay ws (afterCall lay ws c (reached g)) gs)
+
+reached-calls : (lay ws : List ℕ) (c : Session) (gs : List RunInput) → length (c .engine .regs) ≡ guestRegisters
+    → callsOf (continueCall lay ws) (engineTo (c .engine)) gs ≡ map (λ r. resultTo (r .result))
+    (eachRun (λ c g. callAs (layoutFrom lay) ws c (reached g)) (λ c g. afterCall (layoutFrom lay) ws c (reached g)) c gs)
+unfolding continueFor callOn callOf
+reached-calls lay ws =
+    let l = layoutFrom lay in
+    calls-from (λ c. engineTo (c .engine)) (λ c g. afterCall l ws c (reached g)) (λ c g. callAs l ws c (reached g)) (λ r. resultTo (r .result)) (continueCall lay ws)
+    (λ c. length (c .engine .regs) ≡ guestRegisters)
+    (λ c g. called engine-round-trips (λ m. resultTo (continueOf l ws m (g .memory) (g .budget) (g .readings) (g .log))) (c .engine))
+    (λ c g n. let q = reached-carries l ws c g _ refl in (ap engineTo (q .0), q .1 ∙ n))
+
+pub host-unjudged-isolation : HostUnjudgedIsolation
+host-unjudged-isolation lay pol mem ws left gs laid most lends =
+    let l = layoutFrom lay in
+    let s = prepared-facts laid in
+    let c = initialSession l pol mem in
+    let premise : UnjudgedPremise l pol ws mem gs =
+    record {
+      most = most;
+      installed = s .taken;
+      preserved = subst (λ (x : List ℕ). EntriesPreserved l ws (sessionOf initialEngine x [] [] 0) (reachedCalls gs)) (s .memory) lends;
+    } in
+    record {
+      calls = reached-calls lay ws c gs refl ∙ ap (λ (rs : List (Run EngineOutcome)). map (λ r. resultTo (r .result)) rs) (each-reached l ws c gs);
+      unjudged = unjudged-isolation l pol ws mem gs premise;
+    }

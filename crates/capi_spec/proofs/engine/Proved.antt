@@ -1,6 +1,6 @@
 -- The proof of all claims of this module.
 use Rattle.capi_spec.specs.engine.Proved.{Proved}
-use Rattle.capi_spec.proofs.engine.Calls.{engine-round-trips, host-engine-isolation, host-engine-noninterference, host-entries-mix}
+use Rattle.capi_spec.proofs.engine.Calls.{engine-round-trips, host-engine-isolation, host-engine-noninterference, host-entries-mix, host-unjudged-isolation}
 use Rattle.capi_spec.proofs.engine.Samples.{sample-holds}
 
 pub proved : Proved
@@ -9,5 +9,6 @@ proved = record {
   hostEngineIsolation = host-engine-isolation;
   hostEngineNoninterference = host-engine-noninterference;
   hostEntriesMix = host-entries-mix;
+  hostUnjudgedIsolation = host-unjudged-isolation;
   sampleHolds = sample-holds;
 }

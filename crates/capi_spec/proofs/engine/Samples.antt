@@ -21,7 +21,8 @@ use Rattle.capi_spec.specs.Sample.{bytes, firstLoad}
 use Rattle.capi_spec.proofs.Samples.{free-set}
 use Rattle.engine_spec.specs.Engines.{checkedEvent, instrEffect, instrEffectAt, withState, applyEffect, refusalBy, runOf}
 use Rattle.engine_spec.specs.Claims.{runOn, afterTaken, afterRun}
-use Rattle.capi_spec.specs.engine.Records.{engineFor}
+use Rattle.capi_spec.specs.engine.Records.{engineFor, continueFor}
+use Rattle.engine_spec.specs.Continues.{reachedEffect, continueRefusal, continueOf, eachCall}
 use Rattle.capi_spec.specs.engine.Claims.{loaded}
 use Rattle.capi_spec.specs.engine.Sample.{left, SampleHolds}
 
@@ -30,7 +31,8 @@ unfolding ones leadingZeros layoutFrom rightLayout rightPolicy rightLandings inB
     firstRefused byteAt quadAt fieldsAt decodeFields decodeMap decodeOne scanOf wordsOf readAnswer instrOf routine bundlesFor wordOf shapeOf baseRoomAnswer
     rewriteAnswer valid decodeBundle bundleAt isBundle shapedAt passesAt checkFrom checkAnswer isCommand commandOf fetchOf plainOf installAnswer installMemory
     installMachine translateAnswer loadAnswer loadCommands loadMemory loadMachine applyOf loopFrom checkFor installFor loadFor checkedEvent instrEffect
-    instrEffectAt withState applyEffect refusalBy runOf runOn afterTaken afterRun engineFor callsOf eachRun
+    instrEffectAt withState applyEffect refusalBy runOf runOn afterTaken afterRun engineFor callsOf eachRun reachedEffect continueRefusal continueOf eachCall
+    continueFor
 sample-holds =
     record {
       installedMemory = loaded bytes (replicate 40 0) refl;
@@ -41,4 +43,6 @@ sample-holds =
         (record { readings = refl; budget = refl; log = refl; memory = refl }, (record { readings = refl; budget = refl; log = refl; memory = refl }, tt)),
       );
       answers = λ x. refl;
+      unjudged = λ x. (λ l. free-set (lot .memory) 9 x refl, tt);
+      faulted = λ x. refl;
     }

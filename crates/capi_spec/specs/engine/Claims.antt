@@ -1,9 +1,9 @@
 -- Claims about calls of `hemdroas_engine_run` and `hemdroas_engine_continue`: the record survives the round trip, and lists of calls are isolated.
-use Prim.Native.Nat.{ℕ, _+_}
+use Prim.Native.Nat.{ℕ, _+_, _≤_}
 use mathlib.Core.Path.{_≡_}
 use mathlib.Core.List.{List, [], map}
-use lib.ListN.{replicate}
-use Rattle.types.specs.Names.{guestRegisters}
+use lib.ListN.{length, replicate}
+use Rattle.types.specs.Names.{guestRegisters, mostInstructions}
 use Rattle.spec.specs.Policies.{Policy}
 use Rattle.spec.specs.Runs.{RunInput, Pairwise, LowEqual}
 use Rattle.spec.specs.Claims.{SameInputs}
@@ -11,9 +11,9 @@ use Rattle.capi_spec.specs.Numbers.{layoutFrom, trailer}
 use Rattle.capi_spec.specs.Hosts.{installFor, loadFor, HostResult}
 use Rattle.capi_spec.specs.Claims.{RoundTrips, callsOf, number, SameCalls}
 use Rattle.engine_spec.specs.Engines.{initialEngine, refusalOf}
-use Rattle.engine_spec.specs.Claims.{sessionOf, MemoriesPreserved, HostPremise, allRuns, Isolated}
+use Rattle.engine_spec.specs.Claims.{sessionOf, initialSession, MemoriesPreserved, HostPremise, allRuns, Isolated}
 use Rattle.capi_spec.specs.engine.Records.{engineFrom, engineTo, resultTo, engineFor, continueFor}
-use Rattle.engine_spec.specs.Continues.{Entry, judgesAll, judgesReached, Call, EntriesPreserved, inputsOf}
+use Rattle.engine_spec.specs.Continues.{Entry, judgesAll, judgesReached, Call, callAs, eachCall, EntriesPreserved, inputsOf, reachedCalls, UnjudgedIsolated}
 
 -- the engine's record, of fifteen registers, survives the round trip
 abbrev pub EngineRoundTrips : Type 0
@@ -86,3 +86,23 @@ HostEntriesMix =
     (lay : List ℕ) (pol : Policy) (mem ws left : List ℕ) (xs : List Call) →
     InstalledMemory lay pol mem left → refusalOf (layoutFrom lay) ws left .number ≡ 0 →
     EntriesPreserved (layoutFrom lay) ws (sessionOf initialEngine left [] [] 0) xs → MixedCallsIsolated lay pol ws mem xs
+
+-- ---- lists of calls with words that nobody judged
+
+-- one call of hemdroas_engine_continue
+abbrev pub continueCall : List ℕ → List ℕ → List ℕ → RunInput → HostResult
+continueCall lay ws xs g = continueFor lay ws xs (g .memory) (g .budget) (g .readings) (g .log)
+
+-- these calls are runs of the second entry. They do what isolated runs of the repaired words do, except for a fault
+pub record UnjudgedCallsIsolated (lay : List ℕ) (pol : Policy) (ws mem : List ℕ) (gs : List RunInput) : Type 0 where
+  pub calls :
+      let l = layoutFrom lay in
+      callsOf (continueCall lay ws) zeros gs ≡ map (λ r. resultTo (r .result)) (eachCall (callAs l ws) l ws (initialSession l pol mem) (reachedCalls gs))
+  pub unjudged : UnjudgedIsolated (layoutFrom lay) pol ws mem gs
+
+-- any words, at most 1,023; each call gets the record's numbers and the memory that the last call left, except in free cells
+abbrev pub HostUnjudgedIsolation : Type 0
+HostUnjudgedIsolation =
+    (lay : List ℕ) (pol : Policy) (mem ws left : List ℕ) (gs : List RunInput) →
+    InstalledMemory lay pol mem left → length ws ≤ mostInstructions →
+    EntriesPreserved (layoutFrom lay) ws (sessionOf initialEngine left [] [] 0) (reachedCalls gs) → UnjudgedCallsIsolated lay pol ws mem gs

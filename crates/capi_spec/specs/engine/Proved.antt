@@ -1,5 +1,5 @@
 -- All claims of this module, one field each. Their proof is `proved` in proofs/engine/Proved.antt.
-use Rattle.capi_spec.specs.engine.Claims.{EngineRoundTrips, HostEngineIsolation, HostEngineNoninterference, HostEntriesMix}
+use Rattle.capi_spec.specs.engine.Claims.{EngineRoundTrips, HostEngineIsolation, HostEngineNoninterference, HostEntriesMix, HostUnjudgedIsolation}
 use Rattle.capi_spec.specs.engine.Sample.{SampleHolds}
 
 pub record Proved : Type 0 where
@@ -7,4 +7,5 @@ pub record Proved : Type 0 where
   pub hostEngineIsolation : HostEngineIsolation
   pub hostEngineNoninterference : HostEngineNoninterference
   pub hostEntriesMix : HostEntriesMix
+  pub hostUnjudgedIsolation : HostUnjudgedIsolation
   pub sampleHolds : SampleHolds

@@ -1,9 +1,11 @@
--- Shows that the premises of HostEngineIsolation and HostEngineNoninterference can be met: the routine and drum of this crate's other sample,
--- loaded, then run by the engine in two calls with a refused one between.
+-- Shows that the premises of HostEngineIsolation, HostEngineNoninterference and HostUnjudgedIsolation can be met: the routine and drum of this crate's
+-- other sample, loaded, then run by the engine in two calls with a refused one between.
 use Prim.Native.Nat.{ℕ}
 use mathlib.Core.Path.{_≡_}
 use mathlib.Core.List.{List, [], _∷_, map}
 use lib.ListN.{set, replicate}
+use Rattle.types.specs.Names.{guest}
+use Rattle.spec.specs.Words.{packOf}
 use Rattle.spec.specs.Bytes.{wordsIn}
 use Rattle.spec.specs.Runs.{RunInput, Pairwise}
 use Rattle.spec.specs.Claims.{SameInputs}
@@ -12,7 +14,8 @@ use Rattle.capi_spec.specs.Claims.{callsOf}
 use Rattle.capi_spec.specs.Sample.{layout, policy, bytes, firstLoad, runInput}
 use Rattle.engine_spec.specs.Engines.{initialEngine, refusalOf}
 use Rattle.engine_spec.specs.Claims.{Session, sessionOf, afterRun}
-use Rattle.capi_spec.specs.engine.Claims.{zeros, engineCall, InstalledMemory, CallsPreserved}
+use Rattle.capi_spec.specs.engine.Claims.{zeros, engineCall, InstalledMemory, CallsPreserved, continueCall}
+use Rattle.engine_spec.specs.Continues.{EntriesPreserved, reachedCalls}
 
 -- SET r0, 70; EVENT 0; EVENT 2; EVENT 0
 abbrev pub words : List ℕ
@@ -32,6 +35,10 @@ left x = afterRun (layoutFrom layout) words firstSession (firstCall x) .memory
 abbrev pub calls : ℕ → List RunInput
 calls x = firstCall x ∷ runInput [] 2 ∷ runInput (set (left x) 8 x) 1000 ∷ []
 
+-- SET r0, 70; then a word of kind 13
+abbrev pub unknownWords : List ℕ
+unknownWords = packOf (guest .set) 0 0 0 0 70 ∷ packOf 13 0 0 0 0 0 ∷ []
+
 -- for every x that the host writes
 pub record SampleHolds : Type 0 where
   pub installedMemory : InstalledMemory layout policy (replicate 128 0) (firstLoad .memory)
@@ -39,3 +46,6 @@ pub record SampleHolds : Type 0 where
   pub preserved : (x : ℕ) → CallsPreserved layout words (firstLoad .memory) (calls x)
   pub alike : (x y : ℕ) → Pairwise SameInputs (calls x) (calls y)
   pub answers : (x : ℕ) → map (λ r. r .answer) (callsOf (engineCall layout words) zeros (calls x)) ≡ (25 ∷ 0 ∷ 2 ∷ 1 ∷ 0 ∷ []) ∷ (7 ∷ 0 ∷ 0 ∷ 0 ∷ 0 ∷ []) ∷ (21 ∷ 0 ∷ 2 ∷ 1 ∷ 0 ∷ []) ∷ []
+  -- the premise of HostUnjudgedIsolation: a call of hemdroas_engine_continue with words of which the second is no instruction
+  pub unjudged : (x : ℕ) → EntriesPreserved (layoutFrom layout) unknownWords firstSession (reachedCalls (firstCall x ∷ []))
+  pub faulted : (x : ℕ) → map (λ r. r .answer) (callsOf (continueCall layout unknownWords) zeros (firstCall x ∷ [])) ≡ (22 ∷ 0 ∷ 2 ∷ 0 ∷ 0 ∷ []) ∷ []
