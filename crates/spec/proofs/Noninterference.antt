@@ -294,17 +294,17 @@ start-safe lay n regs mem (EVENT e) v l = omega arith
 mid-safe : (lay : Layout) (pol : Policy) (n : ℕ) (regs mem : List ℕ) (g : Guest) (h k b : ℕ) (i : Instr) (p : ℕ) → Right lay pol n → Valid n i
     → g .state < lay .states → MidBundle lay pol n g h k b (getD regs hidden 0) (getD mem (lay .cell) 0) i p → Safe lay (shapeOf lay n i p) regs mem
 unfolding shapeOf
-mid-safe lay pol n regs mem g h k b i p ok v l (start at bk q) = start-safe lay n regs mem i v (rw q l)
-mid-safe lay pol n regs mem g h k b i p ok v l (rest low nop lt at bk q) = rw (nop p (omega arith)) tt
-mid-safe lay pol n regs mem g h k b i p ok v l (load1 at bk q e) = tt
-mid-safe lay pol n regs mem g h k b i p ok v l (load2 {a = x} at bk q e) = ap (inBox lay) e ∙ ok .ready .mask (guestReg g x)
-mid-safe lay pol n regs mem g h k b i p ok v l (store1 at bk q e) = tt
-mid-safe lay pol n regs mem g h k b i p ok v l (store2 at bk q e) = tt
-mid-safe lay pol n regs mem g h k b i p ok v l (gox1 at bk q e) = tt
-mid-safe lay pol n regs mem g h k b i p ok v l (gox2 at bk q e) = tt
-mid-safe lay pol n regs mem g h k b i p ok v l (gox3 at bk q e) = tt
-mid-safe lay pol n regs mem g h k b i p ok v l (event1 at bk q e) = tt
-mid-safe lay pol n regs mem g h k b i p ok v l (event2 at bk q e some) = tt
+mid-safe lay pol n regs mem g h k b i p ok v l (start here) = start-safe lay n regs mem i v (rw (here .cell) l)
+mid-safe lay pol n regs mem g h k b i p ok v l (rest low nop lt here) = rw (nop p (omega arith)) tt
+mid-safe lay pol n regs mem g h k b i p ok v l (load1 here e) = tt
+mid-safe lay pol n regs mem g h k b i p ok v l (load2 {a = x} here e) = ap (inBox lay) e ∙ ok .ready .mask (guestReg g x)
+mid-safe lay pol n regs mem g h k b i p ok v l (store1 here e) = tt
+mid-safe lay pol n regs mem g h k b i p ok v l (store2 here e) = tt
+mid-safe lay pol n regs mem g h k b i p ok v l (gox1 here e) = tt
+mid-safe lay pol n regs mem g h k b i p ok v l (gox2 here e) = tt
+mid-safe lay pol n regs mem g h k b i p ok v l (gox3 here e) = tt
+mid-safe lay pol n regs mem g h k b i p ok v l (event1 here e) = tt
+mid-safe lay pol n regs mem g h k b i p ok v l (event2 here e some) = tt
 mid-safe lay pol n regs mem g h k b i p ok v l (event3 es lt at bk e er q) = tt
 
 sim-safe : (lay : Layout) (pol : Policy) (ws : List ℕ) (n : ℕ) (is : ℕ → Instr) (s : State) (g : Guest) (k b : ℕ) → Right lay pol n → Bundled lay ws n is

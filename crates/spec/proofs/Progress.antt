@@ -179,18 +179,18 @@ module _ (lay : Layout) (rd : List ℕ) (s : State) where
       → MidBundle lay pol n g h k b (getD (s .regs) hidden 0) (getD (s .mem) (lay .cell) 0) i p
       → Moves lay rd s (effectOf (shapeOf lay n i p) (viewAt lay rd s))
   unfolding effectOf shapeOf
-  mid-moves pol n g h k b i p (start at bk q) = start-moves n i
-  mid-moves pol n g h k b i p (rest low nop lt at bk q) = rw (nop p (omega arith)) moves-on
-  mid-moves pol n g h k b i p (load1 at bk q e) = moves-put hidden _
-  mid-moves pol n g h k b i p (load2 {d = d} at bk q e) = moves-at _ _ (moves-put d _)
-  mid-moves pol n g h k b i p (store1 at bk q e) = moves-put hidden _
-  mid-moves pol n g h k b i p (store2 at bk q e) = moves-at _ _ (moves-cell _ _)
-  mid-moves pol n g h k b i p (gox1 at bk q e) = moves-put hidden _
-  mid-moves pol n g h k b i p (gox2 at bk q e) = moves-put hidden _
-  mid-moves pol n g h k b i p (gox3 {d = d} {a = x} {b′ = y} {t = c} at bk q e) =
+  mid-moves pol n g h k b i p (start here) = start-moves n i
+  mid-moves pol n g h k b i p (rest low nop lt here) = rw (nop p (omega arith)) moves-on
+  mid-moves pol n g h k b i p (load1 here e) = moves-put hidden _
+  mid-moves pol n g h k b i p (load2 {d = d} here e) = moves-at _ _ (moves-put d _)
+  mid-moves pol n g h k b i p (store1 here e) = moves-put hidden _
+  mid-moves pol n g h k b i p (store2 here e) = moves-at _ _ (moves-cell _ _)
+  mid-moves pol n g h k b i p (gox1 here e) = moves-put hidden _
+  mid-moves pol n g h k b i p (gox2 here e) = moves-put hidden _
+  mid-moves pol n g h k b i p (gox3 {d = d} {a = x} {b′ = y} {t = c} here e) =
       cond-ind (Moves lay rd s) (holdsOf c (getD (s .regs) x 0) (getD (s .regs) y 0)) (λ _. moves-landing (guestReg g d % n) _ e) (λ _. moves-on)
-  mid-moves pol n g h k b i p (event1 at bk q e) = cond-ind (Moves lay rd s) (eqb (getD (s .regs) hidden 0) noArrow) (λ _. moves-end Stopped (λ x. no (cc))) (λ _. moves-on)
-  mid-moves pol n g h k b i p (event2 {e = x} at bk q e some) = moves-event x
+  mid-moves pol n g h k b i p (event1 here e) = cond-ind (Moves lay rd s) (eqb (getD (s .regs) hidden 0) noArrow) (λ _. moves-end Stopped (λ x. no (cc))) (λ _. moves-on)
+  mid-moves pol n g h k b i p (event2 {e = x} here e some) = moves-event x
   mid-moves pol n g h k b i p (event3 es lt at bk e er q) = moves-at _ _ (moves-cell (lay .cell) _)
 
 -- ---- one step of a run
