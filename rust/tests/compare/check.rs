@@ -4,17 +4,14 @@ use crate::common::inputs::{
     altered_layout, any_command, base_for, damage_word, right_layout, shaped_bundle, shaped_list,
 };
 use crate::common::{cases, Rng, Tally};
-use crate::quick;
 use hemdroas::{model, native, Answer, Layout};
 
 const NUMBERS: [u32; 5] = [0, 7, 11, 12, 13];
 
 pub fn check(tally: &mut Tally, layout: &Layout, commands: &[u64]) -> Answer {
     let answer = model::check(layout, commands);
-    for check in [native::check, quick::check] {
-        let given = check(layout, commands);
-        assert_eq!(given, answer, "checking {commands:x?} under {layout:?}");
-    }
+    let given = native::check(layout, commands);
+    assert_eq!(given, answer, "checking {commands:x?} under {layout:?}");
     tally.count("check", answer.number());
     answer
 }

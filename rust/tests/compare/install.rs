@@ -4,7 +4,6 @@ use crate::common::inputs::{
     altered_layout, any_record, landings, layout_of_states, policy, right_layout, SomePolicy,
 };
 use crate::common::{cases, Rng, Tally};
-use crate::quick;
 use hemdroas::{model, native, Answer, Layout, Policy, Record};
 
 const NUMBERS: [u32; 4] = [0, 7, 10, 14];
@@ -18,20 +17,13 @@ pub fn install(
     memory: &mut Vec<u32>,
     record: Record,
 ) -> (Answer, Record) {
-    let before = memory.clone();
+    let (mut cells, mut given) = (memory.clone(), record);
     let (answer, machine) = model::install(layout, policy, landings, memory);
     let input = || format!("{policy:?} and {landings:?} under {layout:?}");
-
-    let (mut cells, mut given) = (before.clone(), record);
     let theirs = native::install_record(layout, policy, landings, &mut cells, &mut given);
     assert_eq!(theirs, answer, "installing {}", input());
     assert_eq!(given, machine.to_record(), "record of {}", input());
     assert_eq!(cells, *memory, "memory of {}", input());
-
-    let mut cells = before;
-    let theirs = quick::install(layout, policy, landings, &mut cells);
-    let expected = ((answer, machine), &*memory);
-    assert_eq!((theirs, &cells), expected, "the baseline, {}", input());
     tally.count("install", answer.number());
     (answer, given)
 }

@@ -1,6 +1,6 @@
-//! Compares the C library, and the benchmark's baseline, with the model on random
-//! and damaged inputs. A case is one call of each on the same input. It passes if the
-//! answers, and all that was lent, are the same afterwards.
+//! Compares the C library with the model on random and damaged inputs. A case is one
+//! call of each on the same input. It passes if the answers, and all that was lent,
+//! are the same afterwards.
 //!
 //! Each part has a file with the comparison of its function, which other parts call
 //! too, and its cases. It requires that every number that the function can answer was
@@ -9,9 +9,6 @@
 
 #[path = "../common/mod.rs"]
 mod common;
-#[cfg(feature = "native")]
-#[path = "../../examples/quick/mod.rs"]
-mod quick;
 
 mod guest;
 mod tray;

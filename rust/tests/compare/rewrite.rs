@@ -3,7 +3,6 @@
 use crate::check::check;
 use crate::common::inputs::{altered_layout, damaged_routine, length, output, right_layout, room};
 use crate::common::{cases, Tally};
-use crate::quick;
 use crate::write::each_bit_of_an_instruction;
 use hemdroas::model::{self, bundles};
 use hemdroas::{native, Answer, Layout};
@@ -18,15 +17,13 @@ pub fn rewrite(
 ) -> (Answer, Vec<u64>) {
     let mut expected = commands.to_vec();
     let answer = model::rewrite(layout, words, &mut expected);
-    for rewrite in [native::rewrite, quick::rewrite] {
-        let mut commands = commands.to_vec();
-        let given = rewrite(layout, words, &mut commands);
-        assert_eq!(given, answer, "rewriting {words:x?} under {layout:?}");
-        assert_eq!(
-            commands, expected,
-            "commands of {words:x?} under {layout:?}"
-        );
-    }
+    let mut commands = commands.to_vec();
+    let given = native::rewrite(layout, words, &mut commands);
+    assert_eq!(given, answer, "rewriting {words:x?} under {layout:?}");
+    assert_eq!(
+        commands, expected,
+        "commands of {words:x?} under {layout:?}"
+    );
     tally.count("rewrite", answer.number());
     (answer, expected)
 }
