@@ -1,6 +1,0 @@
-use borrow.Author.Needs.{needs}
-use Rattle.machine_step.proofs.program_point.ordered.Statement.{statement}
-use Rattle.machine_step.proofs.program_point.ordered.Tie as tie
-
-pub ordered-spec : {M : Type 1} → statement M
-ordered-spec = tie.close (tie.spec (λ c. search needs) (λ c κs. search needs) (λ c. search needs))

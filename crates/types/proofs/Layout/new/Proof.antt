@@ -1,6 +1,0 @@
-use borrow.Author.Needs.{needs}
-use Rattle.types.proofs.Layout.new.Statement.{statement}
-use Rattle.types.proofs.Layout.new.Tie as tie
-
-pub new-spec : {M : Type 1} → statement M
-new-spec = tie.close (tie.spec (λ c. search needs))
