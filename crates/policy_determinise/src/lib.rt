@@ -1,8 +1,8 @@
 // Request 8, 'Policies drawn with several arrows': makes a deterministic policy by the subset construction.
-use policy_spec::reachability::EVENTS;
-use policy_spec::reachability::MOST;
 use policy_spec::reachability::Made;
 use policy_spec::reachability::Worklist;
+use policy_spec::tables::EVENTS;
+use policy_spec::tables::MOST_STATES;
 use types::Refusal;
 ghost use mathlib.Core.Path.{_≡_};
 ghost use mathlib.Core.Bool.{cond};
@@ -69,7 +69,7 @@ fn drawing_right(states: usize, starts: u16, arrows: &[u16]) -> bool
     if states < 1 {
         return false;
     }
-    if MOST < states {
+    if MOST_STATES < states {
         return false;
     }
     (starts != 0)
@@ -86,7 +86,7 @@ fn explore(states: usize, starts: u16, arrows: &[u16]) -> Worklist
     let mut found = policy_reachability::begin(starts);
     let mut k: usize = 0;
     while policy_reachability::has_pending(found, k) {
-        found = policy_reachability::step(
+        found = policy_reachability::insert_target(
             found,
             k,
             next(
@@ -111,5 +111,5 @@ pub fn determinise(states: u32, starts: u16, arrows: &[u16], table: &mut [u8]) -
     if !drawing_right(count, starts, arrows) {
         return policy_reachability::writing::refused(Refusal::BAD_DRAWING);
     }
-    policy_reachability::writing::write(explore(count, starts, arrows), table)
+    policy_reachability::writing::write_policy(explore(count, starts, arrows), table)
 }

@@ -2,10 +2,11 @@
 // The search stores the pair as 16 × s + t + 1; 0 means no pair.
 use buffers::cells::index_of;
 use installer::table::table_right;
-use policy_spec::reachability::EVENTS;
-use policy_spec::reachability::MOST;
 use policy_spec::reachability::Made;
 use policy_spec::reachability::Worklist;
+use policy_spec::tables::EVENTS;
+use policy_spec::tables::MOST_STATES;
+use policy_spec::tables::NO_ARROW;
 use types::Answer;
 use types::PolicyNumbers;
 use types::Refusal;
@@ -14,9 +15,8 @@ ghost use Prim.Native.Nat.{_+_, _*_, _^_, _<_, min};
 ghost use lib.ListN.{length, getD};
 ghost use Rattle.types.specs.Names.{events, noArrow};
 ghost use Rattle.policy_spec.specs.reachability.Worklists.{Explored};
-ghost use Rattle.policy_merge.specs.Pairs.{sideOf, arrowsOf, pair as pairOf, both as bothOf, pairAfter, smaller as smallerOf, mergeMade, withCeilings, mergeOf, mergeTable};
-
-const NO_ARROW: usize = PolicyNumbers::NO_ARROW as usize;
+ghost use Rattle.policy_merge.specs.Pairs.{sideOf, arrowsOf, pair as pairOf, both as bothOf, pairAfter};
+ghost use Rattle.policy_merge.specs.Pairs.{smaller as smallerOf, mergeMade, withCeilings, mergeOf, mergeTable};
 
 const ORDERS: usize = PolicyNumbers::ORDERS as usize;
 
@@ -51,7 +51,7 @@ fn pair(s: usize, t: usize) -> u16
     requires { ⌜ (s < 256) × (t < 256) ⌝ }
     ensures { λ r. ⌜ r ≡ pairOf s t ⌝ }
 {
-    (MOST * s + t + 1) as u16
+    (MOST_STATES * s + t + 1) as u16
 }
 
 // The pair of two arrows, or none if one of them is missing.
@@ -77,7 +77,10 @@ fn next(left: &[u8], right: &[u8], x: u16, n: usize) -> u16
         return 0;
     }
     let p = (x - 1) as usize;
-    both(arrow(left, p / MOST, n), arrow(right, p % MOST, n))
+    both(
+        arrow(left, p / MOST_STATES, n),
+        arrow(right, p % MOST_STATES, n),
+    )
 }
 
 // Finds all pairs that events lead to from the start pair.
@@ -88,7 +91,7 @@ fn explore(left: &[u8], right: &[u8], start: u16) -> Worklist
     let mut found = policy_reachability::begin(start);
     let mut k: usize = 0;
     while policy_reachability::has_pending(found, k) {
-        found = policy_reachability::step(
+        found = policy_reachability::insert_target(
             found,
             k,
             next(left, right, policy_reachability::node(found, k), k % EVENTS),
@@ -138,7 +141,13 @@ fn with_ceilings(made: Made, ceilings: [u32; ORDERS]) -> Merged
 }
 
 // Makes the merged policy without ceilings, or refuses it.
-fn made_of(a: PolicyNumbers, left: &[u8], b: PolicyNumbers, right: &[u8], table: &mut [u8]) -> Made
+fn merge_made(
+    a: PolicyNumbers,
+    left: &[u8],
+    b: PolicyNumbers,
+    right: &[u8],
+    table: &mut [u8],
+) -> Made
     ensures made { λ r. ⌜ r ≡ mergeMade (sideOf a (now (left .entry))) (sideOf b (now (right .entry))) (length (now (table .entry))) ⌝ }
     ensures table { λ _. ⌜ now (table .exit) ≡ mergeTable (sideOf a (now (left .entry))) (sideOf b (now (right .entry))) (now (table .entry)) ⌝ }
 {
@@ -147,7 +156,7 @@ fn made_of(a: PolicyNumbers, left: &[u8], b: PolicyNumbers, right: &[u8], table:
         return policy_reachability::writing::refused(Refusal::BAD_POLICY);
     }
     let start = pair(a.start as usize, b.start as usize);
-    policy_reachability::writing::write(explore(left, right, start), table)
+    policy_reachability::writing::write_policy(explore(left, right, start), table)
 }
 
 // Merges two policies, with tables `left` and `right`: writes the merged table to the start of `table`, and answers its numbers and ceilings.
@@ -157,7 +166,7 @@ pub fn merge(one: Side, left: &[u8], other: Side, right: &[u8], table: &mut [u8]
     ensures table { λ _. ⌜ now (table .exit) ≡ mergeTable (sideOf (one .policy) (now (left .entry))) (sideOf (other .policy) (now (right .entry)))
         (now (table .entry)) ⌝ }
 {
-    let made = made_of(one.policy, left, other.policy, right, table);
+    let made = merge_made(one.policy, left, other.policy, right, table);
     let c = one.ceilings;
     let d = other.ceilings;
     with_ceilings(made, smaller(c, d))

@@ -1,6 +1,6 @@
 // Computes the arrow of an event in a state. There is one once all events that must come first are recorded.
 use buffers::cells::index_of;
-use policy_spec::precedence::NO_ARROW;
+use policy_spec::tables::NO_ARROW;
 ghost use mathlib.Core.Path.{_≡_};
 ghost use Prim.Native.Nat.{_-_, _^_, _≤_, _<_};
 ghost use lib.Bits.{bitAnd};

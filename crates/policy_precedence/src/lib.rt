@@ -7,9 +7,9 @@ use crate::arrows::arrow;
 use crate::unreachable::blocked_events;
 use crate::unreachable::fixpoint;
 use buffers::cells::index_of;
-use policy_spec::precedence::EVENTS;
 use policy_spec::precedence::MOST_NAMED;
 use policy_spec::precedence::Made;
+use policy_spec::tables::EVENTS;
 use types::Answer;
 use types::PolicyNumbers;
 use types::Refusal;
@@ -21,7 +21,8 @@ ghost use lib.Dec.{eqb};
 ghost use lib.Count.{ones};
 ghost use Rattle.types.specs.Names.{events, answer};
 ghost use Rattle.policy_spec.specs.maps.Maps.{mapWhere, build};
-ghost use Rattle.policy_spec.specs.precedence.Precedence.{ValidPairs, isNamed, known, mostNamed, pairsRight, statesOf, byteOf, tableBytes, unreachableEvents, madeWith, makeOf, makeTable};
+ghost use Rattle.policy_spec.specs.precedence.Precedence.{ValidPairs, isNamed, known, mostNamed, pairsRight, statesOf};
+ghost use Rattle.policy_spec.specs.precedence.Precedence.{byteOf, tableBytes, unreachableEvents, madeWith, makeOf, makeTable};
 
 // Whether no event of the pairs is above 15.
 fn events_known(pairs: &[u8]) -> bool

@@ -1,8 +1,8 @@
 // Finds the events that the policy never allows: those still disabled when no more events can be enabled.
 use crate::arrows::arrow;
-use policy_spec::precedence::EVENTS;
 use policy_spec::precedence::MOST_NAMED;
-use policy_spec::precedence::NO_ARROW;
+use policy_spec::tables::EVENTS;
+use policy_spec::tables::NO_ARROW;
 ghost use mathlib.Core.Path.{_≡_};
 ghost use mathlib.Core.Bool.{cond};
 ghost use Prim.Native.Nat.{_^_, _<_};

@@ -2,10 +2,10 @@
 pub mod writing;
 
 use policy_spec::reachability::ARROWS;
-use policy_spec::reachability::EVENTS;
-use policy_spec::reachability::MOST;
 use policy_spec::reachability::NODES;
 use policy_spec::reachability::Worklist;
+use policy_spec::tables::EVENTS;
+use policy_spec::tables::MOST_STATES;
 use types::PolicyNumbers;
 ghost use mathlib.Core.Path.{_≡_};
 ghost use Prim.Native.Nat.{_+_, _*_, _/_, _≤_, _<_};
@@ -32,7 +32,7 @@ pub fn has_pending(f: Worklist, k: usize) -> bool
     requires { ⌜ WorklistSized f ⌝ }
     ensures { λ r. ⌜ r ≡ hasPending f k ⌝ }
 {
-    (k < EVENTS * f.count) & (f.count <= MOST)
+    (k < EVENTS * f.count) & (f.count <= MOST_STATES)
 }
 
 // The node that arrow k starts from.
@@ -60,7 +60,7 @@ fn index_of_node(nodes: &[u16; NODES], n: usize, x: u16) -> usize
 }
 
 // The work list after arrow k, which leads to node x.
-pub fn step(f: Worklist, k: usize, x: u16) -> Worklist
+pub fn insert_target(f: Worklist, k: usize, x: u16) -> Worklist
     requires { ⌜ WorklistSized f × (f .count ≤ mostStates) × (k < events * mostStates) ⌝ }
     ensures { λ r. ⌜ r ≡ insertTarget f k x ⌝ }
 {

@@ -1,9 +1,9 @@
 // Writes the policy of the nodes that were found, or refuses it.
 use policy_spec::reachability::ARROWS;
-use policy_spec::reachability::EVENTS;
-use policy_spec::reachability::MOST;
 use policy_spec::reachability::Made;
 use policy_spec::reachability::Worklist;
+use policy_spec::tables::EVENTS;
+use policy_spec::tables::MOST_STATES;
 use types::Answer;
 use types::PolicyNumbers;
 use types::Refusal;
@@ -40,13 +40,13 @@ fn copy(from: &[u8; ARROWS], to: &mut [u8], n: usize)
 }
 
 // Writes the policy's table to the start of `table`, and answers its numbers.
-pub fn write(f: Worklist, table: &mut [u8]) -> Made
+pub fn write_policy(f: Worklist, table: &mut [u8]) -> Made
     requires { ⌜ WorklistSized f ⌝ }
     ensures made { λ r. ⌜ r ≡ writtenOf f (length (now (table .entry))) ⌝ }
     ensures table { λ _. ⌜ now (table .exit) ≡ writtenTable f (now (table .entry)) ⌝ }
 {
     let n = f.count;
-    if MOST < n {
+    if MOST_STATES < n {
         return refused(Refusal::TOO_MANY_STATES);
     }
     let bytes = EVENTS * n;

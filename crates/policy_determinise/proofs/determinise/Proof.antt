@@ -24,7 +24,7 @@ returns-2 c =
     let judged = explored .before .before in
     let start = judged .before .before .before in
     makes _ _ (judged .drawing-right .ensures) (now (start .args .table)) _ _ _ (not-false _ (explored .before .if1 .left)) (explored .explore .ensures)
-    (written .write .ensures .0) (written .write .ensures .1)
+    (written .write-policy .ensures .0) (written .write-policy .ensures .1)
 
 pub determinise-spec : {M : Type 1} → statement M
 determinise-spec =

@@ -29,8 +29,8 @@ node-requires c κs = low c .1
 next-requires : tie.Need-next-requires Inv-loop μ-loop
 next-requires c κs = let fit = c .before .before .before .before .before .before .pre in (fit .few-states, omega arith, fit .size)
 
-step-requires : tie.Need-step-requires Inv-loop μ-loop
-step-requires c κs = let test = c .before .before in (test .before .before .loop .inv .sized, low test .0, low test .1)
+insert-target-requires : tie.Need-insert-target-requires Inv-loop μ-loop
+insert-target-requires c κs = let test = c .before .before in (test .before .before .loop .inv .sized, low test .0, low test .1)
 
 add-k : tie.Need-add-k Inv-loop μ-loop
 add-k c = record { fits = omega (arith, low (c .before .before .before) .1) }
@@ -44,7 +44,7 @@ loop-again c =
     let at = test .before .before .loop in
     let start = test .before .before .before .before .before in
     holds-more _ (start .args .starts) (arrows _ (start .pre)) (at .found) (at .k) (at .inv) _ (test .before .has-pending .ensures) (test .if1 .taken) _ _
-    (c .before .before .node .ensures) (c .before .next .ensures) _ (c .step .ensures)
+    (c .before .before .node .ensures) (c .before .next .ensures) _ (c .insert-target .ensures)
 
 returns : tie.Need-returns Inv-loop μ-loop
 returns c =
@@ -63,7 +63,7 @@ explore-spec =
     (λ c κs. c .loop .inv .sized)
     node-requires
     next-requires
-    step-requires
+    insert-target-requires
     add-k
     loop-less
     loop-again

@@ -5,7 +5,7 @@ use Rattle.policy_merge.proofs.merge.Tie as tie
 
 returns : tie.Need-returns
 returns c =
-    let made = c .before .before .before .before .before .before .made-of .ensures in
+    let made = c .before .before .before .before .before .before .merge-made .ensures in
     (merged-is _ _ _ _ _ _ _ _ (made .0) (c .before .smaller .ensures) (c .with-ceilings .ensures), made .1)
 
 pub merge-spec : {M : Type 1} → statement M

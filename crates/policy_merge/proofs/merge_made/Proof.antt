@@ -3,8 +3,8 @@ use denote.Ref.{now}
 use borrow.Author.Needs.{needs}
 use borrow.Author.Tests.{not-true, not-false}
 use Rattle.policy_merge.proofs.Laws.{bad-policy, sides, makes}
-use Rattle.policy_merge.proofs.made_of.Statement.{statement}
-use Rattle.policy_merge.proofs.made_of.Tie as tie
+use Rattle.policy_merge.proofs.merge_made.Statement.{statement}
+use Rattle.policy_merge.proofs.merge_made.Tie as tie
 
 returns : tie.Need-returns
 returns c =
@@ -32,10 +32,10 @@ returns-2 c =
     let second = test .before in
     let first = second .before in
     makes _ _ _ _ (first .table-right .ensures) (second .table-right2 .ensures) (now (first .before .before .before .before .args .table)) _ _ _ _
-    (not-false _ (test .if1 .left)) (paired .pair .ensures) (explored .explore .ensures) (written .write .ensures .0) (written .write .ensures .1)
+    (not-false _ (test .if1 .left)) (paired .pair .ensures) (explored .explore .ensures) (written .write-policy .ensures .0) (written .write-policy .ensures .1)
 
-pub made-of-spec : {M : Type 1} → statement M
-made-of-spec =
+pub merge-made-spec : {M : Type 1} → statement M
+merge-made-spec =
     tie.close
     (tie.spec
     (λ c κs. search needs)

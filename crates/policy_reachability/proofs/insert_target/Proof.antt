@@ -1,8 +1,8 @@
 use native.Mathlib.Omega.{arith}
 use borrow.Author.Needs.{needs}
 use Rattle.policy_reachability.proofs.Laws.{step-none, step-known, step-new}
-use Rattle.policy_reachability.proofs.step.Statement.{statement}
-use Rattle.policy_reachability.proofs.step.Tie as tie
+use Rattle.policy_reachability.proofs.insert_target.Statement.{statement}
+use Rattle.policy_reachability.proofs.insert_target.Tie as tie
 
 index-of-node-requires : tie.Need-index-of-node-requires
 index-of-node-requires c κs = let sized = c .before .before .before .pre .0 in (sized .most, omega (arith, sized .most, sized .nodes))
@@ -20,8 +20,8 @@ returns-3 c =
     let start = c .before .before .before .before .before in
     step-new (start .args .f) (start .args .k) (start .args .x) _ (start .pre .0) (c .before .before .before .before .if1 .left) (c .before .index-of-node .ensures .0) (c .if2 .left)
 
-pub step-spec : {M : Type 1} → statement M
-step-spec =
+pub insert-target-spec : {M : Type 1} → statement M
+insert-target-spec =
     tie.close
     (tie.spec
     (λ c. search needs)

@@ -2,8 +2,8 @@ use denote.Ref.{now}
 use mathlib.Core.Path.{refl}
 use borrow.Author.Needs.{needs}
 use Rattle.policy_reachability.proofs.writing.Laws.{too-many, no-room, writes}
-use Rattle.policy_reachability.proofs.writing.write.Statement.{statement}
-use Rattle.policy_reachability.proofs.writing.write.Tie as tie
+use Rattle.policy_reachability.proofs.writing.write_policy.Statement.{statement}
+use Rattle.policy_reachability.proofs.writing.write_policy.Tie as tie
 
 returns : tie.Need-returns
 returns c = let start = c .before .before .before in too-many (start .args .f) (start .pre) (now (start .args .table)) _ (c .before .if1 .taken) (c .refused .ensures)
@@ -21,8 +21,8 @@ returns-3 c =
     let start = roomy .before .before .before in
     writes (start .args .f) (start .pre) (now (start .args .table)) _ _ (roomy .before .if1 .left) refl (roomy .if2 .left) (copied .copy .ensures) _ (search needs)
 
-pub write-spec : {M : Type 1} → statement M
-write-spec =
+pub write-policy-spec : {M : Type 1} → statement M
+write-policy-spec =
     tie.close
     (tie.spec
     (λ c κs. search needs)
