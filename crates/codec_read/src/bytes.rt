@@ -12,7 +12,7 @@ pub fn widen(x: u8) -> u64
 }
 
 // Two bytes, low first.
-fn pair(s: &[u8], at: usize) -> u64
+fn two_bytes(s: &[u8], at: usize) -> u64
     requires { ⌜ at + 2 ≤ length (now s) ⌝ }
     ensures { λ r. ⌜ (r ≡ pairAt (now (s .entry)) at) × (r < 65536) ⌝ }
 {
@@ -27,7 +27,7 @@ pub fn quad(s: &[u8], at: usize, bit: usize) -> u64
     if bit == 0 {
         return 0;
     }
-    let low = pair(s, at);
-    let high = pair(s, at + 2);
+    let low = two_bytes(s, at);
+    let high = two_bytes(s, at + 2);
     low + 65536 * high
 }

@@ -1,6 +1,7 @@
 // Decodes a valid instruction if at least ten bytes are left from its map on. For any other it gives no answer, and the full path decides.
 use crate::bytes::quad;
 use crate::bytes::widen;
+use crate::map::TOP_MAP;
 use types::Decoded;
 use types::Refusal;
 use words::field;
@@ -11,9 +12,7 @@ ghost use lib.ListN.{length};
 ghost use Rattle.spec.specs.Words.{packOf};
 ghost use Rattle.codec_read.specs.fast_path.Parts.{longest, bytePart, quadPart, ReadPrefix, FastAnswer};
 
-// The largest map byte, and the most bytes of an instruction.
-const TOP_MAP: usize = 63;
-
+// The most bytes of an instruction.
 pub const LONGEST: usize = 10;
 
 // Means that the fast path has no answer. It never refuses an instruction itself.

@@ -1,6 +1,7 @@
 // Decodes any instruction, or finds its first refusal.
 use crate::bytes::quad;
 use crate::bytes::widen;
+use crate::map::TOP_MAP;
 use crate::map::map_of;
 use crate::map::size_of;
 use types::Decoded;
@@ -13,9 +14,6 @@ ghost use Prim.Native.Nat.{_+_, _*_, _/_, _%_, _≤_};
 ghost use lib.ListN.{length};
 ghost use Rattle.spec.specs.Bytes.{sizeOf, byteAt, fieldsAt, decodeFields, decodeOne};
 ghost use Rattle.codec_read.specs.full_path.Parts.{fieldsFrom};
-
-// The largest map byte.
-const TOP_MAP: usize = 63;
 
 // A field of one byte, or 0 if its bit is 0. To avoid a branch, an absent field reads the map byte and multiplies it by 0.
 fn byte(s: &[u8], at: usize, bit: usize) -> u64

@@ -4,6 +4,9 @@ ghost use mathlib.Core.Path.{_≡_};
 ghost use Prim.Native.Nat.{_+_, _*_, _<_};
 ghost use Rattle.spec.specs.Bytes.{bitOf, mapOf, sizeOf};
 
+// The largest map byte: all six fields.
+pub const TOP_MAP: usize = 63;
+
 // Adds field x as a new lowest bit; the fields already in m move up.
 fn append(m: usize, x: u64) -> usize
     requires { ⌜ m < 64 ⌝ }

@@ -46,7 +46,8 @@ fn put_quad(bytes: &mut [u8], at: usize, v: u64) -> usize
     at + 4
 }
 
-fn store(bytes: &mut [u8], at: usize, x: usize) -> usize
+// Writes the map byte. Returns the index after it.
+fn put_map(bytes: &mut [u8], at: usize, x: usize) -> usize
     requires { ⌜ (at < length (now bytes)) × (x < 256) ⌝ }
     ensures next { λ r. ⌜ r ≡ at + 1 ⌝ }
     ensures content { λ _. ⌜ now (bytes .exit) ≡ set (now (bytes .entry)) at x ⌝ }
@@ -78,7 +79,7 @@ fn put_fields(bytes: &mut [u8], at: usize, f: Fields) -> usize
     ensures next { λ r. ⌜ r ≡ at + encodedSize f ⌝ }
     ensures content { λ _. ⌜ now (bytes .exit) ≡ stores (now (bytes .entry)) at (fieldsOut f) ⌝ }
 {
-    let p = store(bytes, at, map_of(f));
+    let p = put_map(bytes, at, map_of(f));
     let q = put_byte(bytes, p, f.kind);
     let r = put_regs(bytes, q, f);
     put_quad(bytes, r, f.v)

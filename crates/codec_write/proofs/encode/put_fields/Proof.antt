@@ -6,15 +6,15 @@ use Rattle.codec_write.proofs.encode.put_fields.Reads as reads
 use Rattle.codec_write.proofs.encode.put_fields.Lts as lts
 use Rattle.codec_read.proofs.map.map_of.Reads as map-of-reads
 use Rattle.codec_write.proofs.encode.put_byte.Reads as put-byte-reads
-use Rattle.codec_write.proofs.encode.store.Reads as store-reads
+use Rattle.codec_write.proofs.encode.put_map.Reads as put-map-reads
 use Rattle.codec_write.proofs.encode.put_quad.Reads as put-quad-reads
 use Rattle.codec_write.proofs.encode.put_regs.Reads as put-regs-reads
 
 map-of-requires : tie.Need-map-of-requires
 map-of-requires c κs = search needs
 
-store-requires : tie.Need-store-requires
-store-requires c κs = search needs
+put-map-requires : tie.Need-put-map-requires
+put-map-requires c κs = search needs
 
 put-byte-requires : tie.Need-put-byte-requires
 put-byte-requires c κs = search needs
@@ -36,7 +36,7 @@ put-fields-spec =
     tie.close
     (tie.spec
     map-of-requires
-    store-requires
+    put-map-requires
     put-byte-requires
     put-regs-requires
     put-quad-requires
