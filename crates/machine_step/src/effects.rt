@@ -33,7 +33,7 @@ fn branch_target(holds: bool, to: u32, pc: u32) -> Effect
     Effect::Go(alu::add(pc, 1))
 }
 
-fn load(d: usize, at: u32, memory: &[u32]) -> Effect
+fn load_effect(d: usize, at: u32, memory: &[u32]) -> Effect
     ensures { λ r. ⌜ r ≡ cond (ltb at (length (now (memory .entry)))) (SetReg d (getD (now (memory .entry)) at 0)) (End Faulted) ⌝ }
 {
     let i = at as usize;
@@ -43,7 +43,7 @@ fn load(d: usize, at: u32, memory: &[u32]) -> Effect
     Effect::End(Status::Faulted)
 }
 
-fn store(at: u32, x: u32, memory: &[u32]) -> Effect
+fn store_effect(at: u32, x: u32, memory: &[u32]) -> Effect
     ensures { λ r. ⌜ r ≡ cond (ltb at (length (now (memory .entry)))) (SetCell at x) (End Faulted) ⌝ }
 {
     let i = at as usize;
@@ -105,8 +105,8 @@ fn command_effect(
         Command::Plain(k, d, a, b, v) => {
             Effect::SetReg(d as usize, value(k, reg(regs, a), reg(regs, b), v as u32))
         }
-        Command::Load(d, a) => load(d as usize, reg(regs, a), memory),
-        Command::Store(a, b) => store(reg(regs, a), reg(regs, b), memory),
+        Command::Load(d, a) => load_effect(d as usize, reg(regs, a), memory),
+        Command::Store(a, b) => store_effect(reg(regs, a), reg(regs, b), memory),
         Command::GoIf(a, b, c, v) => branch_target(
             alu::holds(c, reg(regs, a), reg(regs, b)),
             v as u32,
@@ -120,7 +120,7 @@ fn command_effect(
         ),
         Command::Look(d, v) => look(d as usize, view.cell, view.table, v as u32, memory),
         Command::StopIf(d) => stop_if(reg(regs, d), view.pc),
-        Command::Keep(d) => store(view.cell, reg(regs, d), memory),
+        Command::Keep(d) => store_effect(view.cell, reg(regs, d), memory),
         Command::Event(v) => event(v as u32, view.free, view.left),
         Command::Invalid => Effect::End(Status::Faulted),
     }
