@@ -1,10 +1,11 @@
 // Tests the shape of GOX, which masks its target in the hidden register.
-use crate::word::HIDDEN;
 use crate::word::is_word;
 use types::Bundle;
 use types::Command;
 use types::Layout;
+use words::command::BUNDLE_LENGTH;
 use words::field;
+use words::fields::HIDDEN;
 use words::refusals::TOP_CONDITION;
 ghost use mathlib.Core.Path.{_≡_};
 ghost use Prim.Native.Nat.{_≤_, _<_, _^_};
@@ -12,13 +13,11 @@ ghost use Rattle.types.specs.declared.Instr.the-variants.{GOX};
 ghost use Rattle.spec.specs.Words.{aOf, bOf, cOf};
 ghost use Rattle.spec.specs.Bundles.{addressOf, isBundle};
 
-const LENGTH: u64 = Bundle::LENGTH as u64;
-
-fn address(l: Layout, g: u64) -> u64
+fn bundle_address(l: Layout, g: u64) -> u64
     requires { ⌜ addressOf l g < 2 ^ 64 ⌝ }
     ensures { λ r. ⌜ r ≡ addressOf l g ⌝ }
 {
-    l.base as u64 + LENGTH * g
+    l.base as u64 + BUNDLE_LENGTH * g
 }
 
 // Whether four words are a GOX whose mask keeps the target within n bundles.
@@ -30,7 +29,7 @@ pub fn is_gox(l: Layout, n: usize, w: u64, x: u64, y: u64, z: u64) -> bool
     let a = field::a(z);
     let b = field::b(z);
     let c = field::c(z);
-    let last = address(l, n as u64) - 1;
+    let last = bundle_address(l, n as u64) - 1;
     (d < HIDDEN)
         & (a < HIDDEN)
         & (b < HIDDEN)

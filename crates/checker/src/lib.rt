@@ -37,7 +37,7 @@ fn passes(l: Layout, n: usize, commands: &[u64], h: usize) -> bool
 }
 
 // Refuses the first of n bundles that does not pass as bad bundle (11).
-fn scan(l: Layout, n: usize, commands: &[u64]) -> Answer
+fn check_bundles(l: Layout, n: usize, commands: &[u64]) -> Answer
     requires { ⌜ (0 < n) × (n ≤ mostBundles) × (addressOf l n ≤ 2 ^ 32) × (bundleLength * n ≤ length (now commands)) ⌝ }
     ensures { λ r. ⌜ r ≡ checkFrom l n (now (commands .entry)) 0 n ⌝ }
 {
@@ -67,5 +67,5 @@ pub fn check(layout: Layout, commands: &[u64]) -> Answer
     if !based {
         return Answer::refused(Refusal::BAD_BASE);
     }
-    scan(layout, n, commands)
+    check_bundles(layout, n, commands)
 }

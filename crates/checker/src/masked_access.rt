@@ -1,9 +1,9 @@
 // Tests the shapes of LOAD and STORE, which mask their address in the hidden register.
-use crate::word::HIDDEN;
 use crate::word::is_word;
 use types::Command;
 use types::Layout;
 use words::field;
+use words::fields::HIDDEN;
 ghost use mathlib.Core.Path.{_≡_};
 ghost use Rattle.spec.specs.Bundles.{isBundle};
 ghost use Rattle.checker.specs.masked_access.MaskedAccess.{maskWords, loadOf, storeOf, accessOf};

@@ -1,7 +1,7 @@
 // Tests the shapes of one command and three NOPs: HALT, a plain command, GOIF.
-use types::Bundle;
 use types::Command;
 use types::Layout;
+use words::command::BUNDLE_LENGTH;
 use words::command::is_command;
 use words::field;
 use words::fields::only_guest_registers;
@@ -9,8 +9,6 @@ ghost use mathlib.Core.Path.{_≡_};
 ghost use Prim.Native.Nat.{_<_, _^_};
 ghost use Rattle.types.specs.Names.{command};
 ghost use Rattle.checker.specs.single.Single.{singleWords, plainWords, isBundleAddress, goifWords};
-
-const LENGTH: u64 = Bundle::LENGTH as u64;
 
 const NOP: u64 = Command::NOP_WORD;
 
@@ -37,7 +35,7 @@ fn is_bundle_address(l: Layout, n: usize, v: u64) -> bool
         return false;
     }
     let away = v - base;
-    (away % LENGTH == 0) & (away / LENGTH < n as u64)
+    (away % BUNDLE_LENGTH == 0) & (away / BUNDLE_LENGTH < n as u64)
 }
 
 // A GOIF must go to the first command of one of n bundles.

@@ -1,13 +1,9 @@
 // Compares a word with the one that a kind and fields make.
-use types::Machine;
 use words::fields::word;
 ghost use mathlib.Core.Path.{_≡_};
 ghost use Prim.Native.Nat.{_<_, _^_};
 ghost use lib.Dec.{eqb};
 ghost use Rattle.spec.specs.Words.{packOf};
-
-// The hidden register. It is also the number of guest registers.
-pub const HIDDEN: u64 = Machine::HIDDEN as u64;
 
 pub fn is_word(w: u64, kind: u64, d: u64, a: u64, b: u64, c: u64, v: u64) -> bool
     requires { ⌜ (kind < 2 ^ 8) × (d < 2 ^ 4) × (a < 2 ^ 4) × (b < 2 ^ 4) × (c < 2 ^ 4) × (v < 2 ^ 32) ⌝ }

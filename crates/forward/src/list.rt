@@ -5,6 +5,7 @@ use types::Bundle;
 use types::Command;
 use types::Layout;
 use types::Refusal;
+use words::command::BUNDLE_LENGTH;
 use words::field;
 ghost use mathlib.Core.Path.{_≡_};
 ghost use Prim.Native.Nat.{_/_};
@@ -12,8 +13,6 @@ ghost use lib.ListN.{length};
 ghost use Rattle.types.specs.Names.{bundleLength};
 ghost use Rattle.spec.specs.Bundles.{bundleAt};
 ghost use Rattle.forward_spec.specs.Forward.{forwardWord, forwardFrom, checkForwardAnswer};
-
-const LENGTH: u64 = Bundle::LENGTH as u64;
 
 // Whether bundle h is forward. Its first word is enough: only GOX begins with a shift.
 fn forward_word(l: Layout, h: usize, w: u64) -> bool
@@ -28,7 +27,7 @@ fn forward_word(l: Layout, h: usize, w: u64) -> bool
     if to < base {
         return false;
     }
-    (h as u64) < (to - base) / LENGTH
+    (h as u64) < (to - base) / BUNDLE_LENGTH
 }
 
 // Refuses the first bundle that is not forward (18).

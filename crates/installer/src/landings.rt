@@ -10,7 +10,7 @@ ghost use Rattle.types.specs.Names.{mostBundles, landingCells, cellBits};
 ghost use Rattle.spec.specs.Landings.{rightLandings, landingsOf};
 
 // Every landing is below this.
-const MOST: u32 = Bundle::MOST as u32;
+const MOST_BUNDLES: u32 = Bundle::MOST as u32;
 
 // Whether the landings rise strictly and none is above 1,023.
 pub fn landings_right(landings: &[u32]) -> bool
@@ -23,7 +23,7 @@ pub fn landings_right(landings: &[u32]) -> bool
         if x < low {
             return false;
         }
-        if x >= MOST {
+        if x >= MOST_BUNDLES {
             return false;
         }
         low = x + 1;

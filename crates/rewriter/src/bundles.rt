@@ -3,13 +3,12 @@ use types::Bundle;
 use types::Command;
 use types::Instr;
 use types::Layout;
-use types::Machine;
+use words::command::BUNDLE_LENGTH;
+use words::fields::HIDDEN;
 use words::fields::word;
 ghost use mathlib.Core.Path.{_≡_};
 ghost use Rattle.spec.specs.Bundles.{bundleOf};
 ghost use Rattle.words.specs.Packing.{Packable};
-
-const HIDDEN: u64 = Machine::HIDDEN as u64;
 
 const NOP: u64 = Command::NOP_WORD;
 
@@ -46,7 +45,7 @@ pub fn bundle(l: Layout, n: usize, i: Instr) -> Bundle
         },
         Instr::GOIF(a, b, c, v) => Bundle {
             words: [
-                word(Command::GOIF, 0, a, b, c, base + Bundle::LENGTH as u64 * v),
+                word(Command::GOIF, 0, a, b, c, base + BUNDLE_LENGTH * v),
                 NOP,
                 NOP,
                 NOP,
@@ -61,7 +60,7 @@ pub fn bundle(l: Layout, n: usize, i: Instr) -> Bundle
                     HIDDEN,
                     0,
                     0,
-                    base + Bundle::LENGTH as u64 * n as u64 - 1,
+                    base + BUNDLE_LENGTH * n as u64 - 1,
                 ),
                 word(Command::ORI, HIDDEN, HIDDEN, 0, 0, base),
                 word(Command::GOXR, HIDDEN, a, b, c, 0),

@@ -2,6 +2,7 @@
 use crate::fields::field;
 use crate::fields::fields;
 use crate::reserved;
+use types::Bundle;
 use types::Command;
 ghost use mathlib.Core.Path.{_≡_};
 ghost use Prim.Native.Nat.{_<_};
@@ -10,8 +11,11 @@ ghost use Rattle.spec.specs.Words.{kindOf};
 ghost use Rattle.spec.specs.Commands.{limitsOf, isCommand, commandOf};
 ghost use Rattle.words.specs.fields.Strays.{strayOf};
 
+// How many commands a bundle has. The next bundle is as many addresses away.
+pub const BUNDLE_LENGTH: u64 = Bundle::LENGTH as u64;
+
 // The reserved bits of a kind, 0 in each of its commands: fields that the kind lacks, bits above the bounds of c and v, and bits 24 to 31.
-fn stray(k: u64) -> u64
+fn stray_bits(k: u64) -> u64
     requires { ⌜ k < commandKinds ⌝ }
     ensures { λ r. ⌜ r ≡ strayOf (limitsOf k) ⌝ }
 {
@@ -45,7 +49,7 @@ pub fn is_of_kind(k: u64, w: u64) -> bool
     requires { ⌜ (k < commandKinds) × (kindOf w ≡ k) ⌝ }
     ensures { λ r. ⌜ r ≡ isCommand w ⌝ }
 {
-    w & stray(k) == 0
+    w & stray_bits(k) == 0
 }
 
 // Whether a word is a command: its kind is known, and it has no stray bit. Four bits always name one of the sixteen registers.

@@ -3,10 +3,14 @@ pub mod field;
 
 use types::Fields;
 use types::Instr;
+use types::Machine;
 ghost use mathlib.Core.Path.{_≡_};
 ghost use Rattle.spec.specs.Words.{fieldsOf, packFields, instrOf};
 ghost use Rattle.words.specs.fields.Truncation.{truncateFields, truncatedWord};
 ghost use Rattle.words.specs.fields.Guests.{onlyGuestRegisters};
+
+// The hidden register, as a field names it. It is also the number of guest registers.
+pub const HIDDEN: u64 = Machine::HIDDEN as u64;
 
 pub fn fields(w: u64) -> Fields
     ensures { λ r. ⌜ r ≡ fieldsOf w ⌝ }

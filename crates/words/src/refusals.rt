@@ -1,8 +1,8 @@
 // Finds the first refusal of an instruction from its fields.
+use crate::fields::HIDDEN;
 use types::Fields;
 use types::Instr;
 use types::Limits;
-use types::Machine;
 use types::PolicyNumbers;
 use types::Refusal;
 ghost use mathlib.Core.Path.{_≡_};
@@ -13,7 +13,7 @@ ghost use Rattle.spec.specs.Words.{limitOf, guestLimits, hasStray, hasHigh, fie
 // The largest kind, guest register and condition.
 pub const TOP_KIND: u64 = Instr::KIND_EVENT;
 
-const TOP_GUEST: u64 = Machine::HIDDEN as u64 - 1;
+const TOP_GUEST: u64 = HIDDEN - 1;
 
 pub const TOP_CONDITION: u64 = 3;
 
@@ -54,7 +54,7 @@ fn limits_of(k: u64) -> Limits
 }
 
 // Whether a field that the kind lacks is nonzero.
-fn stray(l: Limits, f: Fields) -> bool
+fn has_stray(l: Limits, f: Fields) -> bool
     ensures { λ r. ⌜ r ≡ hasStray l f ⌝ }
 {
     (l.d == 0) & (0 < f.d)
@@ -65,7 +65,7 @@ fn stray(l: Limits, f: Fields) -> bool
 }
 
 // Whether a field is above its limit.
-fn high(l: Limits, f: Fields) -> bool
+fn has_high(l: Limits, f: Fields) -> bool
     ensures { λ r. ⌜ r ≡ hasHigh l f ⌝ }
 {
     (l.d < f.d) | (l.a < f.a) | (l.b < f.b) | (l.c < f.c) | (l.v < f.v)
@@ -80,11 +80,11 @@ pub fn fields_refusal(foreign: bool, f: Fields) -> u8
         return Refusal::UNKNOWN_KIND;
     }
     let most = limits_of(kind);
-    let strays = foreign | stray(most, f);
+    let strays = foreign | has_stray(most, f);
     if strays {
         return Refusal::FOREIGN;
     }
-    if high(most, f) {
+    if has_high(most, f) {
         return Refusal::OFF_RANGE;
     }
     Refusal::TAKEN

@@ -17,5 +17,5 @@ is-of-kind-spec =
     (λ c κs. search needs)
     (λ c. let start = c .before in
     let w = start .args .w in
-    subst (λ (s : ℕ). eqb (bitAnd w s) 0 ≡ isCommand w) (sym (c .stray .ensures ∙ ap (λ (k : ℕ). strayOf (limitsOf k)) (sym (start .pre .1))))
+    subst (λ (s : ℕ). eqb (bitAnd w s) 0 ≡ isCommand w) (sym (c .stray-bits .ensures ∙ ap (λ (k : ℕ). strayOf (limitsOf k)) (sym (start .pre .1))))
     (clean-is w (start .fits .w .fits) (subst (λ (k : ℕ). k < commandKinds) (sym (start .pre .1)) (start .pre .0)))))

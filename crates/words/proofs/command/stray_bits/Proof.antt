@@ -2,11 +2,11 @@ use Prim.Native.Nat.{zero-le, _≤_}
 use native.Mathlib.Omega.{arith}
 use Rattle.types.specs.Names.{commandKinds}
 use Rattle.spec.proofs.Tables.{past}
-use Rattle.words.proofs.command.stray.Statement.{statement}
-use Rattle.words.proofs.command.stray.Tie as tie
+use Rattle.words.proofs.command.stray_bits.Statement.{statement}
+use Rattle.words.proofs.command.stray_bits.Tie as tie
 
-pub stray-spec : {M : Type 1} → statement M
-stray-spec =
+pub stray-bits-spec : {M : Type 1} → statement M
+stray-bits-spec =
     tie.close
     (tie.spec
     (λ c. rw (c .match .keys1))

@@ -6,8 +6,8 @@ use borrow.Author.Needs.{needs}
 use borrow.Author.Tests.{not-true, not-false}
 use Rattle.spec.specs.Bundles.{checkFrom}
 use Rattle.checker.proofs.Passing.{check-stop, check-more, check-done}
-use Rattle.checker.proofs.scan.Statement.{statement}
-use Rattle.checker.proofs.scan.Tie as tie
+use Rattle.checker.proofs.check_bundles.Statement.{statement}
+use Rattle.checker.proofs.check_bundles.Tie as tie
 
 abbrev Inv-loop : tie.InvT-loop
 Inv-loop l n commands h₀ h = (h ≤ n) × (checkFrom l n commands 0 n ≡ checkFrom l n commands h (n - h))
@@ -15,8 +15,8 @@ Inv-loop l n commands h₀ h = (h ≤ n) × (checkFrom l n commands 0 n ≡ chec
 abbrev μ-loop : tie.MeasureT-loop
 μ-loop l n commands h₀ h = n - h
 
-pub scan-spec : {M : Type 1} → statement M
-scan-spec =
+pub check-bundles-spec : {M : Type 1} → statement M
+check-bundles-spec =
     tie.close
     (tie.spec
     Inv-loop
