@@ -31,7 +31,9 @@ BothRight a b = (sideRight a && sideRight b) ≡ true
 
 -- the merged policy can be installed under a layout with as many states
 abbrev pub MergedRight : Type 0
-MergedRight = (a b : Policy) (lay : Layout) → BothRight a b → nodesFit (pairAfter a b) (startPair a b) ≡ true → lay .states ≡ statesOf (pairAfter a b) (startPair a b) → rightPolicy lay (mergedPolicy a b) ≡ true
+MergedRight =
+    (a b : Policy) (lay : Layout) → BothRight a b → nodesFit (pairAfter a b) (startPair a b) ≡ true → lay .states ≡ statesOf (pairAfter a b) (startPair a b) →
+    rightPolicy lay (mergedPolicy a b) ≡ true
 
 -- 'The words of events it allows are exactly those that both allow'
 abbrev pub AllowedByBoth : Type 0
