@@ -38,6 +38,13 @@ fn keys_edit_a_line() {
         ),
         ("\u{e9}t\u{e9}\x7f\n", "\u{e9}t"),
         ("\x1b[5~\x1b[Za\x1bq\x00\n", "a"),
+        // With Control, Shift or Alt the arrow keys send numbers, and no ~.
+        ("reg\x1b[1;5D\x1b[1;2D\x1b[1;3Cx\n", "rexg"),
+        ("gs\x1b[1;5Hre\x1b[1;5F!\n", "regs!"),
+        ("xregs\x01\x1b[3;5~\n", "regs"),
+        ("\x1b[15~\x1b[200~regs\x1b[201~\n", "regs"),
+        // The function keys of a console.
+        ("\x1b[[Aregs\x1b[[E\n", "regs"),
         ("\x7f\x1b[D\x1b[3~\x17\n", ""),
     ];
     for (sent, line) in lines {

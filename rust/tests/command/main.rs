@@ -18,6 +18,11 @@ mod page;
 mod policies;
 mod routines;
 mod running;
+#[cfg(all(
+    target_os = "linux",
+    any(target_arch = "x86_64", target_arch = "aarch64")
+))]
+mod terminal;
 mod writing;
 
 use std::fs;

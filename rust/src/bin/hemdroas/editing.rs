@@ -26,24 +26,36 @@ pub enum Key {
 
 /// The key of a sequence behind the escape key.
 fn escaped(bytes: &mut impl Iterator<Item = u8>) -> Option<Key> {
-    if !matches!(bytes.next()?, b'[' | b'O') {
-        return Some(Key::Unknown);
-    }
-    let key = bytes.next()?;
-    if key.is_ascii_digit() {
-        // Such a sequence goes on to a ~.
-        while bytes.next()? != b'~' {}
-    }
-    Some(match key {
-        b'A' => Key::Earlier,
-        b'B' => Key::Later,
-        b'C' => Key::Right,
-        b'D' => Key::Left,
-        b'H' | b'1' | b'7' => Key::First,
-        b'F' | b'4' | b'8' => Key::Last,
-        b'3' => Key::Delete,
+    let (first, last) = match bytes.next()? {
+        b'[' => sequence(bytes)?,
+        b'O' => (None, bytes.next()?),
+        _ => return Some(Key::Unknown),
+    };
+    Some(match (last, first) {
+        (b'A', _) => Key::Earlier,
+        (b'B', _) => Key::Later,
+        (b'C', _) => Key::Right,
+        (b'D', _) => Key::Left,
+        (b'H', _) | (b'~', Some(b'1' | b'7')) => Key::First,
+        (b'F', _) | (b'~', Some(b'4' | b'8')) => Key::Last,
+        (b'~', Some(b'3')) => Key::Delete,
         _ => Key::Unknown,
     })
+}
+
+/// The first byte of a sequence's numbers, if it has any, and its last byte. With
+/// Control or Shift, the numbers of a key tell so.
+fn sequence(bytes: &mut impl Iterator<Item = u8>) -> Option<(Option<u8>, u8)> {
+    let mut first = None;
+    loop {
+        let byte = bytes.next()?;
+        match byte {
+            b'0'..=b'?' | b' '..=b'/' => first = first.or(Some(byte)),
+            // The console's function keys have one byte more.
+            b'[' => return bytes.next().map(|_| (first, b'[')),
+            _ => return Some((first, byte)),
+        }
+    }
 }
 
 /// The letter whose first byte this is.

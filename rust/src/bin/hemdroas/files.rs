@@ -16,7 +16,8 @@ const LARGEST_FILE: u64 = 1 << 20;
 /// What messages call the output that has no name.
 const STANDARD_OUTPUT: &str = "standard output";
 
-fn failed(path: &str, error: io::Error) -> Problem {
+/// What is said of a file that cannot be read or written.
+pub fn failed(path: &str, error: io::Error) -> Problem {
     match error.kind() {
         ErrorKind::BrokenPipe => Problem::Quiet,
         // The system's words, without its number.

@@ -10,8 +10,8 @@ use std::io::{self, BufRead, IsTerminal, Read};
 /// The most bytes of a line that is typed.
 const LONGEST_LINE: u64 = 1 << 16;
 
-/// The columns of a terminal that a line is shown in.
-const COLUMNS: usize = 79;
+/// The columns of a terminal that does not say how many it has.
+const COLUMNS: usize = 80;
 
 thread_local! {
     /// The lines that were typed at a terminal.
@@ -19,12 +19,14 @@ thread_local! {
 }
 
 /// A line of a terminal that gives keys; none if the person leaves.
-fn edit(question: &str) -> Option<String> {
+fn edit(question: &str, keys: &Keys) -> Option<String> {
+    // The last column is left free: a line that fills it may wrap.
+    let width = keys.columns().unwrap_or(COLUMNS) - 1;
     let before = TYPED.with_borrow(|typed| typed.clone());
     let mut editor = Editor::new(&before);
     let mut bytes = io::stdin().lock().bytes().map_while(Result::ok);
     let typed = loop {
-        files::complain(&editor.drawn(question, COLUMNS));
+        files::complain(&editor.drawn(question, width));
         let Some(key) = key(&mut bytes) else {
             break Typed::Left;
         };
@@ -50,9 +52,10 @@ fn plain(question: &str) -> Result<Option<String>, Problem> {
     let mut line = Vec::new();
     let mut limited = io::stdin().lock().take(LONGEST_LINE);
     let read = limited.read_until(b'\n', &mut line);
-    let failed = |error: io::Error| Problem::File("standard input".to_string(), error.to_string());
-    if read.map_err(failed)? == 0 {
+    if !matches!(read, Ok(1..)) {
         files::complain("\n");
+    }
+    if read.map_err(|error| files::failed("standard input", error))? == 0 {
         return Ok(None);
     }
     let line = String::from_utf8_lossy(&line).trim().to_string();
@@ -68,7 +71,7 @@ pub fn ask(question: &str) -> Result<Option<String>, Problem> {
     let is_dumb = std::env::var("TERM").map_or(true, |name| name == "dumb");
     let has_keys = io::stdin().is_terminal() && io::stderr().is_terminal() && !is_dumb;
     match has_keys.then(Keys::new).flatten() {
-        Some(_keys) => Ok(edit(question).map(|line| line.trim().to_string())),
+        Some(keys) => Ok(edit(question, &keys).map(|line| line.trim().to_string())),
         None => plain(question),
     }
 }

@@ -19,13 +19,19 @@ mod linux {
         speeds: [u32; 2],
     }
 
+    /// The rows, columns, width and height of a terminal.
+    type Size = [u16; 4];
+
     extern "C" {
         fn tcgetattr(file: i32, settings: *mut Settings) -> i32;
         fn tcsetattr(file: i32, action: i32, settings: *const Settings) -> i32;
+        fn ioctl(file: i32, request: u64, size: *mut Size) -> i32;
     }
 
     const STANDARD_INPUT: i32 = 0;
     const NOW: i32 = 0;
+    /// The request for a terminal's size.
+    const GET_SIZE: u64 = 0x5413;
     /// Signals of keys, whole lines, and the echo of keys.
     const BY_LINES: u32 = 0x1 | 0x2 | 0x8;
     const LEAST_WAIT: usize = 5;
@@ -49,6 +55,14 @@ mod linux {
             by_keys.characters[LEAST_WAIT] = 0;
             by_keys.characters[LEAST_BYTES] = 1;
             set(&by_keys).then_some(Keys { before })
+        }
+
+        /// The terminal's columns, if it says so.
+        pub fn columns(&self) -> Option<usize> {
+            let mut size = Size::default();
+            // SAFETY: the pointer is to a live array of the size that the request fills.
+            let is_known = unsafe { ioctl(STANDARD_INPUT, GET_SIZE, &mut size) } == 0;
+            (is_known && size[1] > 0).then_some(size[1].into())
         }
     }
 
@@ -74,6 +88,10 @@ mod linux {
 
     impl Keys {
         pub fn new() -> Option<Keys> {
+            None
+        }
+
+        pub fn columns(&self) -> Option<usize> {
             None
         }
     }
