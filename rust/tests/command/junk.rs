@@ -3,6 +3,8 @@
 use crate::{command, examples, file, folder, Came};
 use std::fs;
 use std::io::pipe;
+use std::os::unix::fs::PermissionsExt;
+use std::os::unix::process::CommandExt;
 use std::path::Path;
 use std::process::{Command, Stdio};
 
@@ -320,4 +322,58 @@ fn standard_output_that_is_an_input_is_refused() {
         }
     }
     shell("list - < /dev/null > /dev/null").ended(1, "the file is empty");
+}
+
+#[test]
+fn a_file_that_is_written_keeps_its_mode() {
+    let folder = folder("mode");
+    let out = file(&folder, "out", "before");
+    for mode in [0o640, 0o755] {
+        fs::set_permissions(&out, fs::Permissions::from_mode(mode)).unwrap();
+        let line = format!("assemble sample.routine --drum sample.drum -o {out}");
+        command(&line.split(' ').collect::<Vec<_>>()).printed(0, "");
+        let found = fs::metadata(&out).unwrap().permissions().mode();
+        assert_eq!(found & 0o777, mode);
+    }
+}
+
+/// A user who may write any file may not be one for this test: then it takes another.
+#[test]
+fn a_file_that_may_not_be_written_is_not_replaced() {
+    const NOBODY: u32 = 65534;
+    let folder = folder("kept");
+    let out = file(&folder, "out", "before");
+    fs::set_permissions(&out, fs::Permissions::from_mode(0o444)).unwrap();
+    fs::set_permissions(&folder, fs::Permissions::from_mode(0o777)).unwrap();
+    let may_write = fs::File::options().write(true).open(&out).is_ok();
+    let mut command = Command::new(env!("CARGO_BIN_EXE_hemdroas"));
+    command.args("assemble sample.routine --drum sample.drum -o".split(' '));
+    command.arg(&out).current_dir(examples());
+    if may_write {
+        command.uid(NOBODY);
+    }
+    // Folders above the command may be closed to that user.
+    if let Ok(output) = command.output() {
+        let came = Came::of(output);
+        came.ended(3, "out: Permission denied");
+        assert_eq!(fs::read(&out).unwrap(), b"before");
+    }
+}
+
+#[test]
+fn questions_that_a_folder_should_answer_end_with_a_message() {
+    for line in ["preview", "step", "run --resume"] {
+        let mut words = line.split(' ').collect::<Vec<_>>();
+        words.extend("profile.routine --drum profile.drum --policy profile.policy".split(' '));
+        let output = Command::new(env!("CARGO_BIN_EXE_hemdroas"))
+            .args(words)
+            .current_dir(examples())
+            .stdin(fs::File::open(examples()).expect("a folder opens"))
+            .output()
+            .expect("the command runs");
+        let came = Came::of(output);
+        assert_eq!(came.status, 3, "{line}: {}", came.error);
+        let said = "\nhemdroas: standard input: Is a directory\n";
+        assert!(came.error.ends_with(said), "{line}: {}", came.error);
+    }
 }

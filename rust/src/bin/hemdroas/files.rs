@@ -4,7 +4,7 @@ use super::args::Args;
 use super::closed::was_closed;
 use super::json::Json;
 use super::problem::Problem;
-use std::fs::{self, File, Metadata};
+use std::fs::{self, File, Metadata, Permissions};
 use std::io::{self, ErrorKind, Read, Write};
 use std::os::fd::AsFd;
 use std::os::unix::fs::MetadataExt;
@@ -92,14 +92,33 @@ pub fn keep_inputs(args: &Args) -> Result<(), Problem> {
     Ok(())
 }
 
+/// The mode of a file that is to be written, if there is one. One that may not be
+/// written is not replaced either.
+fn mode(path: &Path) -> io::Result<Option<Permissions>> {
+    match File::options().write(true).open(path) {
+        Ok(file) => Ok(Some(file.metadata()?.permissions())),
+        Err(error) if error.kind() == ErrorKind::NotFound => Ok(None),
+        Err(error) => Err(error),
+    }
+}
+
 /// Writes a file beside the path and moves it there, so that a full disk leaves
-/// what was there before.
+/// what was there before. The file keeps its mode.
 fn replace(path: &Path, content: &[u8]) -> io::Result<()> {
+    let mode = mode(path)?;
     let mut beside = path.as_os_str().to_owned();
     beside.push(format!(".{}.part", std::process::id()));
     let beside = PathBuf::from(beside);
+    let fill = |mut file: File| {
+        file.write_all(content)?;
+        let made = file.metadata()?.permissions();
+        if let Some(other) = mode.filter(|mode| *mode != made) {
+            file.set_permissions(other)?;
+        }
+        file.sync_all()
+    };
     let written = File::create(&beside)
-        .and_then(|mut file| file.write_all(content).and_then(|()| file.sync_all()))
+        .and_then(fill)
         .and_then(|()| fs::rename(&beside, path));
     if written.is_err() {
         // It is of no use; that it cannot be removed says no more than the error does.
