@@ -131,6 +131,11 @@ fn condition(said: Said, is_short: bool) -> Result<u32, Fault> {
     }
 }
 
+/// Whether a number may begin with a character.
+fn is_numeric(c: char) -> bool {
+    c.is_ascii_digit() || c == '-'
+}
+
 /// Whether a word looks like a register's name.
 fn is_register(word: &str) -> bool {
     let digits = word.strip_prefix(['r', 'R']);
@@ -150,6 +155,9 @@ impl Meanings<'_> {
             return match number(word) {
                 Ok(value) => Ok((value, shown)),
                 Err(_) if faults.is_given(word) => Ok((0, Shown::Plain)),
+                Err(_) if kind.name == EVENT && !word.starts_with(is_numeric) => {
+                    Err(said.fault(format!("{} is no event's name or number", quoted(word))))
+                }
                 Err(message) => Err(said.fault(message)),
             };
         }
@@ -170,6 +178,9 @@ impl Meanings<'_> {
             false => faults.hint(word, self.labels.keys().copied()),
         };
         match kind.name {
+            EVENT if is_register(word) => {
+                format!("{} is a register; an event stands here", quoted(word))
+            }
             EVENT => match self.names.event(word) {
                 Err(message) => message,
                 Ok(_) => String::new(),
@@ -195,7 +206,7 @@ impl Meanings<'_> {
     ) -> (Fields, Shown) {
         let mut fields = Fields::default();
         let mut shown = Shown::Plain;
-        let is_short = form.len() < kind.forms[kind.forms.len() - 1].len();
+        let is_short = form.len() < most_operands(kind);
         for (field, &said) in form.iter().zip(operands) {
             let found = match field {
                 Field::D | Field::A | Field::B => register(said),
@@ -218,18 +229,24 @@ impl Meanings<'_> {
     }
 
     /// The word of one statement.
-    fn instruction(&self, said: Said, faults: &mut Faults) -> Result<(u64, Source), Fault> {
+    fn instruction(&self, said: Said, faults: &mut Faults) -> Option<(u64, Source)> {
         let (name, rest) = match said.split_once(char::is_whitespace) {
             Some((name, rest)) => (name, Some(rest)),
             None => (said, None),
         };
         let same = |kind: &Kind| kind.name.eq_ignore_ascii_case(name.text);
         let Some(number) = KINDS.iter().position(same) else {
-            return Err(name.fault(no_instruction(name.text, rest.is_none())));
+            faults.add(name.fault(no_instruction(name.text, rest.is_none())));
+            return None;
         };
         let kind = &KINDS[number];
         let operands = rest.map_or(Vec::new(), |rest| rest.split(','));
-        let form = form_of(kind, name, &operands)?;
+        let strays = strays(kind, &operands);
+        if !strays.is_empty() {
+            strays.into_iter().for_each(|fault| faults.add(fault));
+            return None;
+        }
+        let form = faults.keep(form_of(kind, name, &operands))?;
         let (fields, shown) = self.fields(kind, form, &operands, faults);
         let places = operands.iter().map(Said::place);
         let source = Source {
@@ -238,8 +255,20 @@ impl Meanings<'_> {
             shown,
         };
         let kind = number as u32;
-        Ok((word(Fields { kind, ..fields }), source))
+        Some((word(Fields { kind, ..fields }), source))
     }
+}
+
+/// Whether a word names an instruction.
+fn is_kind(word: &str) -> bool {
+    KINDS
+        .iter()
+        .any(|kind| kind.name.eq_ignore_ascii_case(word))
+}
+
+/// Whether a word begins a comment in other languages.
+fn begins_comment(word: &str) -> bool {
+    [";", "//", "/*"].iter().any(|mark| word.starts_with(mark))
 }
 
 /// What is said of a line that begins with no instruction.
@@ -248,24 +277,65 @@ fn no_instruction(word: &str, is_alone: bool) -> String {
     let near = hint(word, known.chain([LANDING]));
     let near = match near.is_empty() {
         false => near,
-        true if word.starts_with([';', '/', '\'']) => "; a comment begins with #".to_string(),
+        true if begins_comment(word) || word.starts_with('\'') => {
+            "; a comment begins with #".to_string()
+        }
         true if is_alone && is_name(word) => "; a label ends with a colon".to_string(),
         true => String::new(),
     };
     format!("{} is no instruction{near}", quoted(word))
 }
 
+/// What is wrong with a word that stands behind another one, without a comma, where
+/// so many operands may still come.
+fn stray(kind: &Kind, (before, word): (Said, Said), missing: usize) -> String {
+    let joined = format!("{}{}", before.text, word.text);
+    let is_torn = |text: &str| is_register(text) || number(text).is_ok();
+    let said = quoted(word.text);
+    match missing {
+        _ if is_kind(word.text) => {
+            format!("{said} begins a second instruction: write one a line")
+        }
+        _ if is_torn(&joined) && !is_torn(before.text) => {
+            format!("a blank is too many: write {}", quoted(&joined))
+        }
+        0 => format!("{said} is one word too many, as in '{}'", kind.example),
+        _ => format!("a comma is missing before {said}, as in '{}'", kind.example),
+    }
+}
+
+/// What is wrong with the words of operands: a comment's, or words that no comma
+/// parts. All commas that are missing are named, unless a word is too many.
+fn strays(kind: &Kind, operands: &[Said]) -> Vec<Fault> {
+    let words: Vec<Vec<Said>> = operands.iter().map(Said::words).collect();
+    let comment = words
+        .iter()
+        .flatten()
+        .find(|word| begins_comment(word.text));
+    if let Some(word) = comment {
+        let message = format!("a comment begins with #, not with {}", quoted(word.text));
+        return vec![word.fault(message)];
+    }
+    // All words behind an instruction without operands are too many.
+    let words = words.iter().filter(|_| most_operands(kind) > 0);
+    let pairs: Vec<&[Said]> = words.flat_map(|words| words.windows(2)).collect();
+    let missing = most_operands(kind).saturating_sub(operands.len());
+    let shown = if pairs.len() <= missing {
+        pairs.len()
+    } else {
+        1
+    };
+    let fault = |pair: &&[Said]| pair[1].fault(stray(kind, (pair[0], pair[1]), missing));
+    pairs.iter().take(shown).map(fault).collect()
+}
+
+/// The most operands of a kind.
+fn most_operands(kind: &Kind) -> usize {
+    kind.forms[kind.forms.len() - 1].len()
+}
+
 /// The form that has as many operands, or what is wrong with them.
 fn form_of(kind: &Kind, name: Said, operands: &[Said]) -> Result<&'static [Field], Fault> {
-    for operand in operands {
-        if let [_, second, ..] = operand.words()[..] {
-            return Err(second.fault(format!(
-                "a comma is missing before {}, as in '{}'",
-                quoted(second.text),
-                kind.example
-            )));
-        }
-    }
     let found = kind.forms.iter().find(|form| form.len() == operands.len());
     if let Some(form) = found {
         return Ok(form);
@@ -276,7 +346,7 @@ fn form_of(kind: &Kind, name: Said, operands: &[Said]) -> Result<&'static [Field
             kind.example
         )));
     }
-    let most = kind.forms[kind.forms.len() - 1].len();
+    let most = most_operands(kind);
     let message = match operands.get(most) {
         Some(_) if most == 0 => format!("{} takes no operand", kind.name),
         Some(more) => format!(
@@ -303,6 +373,9 @@ impl<'a> Statements<'a> {
     /// Takes a label.
     fn label(&mut self, label: Said<'a>, names: &Names) -> Result<(), Fault> {
         let instruction = self.next();
+        if label.text.is_empty() {
+            return Err(label.fault("a label is missing before the colon"));
+        }
         if is_name(label.text) && names.event(label.text).is_ok() {
             return Err(label.fault(format!(
                 "{} is the name of an event: choose another label",
@@ -347,10 +420,7 @@ impl<'a> Statements<'a> {
         }
         if let [word] = said.words()[..] {
             // It may be a label without its colon.
-            if KINDS
-                .iter()
-                .all(|kind| !kind.name.eq_ignore_ascii_case(word.text))
-            {
+            if !is_kind(word.text) {
                 faults.lose(word.text);
             }
         }
@@ -394,7 +464,7 @@ pub fn assemble(text: &[u8], names: &Names) -> Parsed<Routine> {
     for statement in said.statements {
         let found = meanings.instruction(statement, &mut faults);
         // What cannot be read still is an instruction, so that the others keep their places.
-        let (word, source) = faults.keep(found).unwrap_or_else(|| unread(statement));
+        let (word, source) = found.unwrap_or_else(|| unread(statement));
         routine.words.push(word);
         routine.sources.push(source);
     }

@@ -213,6 +213,74 @@ loop: HALT
         .refused(":2:14: error: 3 lies behind the routine's end, which is 2");
 }
 
+/// The one thing that is wrong with a line, and where.
+#[test]
+fn the_one_thing_that_is_wrong_is_named() {
+    for (line, said) in [
+        (
+            "SET r1, 5 // five",
+            "1:11 a comment begins with #, not with '//'",
+        ),
+        (
+            "SET r1, 5 ; five",
+            "1:11 a comment begins with #, not with ';'",
+        ),
+        ("HALT ;end", "1:6 a comment begins with #, not with ';end'"),
+        (
+            "SET r1, 5; HALT",
+            "1:12 'HALT' begins a second instruction: write one a line",
+        ),
+        (
+            "SET r1, 5 set r2, 6",
+            "1:11 'set' begins a second instruction: write one a line",
+        ),
+        ("HALT SET r1, 5", "1:6 HALT takes no operand"),
+        ("HALT now or never", "1:6 HALT takes no operand"),
+        (
+            "EVENT gas door",
+            "1:11 'door' is one word too many, as in 'EVENT gas' or 'EVENT 0'",
+        ),
+        (
+            "SET r1, 5 6",
+            "1:11 '6' is one word too many, as in 'SET r1, 200'",
+        ),
+        ("SET r 1, 5", "1:7 a blank is too many: write 'r1'"),
+        ("SET r1, - 5", "1:11 a blank is too many: write '-5'"),
+        (
+            "SET r1 5 6",
+            "1:8 a comma is missing before '5', as in 'SET r1, 200'",
+        ),
+        (": HALT", "1:1 a label is missing before the colon"),
+        ("EVENT r0", "1:7 'r0' is a register; an event stands here"),
+        (
+            "EVENT \"gas\"",
+            "1:7 '\"gas\"' is no event's name or number",
+        ),
+        ("EVENT 1.5", "1:7 '1.5' is no whole number"),
+    ] {
+        let faults = assemble(line.as_bytes(), &names()).unwrap_err();
+        let found: Vec<String> = faults
+            .iter()
+            .map(|fault| {
+                format!(
+                    "{}:{} {}",
+                    fault.place.line, fault.place.column, fault.message
+                )
+            })
+            .collect();
+        assert_eq!(found, [said], "{line}");
+    }
+    // Every comma that is missing.
+    let faults = assemble(b"GOIF r1 r2, below end\nend:\n", &names()).unwrap_err();
+    let places = faults
+        .iter()
+        .map(|fault| (fault.place.column, fault.place.length));
+    assert_eq!(places.collect::<Vec<_>>(), [(9, 2), (19, 3)]);
+    assert!(faults
+        .iter()
+        .all(|fault| fault.message.starts_with("a comma is missing")));
+}
+
 #[test]
 fn check_warns() {
     let folder = folder("warned");
