@@ -55,6 +55,9 @@ pub const LETTERS: [&str; 8] = ["U", "SL", "SH", "M", "P", "S", "B", "Q"];
 /// The words that begin a drum's other lines.
 const KEYWORDS: [&str; 5] = ["event", "landings", "ceiling", "scale", "cell"];
 
+/// The words that stand for landings without a list.
+const WHOLE_LANDINGS: [&str; 3] = ["all", "none", "routine"];
+
 /// A drum's lines.
 const LINES: &str = "U 1024 (or SL SH M P S B Q), landings 0 3 8-15, ceiling EVENT 100, \
                      scale EVENT 10, event 0 NAME, cell 8 600 NAME";
@@ -248,6 +251,8 @@ struct Reader {
     cells: Vec<NamedCell>,
     /// The addresses of these cells.
     addresses: BTreeSet<u32>,
+    /// The word for the landings, where no list gives them.
+    whole: Option<&'static str>,
     /// Whether a number of the layout could not be read.
     is_unread: bool,
     /// The lines that there are, until they are listed.
@@ -311,19 +316,27 @@ impl Reader {
     }
 
     fn landings(&mut self, words: &[Said], faults: &mut Faults) -> Result<(), Fault> {
-        let is_routine = words[1].text == "routine";
-        let alone = "'landings routine' stands alone, without other landings";
-        match &mut self.landings {
-            None if is_routine && words.len() == 2 => self.landings = Some(Landings::Routine),
-            Some(Landings::Routine) => return Err(words[1].fault(alone)),
-            _ if is_routine => return Err(words[1].fault(alone)),
-            None => self.landings = Some(Landings::Listed(Vec::new())),
-            Some(Landings::Listed(_)) => (),
+        let listed = &words[1..];
+        let whole = |word: &Said| WHOLE_LANDINGS.into_iter().find(|&whole| whole == word.text);
+        let found = listed.iter().find_map(|word| Some((whole(word)?, *word)));
+        let is_alone = listed.len() == 1 && self.landings.is_none();
+        let clash = match self.whole {
+            Some(before) => Some((before, listed[0])),
+            None => found.filter(|_| !is_alone),
+        };
+        self.whole = self.whole.or(found.map(|(whole, _)| whole));
+        let landings = self.landings.get_or_insert(match self.whole {
+            Some("routine") => Landings::Routine,
+            _ => Landings::Listed(Vec::new()),
+        });
+        if let Some((whole, word)) = clash {
+            let message = format!("'landings {whole}' stands alone, without other landings");
+            return Err(word.fault(message));
         }
-        if let Some(Landings::Listed(listed)) = &mut self.landings {
-            for word in &words[1..] {
+        if let Landings::Listed(known) = landings {
+            for word in listed {
                 let more = faults.keep(word.check(landings_of(word.text)));
-                listed.extend(more.flatten().map(|range| (range, word.place())));
+                known.extend(more.flatten().map(|range| (range, word.place())));
             }
         }
         Ok(())
@@ -430,6 +443,7 @@ pub fn drum_in_part(text: &[u8]) -> (Option<Drum>, Vec<Fault>) {
         names,
         cells: Vec::new(),
         addresses: BTreeSet::new(),
+        whole: None,
         is_unread: false,
         lines: LINES,
     };

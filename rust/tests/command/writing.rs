@@ -50,13 +50,20 @@ fn landings_are_marked_in_the_text() {
         let came = check(&drum, "profile.routine");
         assert!(came.out.contains(listed), "{}", came.out);
     }
-    for line in [
-        "landings routine 3",
-        "landings 3\nlandings routine",
-        "landings routine\nlandings 3",
-    ] {
-        let drum = file(&folder, "drum", drum_text.replace("landings routine", line));
-        check(&drum, "profile.routine").refused("'landings routine' stands alone");
+    // What stands for all landings contradicts other lines.
+    for whole in ["routine", "all", "none"] {
+        for line in [
+            format!("landings {whole} 3"),
+            format!("landings 3 {whole}"),
+            format!("landings 3\nlandings {whole}"),
+            format!("landings {whole}\nlandings 3"),
+            format!("landings {whole}\nlandings none"),
+        ] {
+            let text = drum_text.replace("landings routine", &line);
+            let came = check(&file(&folder, "drum", text), "profile.routine");
+            came.refused(&format!("'landings {whole}' stands alone"));
+            assert_eq!(came.error.matches(": error: ").count(), 1, "{}", came.error);
+        }
     }
     // Bytes mark none.
     let bytes = file(&folder, "bytes", "");
