@@ -52,7 +52,7 @@ impl Names {
     pub fn known_event(&self, word: &str) -> Result<u32, String> {
         match self.event(word)? {
             event if event < EVENTS => Ok(event),
-            event => Err(format!("{event} is no event: they are 0 to {}", EVENTS - 1)),
+            _ => Err(format!("{word} is no event: they are 0 to {}", EVENTS - 1)),
         }
     }
 

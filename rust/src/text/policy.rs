@@ -77,7 +77,7 @@ pub struct PolicyFile {
     pub form: Form,
     /// The most that each order records, as far as the file says.
     pub ceilings: Ceilings,
-    /// The place of each pair, where the file holds pairs.
+    /// The place of each event of the pairs, where the file holds pairs.
     pub pairs: Vec<Place>,
     /// The place of each state's name, where the file holds states.
     pub states: Vec<Place>,
@@ -92,9 +92,12 @@ struct Reader<'a> {
     names: Names,
     ceilings: Ceilings,
     states: States<'a>,
-    /// The events of the pairs, two and two, where the file has pairs.
+    /// The events of the pairs, two and two, where the file has pairs, and their places.
     events: Option<Vec<u8>>,
     pairs: Vec<Place>,
+    /// The lines `drawing` and `everything`.
+    drawing: Option<Place>,
+    everything: Option<Place>,
     /// The lines that there are, until they are listed.
     lines: &'static str,
 }
@@ -111,10 +114,12 @@ impl<'a> Reader<'a> {
             }
             ["drawing"] => {
                 self.states.is_drawing = true;
+                self.drawing = Some(words[0].place());
                 Ok(())
             }
             ["everything"] => {
                 self.events.get_or_insert_with(Vec::new);
+                self.everything = Some(words[0].place());
                 Ok(())
             }
             [_, "before", _] => self.pair(words[0], words[2], faults),
@@ -175,18 +180,15 @@ impl<'a> Reader<'a> {
         let event = |said: Said| {
             let event = said.event(self.names.event(said.text))?;
             // One above 15 is the library's to refuse.
-            let short = u8::try_from(event).map_err(|_| format!("{event} is no event"));
-            said.check(short)
+            let top = EVENTS - 1;
+            let message = |_| format!("{} is no event: they are 0 to {top}", said.text);
+            said.check(u8::try_from(event).map_err(message))
         };
         let pair = [first, second].map(|said| faults.keep(event(said)));
         let events = self.events.get_or_insert_with(Vec::new);
         if let [Some(one), Some(other)] = pair {
             events.extend([one, other]);
-            let (from, to) = (first.place(), second.place());
-            self.pairs.push(Place {
-                length: to.column + to.length - from.column,
-                ..from
-            });
+            self.pairs.extend([first.place(), second.place()]);
         }
         Ok(())
     }
@@ -194,8 +196,10 @@ impl<'a> Reader<'a> {
     /// Adds what the library would refuse, beside lines that are wrong.
     fn doubt(&self, faults: &mut Faults) {
         let events = self.events.iter().flatten().map(|&event| u32::from(event));
-        let places = self.pairs.iter().flat_map(|&place| [place, place]);
-        for (event, place) in events.zip(places).filter(|&(event, _)| event >= EVENTS) {
+        let above = events
+            .zip(&self.pairs)
+            .filter(|&(event, _)| event >= EVENTS);
+        for (event, &place) in above {
             let message = format!("{event} is no event: they are 0 to {}", EVENTS - 1);
             faults.add(Fault::new(place, message));
         }
@@ -208,15 +212,42 @@ impl<'a> Reader<'a> {
         }
     }
 
+    /// The last pair, or the line that stands for none.
+    fn last_pair(&self) -> Place {
+        let last = match self.pairs[..] {
+            [.., from, to] => Some(Place {
+                length: to.column + to.length - from.column,
+                ..from
+            }),
+            _ => self.everything,
+        };
+        last.unwrap_or_default()
+    }
+
+    /// What contradicts the pairs of a file, and where.
+    fn beside_pairs(&self) -> Option<(Place, &'static str)> {
+        if !self.states.is_empty() {
+            return Some((self.last_pair(), "states and pairs do not mix"));
+        }
+        let alone = "everything stands alone: it is the empty list of pairs";
+        let everything = self.everything.filter(|_| !self.pairs.is_empty());
+        let drawing = self.drawing.map(|place| {
+            let message = "a drawing has states and their arrows, and this file has pairs";
+            (place, message)
+        });
+        drawing.or(everything.map(|place| (place, alone)))
+    }
+
     /// The form that the lines have.
     fn form(&self, faults: &mut Faults) -> Option<Form> {
         match (&self.events, self.states.is_empty()) {
-            (Some(_), false) => {
-                let place = self.pairs.last().copied().unwrap_or_default();
-                faults.add(Fault::new(place, "states and pairs do not mix"));
-                None
-            }
-            (Some(events), true) => Some(Form::Before(events.clone())),
+            (Some(events), _) => match self.beside_pairs() {
+                Some((place, message)) => {
+                    faults.add(Fault::new(place, message));
+                    None
+                }
+                None => Some(Form::Before(events.clone())),
+            },
             (None, true) => {
                 let message = "no policy: states with arrows, or pairs of events";
                 if faults.is_empty() {
@@ -239,6 +270,8 @@ pub fn policy(text: &[u8], given: &Names) -> Parsed<PolicyFile> {
         states: States::default(),
         events: None,
         pairs: Vec::new(),
+        drawing: None,
+        everything: None,
         lines: LINES,
     };
     for words in &said {

@@ -79,10 +79,11 @@ impl Faults {
     }
 
     /// Keeps a name that a wrong line was to give: nobody is told that it is not known.
+    /// The name may have a mark behind it.
     pub fn lose(&mut self, name: &str) {
-        if !name.is_empty() {
-            self.lost.insert(name.to_string());
-        }
+        let plain = name.trim_end_matches([':', ',', ';']);
+        let names = [name, plain].into_iter().filter(|name| !name.is_empty());
+        self.lost.extend(names.map(str::to_string));
     }
 
     /// Whether a wrong line was to give a name.

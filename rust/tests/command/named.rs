@@ -77,9 +77,15 @@ fn lines_of_a_policy() {
         ("gas before\n".to_string(), ":1:5: error: before wants a second event"),
         ("gas before door cool\n".to_string(), ":1:17: error: 'cool' is one word too many"),
         ("state a b\n".to_string(), ":1:1: error: state wants one name"),
+        ("event -1 tap\n".to_string(), ":1:7: error: -1 is no event: they are 0 to 15"),
+        ("-1 before 2\n".to_string(), ":1:1: error: -1 is no event: they are 0 to 15"),
+        ("2 before 300\n".to_string(), ":1:10: error: 300 is no event: they are 0 to 15"),
+        ("everything\n0 before 1\n".to_string(), ":1:1: error: everything stands alone"),
+        ("everything\nstate a\n".to_string(), ":1:1: error: states and pairs do not mix"),
+        ("drawing\n0 before 1\n".to_string(), ":1:1: error: a drawing has states and their arrows"),
         ("state a\nstart\n".to_string(), ":2:1: error: start wants a state"),
-        (ring("1 2 3 4"), ":4:1: error: cool is a fifth event: pairs name at most four; refused as bad pair (17)"),
-        (ring("1 16"), ":2:1: error: 16 is no event: they are 0 to 15; refused as bad pair (17)"),
+        (ring("1 2 3 4"), ":4:10: error: cool is a fifth event: pairs name at most four; refused as bad pair (17)"),
+        (ring("1 16"), ":2:10: error: 16 is no event: they are 0 to 15; refused as bad pair (17)"),
         (drawing("start none\n"), ":3:7: error: the drawing has no start*; refused as bad drawing (16)"),
         (format!("drawing\n{}", states(1)), ":18:7: error: the file has 17 states, and at most 16 are taken; refused as bad drawing (16)"),
         (states(1), ":17:7: error: the file has 17 states, and at most 16 are taken; refused as bad policy (10)"),
@@ -179,6 +185,14 @@ fn what_follows_from_an_error_is_not_said() {
         (
             "event 16 gas\nstate a\n gas -> a\nceiling gas 5\n",
             ":1:7: error: 16 is no event",
+        ),
+        (
+            "state a:\n 0 -> a\nstate b\n 0 -> a\nstart a\n",
+            ":1:7: error: 'a:' cannot be a name",
+        ),
+        (
+            "event 0 gas,\nstate a\n gas -> a\n",
+            ":1:9: error: 'gas,' cannot be a name",
         ),
         (
             "event 0 1x\nstate a\n 1x -> a\n",
@@ -294,13 +308,13 @@ fn what_does_not_follow_is_said_too() {
     counted(
         &["policy", "show", &path],
         4,
-        "policy:4:1: error: 6 is a sixth event",
+        "policy:4:10: error: 6 is a sixth event",
     );
     let path = file(&folder, "policy", "0 before 16\nfire before water\n");
     counted(
         &["policy", "show", &path],
         3,
-        "policy:1:1: error: 16 is no event",
+        "policy:1:10: error: 16 is no event",
     );
     let path = file(&folder, "policy", format!("{}gas\n", states(2)));
     counted(

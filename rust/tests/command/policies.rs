@@ -3,7 +3,7 @@
 
 use crate::common::inputs::{policy, some_ceilings};
 use crate::common::{cases, seed, Rng};
-use crate::{command, file, folder};
+use crate::{command, file, folder, typed};
 use hemdroas::native::{determinise, merge, precedence};
 use hemdroas::text::{self, policy_text, Form, Names, Table};
 use hemdroas::{Ceilings, Drawing, Side};
@@ -272,6 +272,15 @@ fn shown_and_drawn() {
         "--dot",
     ])
     .printed(0, include_str!("stored/exporter.drawn"));
+    // The head stands above its columns, also where no event has a name.
+    let came = typed(&["policy", "show", "-"], "everything\nceiling 0 5\n");
+    let rows: Vec<&str> = came.out.lines().take(17).collect();
+    assert_eq!(rows[0], "state   0");
+    assert!(
+        rows.iter().all(|row| row.len() == rows[0].len()),
+        "{}",
+        came.out
+    );
     let folder = folder("drawn");
     let out = folder.join("out.dot");
     let args = [

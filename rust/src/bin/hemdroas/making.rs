@@ -72,7 +72,7 @@ const ORDINALS: [&str; 12] = [
     "sixteenth",
 ];
 
-/// The pairs that name an event above all, or one too many, and what is wrong with
+/// The events of pairs that are above all, or one too many, and what is wrong with
 /// each.
 fn bad_pairs(pairs: &[u8], names: &Names) -> Vec<(usize, String)> {
     let mut seen = BTreeSet::new();
@@ -89,7 +89,7 @@ fn bad_pairs(pairs: &[u8], names: &Names) -> Vec<(usize, String)> {
             ),
             false => format!("{number} is no event: they are 0 to {}", EVENTS - 1),
         };
-        bad.push((place / 2, message));
+        bad.push((place, message));
     }
     bad
 }
@@ -101,8 +101,8 @@ fn of_pairs(path: &str, pairs: &[u8], file: &Given) -> Result<MadePolicy, Proble
     let count = match made.answer {
         Answer::Taken(count) => count,
         Answer::Refused { refusal, .. } => {
-            let report = |(pair, said): (usize, String)| Report {
-                place: file.said.pairs[pair],
+            let report = |(event, said): (usize, String)| Report {
+                place: file.said.pairs[event],
                 ..Report::refusal(path, refusal, said)
             };
             let reports: Vec<Report> = bad_pairs(pairs, names).into_iter().map(report).collect();

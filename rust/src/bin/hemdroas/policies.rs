@@ -193,15 +193,16 @@ pub fn merge(args: &Args) -> Done {
 /// A policy as a table: a line for each event, a column for each state, which
 /// are named below.
 fn table_text(table: &Table, names: &Names) -> String {
+    const HEAD: &str = "state";
     let labels = (0..EVENTS).map(|event| names.both(event).len());
-    let width = labels.max().unwrap_or(0);
+    let width = labels.max().unwrap_or(0).max(HEAD.len());
     let line = |label: &str, cells: Vec<String>| {
         let cells: String = cells.iter().map(|cell| format!("{cell:>4}")).collect();
         format!("{label:<width$}{cells}\n")
     };
     let states = 0..table.states.len() as u32;
     let numbers = states.clone().map(|state| state.to_string()).collect();
-    let mut text = line("state", numbers);
+    let mut text = line(HEAD, numbers);
     for event in 0..EVENTS {
         let after = |state| table.policy().after(state, event);
         let shown = |after: Option<u32>| after.map_or("-".to_string(), |state| state.to_string());
