@@ -346,6 +346,56 @@ fn check_takes_many_files() {
     }
 }
 
+/// A drum that is not right is shown once, and the routines' own errors beside it.
+#[test]
+fn check_shows_a_bad_drum_once() {
+    let folder = folder("bad-drum");
+    let text = fs::read_to_string(examples().join("roast.drum")).unwrap();
+    let drum = file(&folder, "drum", text.replace("SH 511", "SH 510"));
+    let wrong = file(&folder, "wrong", "JUMP\n");
+    let files = ["roast.routine", &wrong, "sample.routine"];
+    let came = command(&[&["check", "--drum", &drum], &files[..]].concat());
+    let shown = format!(
+        "roast.routine: refused as bad layout (7)\n{wrong}: refused, 1 error\n\
+         sample.routine: refused as bad layout (7)\n"
+    );
+    came.printed(1, &shown);
+    assert_eq!(
+        came.error.matches("no power of two").count(),
+        1,
+        "{}",
+        came.error
+    );
+    assert_eq!(
+        came.error.matches("'JUMP' is no instruction").count(),
+        1,
+        "{}",
+        came.error
+    );
+    let came = command(&["check", "--drum", &drum, "missing"]);
+    came.printed(3, "missing: cannot be read\n");
+    came.ended(3, "no power of two*refused as bad layout (7)");
+}
+
+#[test]
+fn check_warns_of_landings_behind_the_routine() {
+    let folder = folder("far");
+    let text = fs::read_to_string(examples().join("roast.drum")).unwrap();
+    let drum = file(
+        &folder,
+        "drum",
+        text.replace("landings routine", "landings 4 900-901"),
+    );
+    let check = |text: &str| {
+        let path = file(&folder, "far", text);
+        command(&["check", &path, "--drum", &drum])
+    };
+    let came = check("GOX r1, r2, r3, equal\nHALT\nHALT\n");
+    came.ended(0, "far:1:5: warning: no landing is below 4, where the routine ends: a GOX that is taken stops the routine (26)");
+    let came = check("GOX r1, r2, r3, equal\nMOVE r1, r2\nMOVE r1, r2\nHALT\n");
+    assert_eq!((came.status, came.error.as_str()), (0, ""));
+}
+
 #[test]
 fn empty_files_are_refused_alike() {
     let folder = folder("alike");

@@ -67,9 +67,12 @@ fn show(args: &Args, setup: &Setup, checked: &Checked) -> Result<(), Problem> {
 }
 
 /// Says of a routine that it is not taken, and why.
-fn show_problem(args: &Args, path: &str, problem: &Problem) -> Result<(), Problem> {
+fn show_problem(args: &Args, path: &str, problem: Problem) -> Done {
+    if !matches!(problem, Problem::Refused(_) | Problem::File(..)) {
+        return Err(problem);
+    }
     problem.say(args.is_json());
-    show_why(args, path, &problem.short())
+    show_why(args, path, &problem.short()).map(|()| problem.status())
 }
 
 /// The line or the object of a routine that is not taken.
@@ -103,23 +106,37 @@ fn show_unchecked(args: &Args, problem: Problem) -> Done {
     Ok(problem.status())
 }
 
+/// Says of a routine whether it is taken, and gives its status.
+fn show_routine(args: &Args, setup: &Setup, path: &str) -> Done {
+    match checked(setup, path) {
+        Ok(checked) => show(args, setup, &checked).map(|()| Status::Well),
+        Err(problem) => show_problem(args, path, problem),
+    }
+}
+
+/// The same on a drum that is not right, which was said before: only the routine's own
+/// errors are shown.
+fn show_on_bad_drum(args: &Args, setup: &Setup, drum: &Problem, path: &str) -> Done {
+    match setup.read(path) {
+        Ok(_) => show_why(args, path, &drum.short()).map(|()| drum.status()),
+        Err(problem) => show_problem(args, path, problem),
+    }
+}
+
 pub fn check(args: &Args) -> Done {
     let setup = match Setup::of(args) {
         Ok(setup) => setup,
         Err(problem) => return show_unchecked(args, problem),
     };
+    let bad_drum = setup.sound().err();
+    if let Some(problem) = &bad_drum {
+        problem.say(args.is_json());
+    }
     let mut worst = Status::Well;
     for path in args.files() {
-        let status = match checked(&setup, path) {
-            Ok(checked) => {
-                show(args, &setup, &checked)?;
-                Status::Well
-            }
-            Err(problem @ (Problem::Refused(_) | Problem::File(..))) => {
-                show_problem(args, path, &problem)?;
-                problem.status()
-            }
-            Err(problem) => return Err(problem),
+        let status = match &bad_drum {
+            Some(drum) => show_on_bad_drum(args, &setup, drum, path)?,
+            None => show_routine(args, &setup, path)?,
         };
         worst = worst.max(status);
     }

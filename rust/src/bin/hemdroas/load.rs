@@ -115,11 +115,21 @@ impl Setup {
         layout
     }
 
+    /// Refuses a drum that is not right, whatever the routine is.
+    pub fn sound(&self) -> Result<(), Problem> {
+        self.drum.sound(&self.layout())
+    }
+
+    /// The routine of a file.
+    pub fn read(&self, path: &str) -> Result<Routine, Problem> {
+        Routine::of_file(path, &self.names)
+    }
+
     /// A routine of a file, rewritten and checked by the library.
     pub fn check(&self, path: &str) -> Result<Checked, Problem> {
         let layout = self.layout();
-        let routine = Routine::of_file(path, &self.names)?;
-        self.drum.sound(&layout)?;
+        let routine = self.read(path)?;
+        self.sound()?;
         let commands = commands(&self.drum, &layout, &routine)?;
         let landings = self.drum.drum.landings.of(routine.landings());
         Ok(Checked {

@@ -4,7 +4,7 @@ use super::load::Checked;
 use super::report::{Level, Report};
 use super::what::{event_of, instruction_of};
 use hemdroas::model::Instr;
-use hemdroas::names::EVENTS;
+use hemdroas::names::{BUNDLE_LENGTH, EVENTS};
 use hemdroas::text::{Field, Names, Objection, Table};
 use hemdroas::Refusal;
 
@@ -54,16 +54,23 @@ fn never_allowed(checked: &Checked, policy: &Table, names: &Names) -> Vec<Report
     never.map(report).collect()
 }
 
-/// A GOX where the drum lists no landing.
+/// A GOX where the drum lists no landing that it could go to.
 fn lost_jumps(checked: &Checked) -> Vec<Report> {
-    if !checked.landings.is_empty() {
-        return Vec::new();
-    }
+    let bundles = checked.commands.len() / BUNDLE_LENGTH;
+    let has_landing = checked
+        .landings
+        .iter()
+        .any(|&landing| (landing as usize) < bundles);
+    let none = match checked.landings.is_empty() {
+        _ if has_landing => return Vec::new(),
+        true => "there are no landings".to_string(),
+        false => format!("no landing is below {bundles}, where the routine ends"),
+    };
     let words = checked.routine.words.iter().enumerate();
     let jumps = words.filter(|(_, &word)| matches!(instruction_of(word), Some(Instr::GoX { .. })));
-    let message = "there are no landings: a GOX that is taken stops the routine (26)";
+    let message = format!("{none}: a GOX that is taken stops the routine (26)");
     jumps
-        .map(|(place, _)| warning(checked, place, Some(Field::D), message.to_string()))
+        .map(|(place, _)| warning(checked, place, Some(Field::D), message.clone()))
         .collect()
 }
 
