@@ -299,7 +299,9 @@ fn refusals_leave_files_as_they_were() {
 
 #[test]
 fn bad_usage() {
-    let uses: [&[&str]; 20] = [
+    let uses: [&[&str]; 22] = [
+        &["check", "-", "-", "--drum", "sample.drum"],
+        &["check", "sample.routine", "--drum=-", "--policy=-"],
         &["help", "roast"],
         &["forward", "sample.routine", "--json=yes"],
         &[
@@ -351,6 +353,20 @@ fn bad_usage() {
         );
         assert!(!came.error.is_empty(), "{args:?}");
     }
+}
+
+#[test]
+fn an_option_is_no_value_of_another() {
+    let args = ["assemble", "sample.routine", "--drum", "-o", "out"];
+    command(&args).ended(2, "hemdroas: --drum wants a value");
+    // A file may have such a name.
+    let args = ["assemble", "sample.routine", "-o=-", "--drum=-o"];
+    command(&args).ended(3, "hemdroas: -o: No such file or directory");
+    let args = ["check", "-", "-", "--drum", "sample.drum"];
+    command(&args).ended(
+        2,
+        "hemdroas: - stands twice: standard input can be read once",
+    );
 }
 
 #[test]

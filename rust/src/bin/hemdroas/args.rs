@@ -74,7 +74,11 @@ impl Args {
             ("", None) => String::new(),
             ("", Some(_)) => return Err(format!("{name} takes no value")),
             (_, Some(value)) => value,
-            (_, None) => words.next().cloned().unwrap_or_default(),
+            // Another option of the command is no value; behind = it may be one.
+            (_, None) => {
+                let next = words.next().filter(|next| command.option(next).is_none());
+                next.cloned().unwrap_or_default()
+            }
         };
         if value.is_empty() && !["", MAY_BE_EMPTY].contains(&wants) {
             return Err(format!("{name} wants a value"));

@@ -75,11 +75,16 @@ fn outputs(args: &Args) -> Vec<(&str, Option<(u64, u64)>)> {
     outputs
 }
 
-/// Refuses an output that is one of the inputs, whatever its name is.
+/// Refuses an output that is one of the inputs, whatever its name is, and an input
+/// that would be read twice.
 pub fn keep_inputs(args: &Args) -> Result<(), Problem> {
     let options = ["--drum", "--policy"].map(|name| args.value(name));
     let files = args.files().iter().map(String::as_str);
     let inputs: Vec<&str> = files.chain(options.into_iter().flatten()).collect();
+    if inputs.iter().filter(|&&input| input == "-").count() > 1 {
+        let said = "- stands twice: standard input can be read once";
+        return Err(Problem::Usage(said.to_string()));
+    }
     for (out, written) in outputs(args) {
         for input in inputs.iter().filter(|_| written.is_some()) {
             let opened = if *input == "-" { "/dev/stdin" } else { input };
