@@ -327,6 +327,15 @@ fn a_comma_between_digits_is_not_taken_silently() {
         }
         assert!(!came.out.contains("196.0"), "{}", came.out);
     }
+    // As an option's value it is refused; what cannot be a decimal is taken.
+    for name in ["preview", "run", "step"] {
+        command(&with(name, PROFILE, &["--readings=150 196,5"]))
+            .ended(2, &format!("--readings: {again}"));
+        let came = command(&with(name, PROFILE, &["--readings=150,175 190"]));
+        assert_eq!(came.status, 5, "{}", came.error);
+    }
+    let came = command(&with("preview", ROAST, &["--readings=196,5"]));
+    assert!(came.out.contains("2 readings used"), "{}", came.out);
     let came = typed(&with("preview", ROAST, &[]), "196,5\n\n");
     came.ended(5, "'196,5' is taken as two readings, 196 and 5");
     assert!(came.out.contains("2 readings used"), "{}", came.out);

@@ -4,6 +4,7 @@ use super::args::Args;
 use super::drums::DrumFile;
 use super::making::{make, policy};
 use super::problem::Problem;
+use super::prompt::sure;
 use super::report::Report;
 use super::sources::{commands, Routine};
 use hemdroas::names::MOST_CELLS;
@@ -173,7 +174,12 @@ impl Setup {
 }
 
 /// Loads the routine, drum and policy of the arguments: reading, rewriting,
-/// checking and installing, each by the library.
+/// checking and installing, each by the library. The readings that are listed have
+/// no comma that may be a point.
 pub fn load(args: &Args) -> Result<Loaded, Problem> {
-    Setup::of(args)?.load(args.file(0))
+    let loaded = Setup::of(args)?.load(args.file(0))?;
+    let finest = loaded.scales.iter().copied().max().unwrap_or(1);
+    let listed = args.value("--readings").unwrap_or("");
+    sure(listed, finest).map_err(|said| Problem::Usage(format!("--readings: {said}")))?;
+    Ok(loaded)
 }

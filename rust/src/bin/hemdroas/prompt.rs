@@ -93,19 +93,28 @@ fn doubtful(word: &str, scale: u32) -> Option<(&str, &str)> {
         .find(|(_, rest)| is_whole(rest) && (decimals == 0 || rest.len() <= decimals))
 }
 
+/// The doubtful commas of a line of readings.
+fn doubts(line: &str, scale: u32) -> impl Iterator<Item = (&str, &str)> {
+    let words = line.split_whitespace();
+    words.filter_map(move |word| doubtful(word, scale))
+}
+
+/// Refuses a line with a comma that may stand for the point of an event with decimals.
+pub fn sure(line: &str, scale: u32) -> Result<(), String> {
+    match doubts(line, scale).next().filter(|_| scale > 1) {
+        Some((whole, rest)) => Err(format!(
+            "'{whole},{rest}' may be one reading or two: write {whole}.{rest}, or {whole} {rest}"
+        )),
+        None => Ok(()),
+    }
+}
+
 /// The readings of a line that was typed for an event with a scale. A comma that may
 /// stand for a point is not taken for two readings; where an event has no decimals,
 /// what is taken is said.
 pub fn typed_readings(line: &str, scale: u32) -> Result<Vec<String>, String> {
-    let doubts = line
-        .split_whitespace()
-        .filter_map(|word| doubtful(word, scale));
-    for (whole, rest) in doubts {
-        if scale > 1 {
-            return Err(format!(
-                "'{whole},{rest}' may be one reading or two: write {whole}.{rest}, or {whole} {rest}"
-            ));
-        }
+    sure(line, scale)?;
+    for (whole, rest) in doubts(line, scale) {
         files::complain(&format!(
             "'{whole},{rest}' is taken as two readings, {whole} and {rest}\n"
         ));
