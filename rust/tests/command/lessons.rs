@@ -190,3 +190,37 @@ fn all_asks_nothing() {
     assert_eq!((came.status, came.error.as_str()), (5, ""));
     assert!(came.out.contains("0 readings used"), "{}", came.out);
 }
+
+/// What cannot be understood is said, and asked for again.
+#[test]
+fn typos_are_named() {
+    let folder = folder("typos");
+    let path = file(&folder, "lesson", LESSON);
+    let args = [
+        "step",
+        &path,
+        "--drum=profile.drum",
+        "--policy=profile.policy",
+    ];
+    let lines = "back 0\n-1\n4294967296\nback x\ncells 5 1\ncells x\nuntil nowhere\nbreak 99\nwhat now\nregs\nuntil bean\n\n\n196.55\n196.5\nall\nwhat\n\nstop\n";
+    let came = typed(&args, lines);
+    for said in [
+        "'0' is no number of instructions; 'help' lists what is known",
+        "'-1' is no number of instructions;*",
+        "'4294967296' has more than 32 bits;*",
+        "'x' is not known;*",
+        "cell 5 stands behind cell 1;*",
+        "'x' is no number;*",
+        "'nowhere' is no line, no event and no label;*",
+        "no instruction stands in line 99;*",
+        "'what now' is not known;*",
+        "a reading is wanted;*",
+        "'196.55' has more decimals than the scale 10 takes;*",
+    ] {
+        came.ended(4, said);
+    }
+    // After the end nothing will be done.
+    let over = "it is over: 'back' goes back, 'stop' ends the lesson\n";
+    assert_eq!(came.out.matches(over).count(), 2, "{}", came.out);
+    assert!(!came.out.contains("it will stop"), "{}", came.out);
+}

@@ -412,3 +412,23 @@ fn reasons_name_what_is_meant() {
     );
     why(&came, "address 300 (r1) lies in the sandbox\n");
 }
+
+/// What is typed at a pause and is no number of steps is asked for again.
+#[test]
+fn a_budget_is_not_negative() {
+    let came = typed(
+        &with("run", PROFILE, &["--resume", "--budget=9"]),
+        "-1\n1 2\n4294967296\n0\nstop\n",
+    );
+    came.ended(
+        5,
+        "'-1' is no number of steps; 'preview NUMBERS' and 'stop' are known",
+    );
+    came.ended(5, "one number of steps, or none for the same again*");
+    came.ended(5, "'4294967296' has more than 32 bits*");
+    assert!(
+        came.out.contains("ending 25 spent: 9 steps"),
+        "{}",
+        came.out
+    );
+}

@@ -90,7 +90,17 @@ impl Goal {
 fn count(word: &str) -> Result<u32, String> {
     match number(word) {
         Ok(number) if number > 0 && !word.starts_with('-') => Ok(number),
-        _ => Err(format!("'{word}' is not known")),
+        Ok(_) => Err(format!("'{word}' is no number of instructions")),
+        Err(said) if word.starts_with(|c: char| c.is_ascii_digit() || c == '-') => Err(said),
+        Err(_) => Err(format!("'{word}' is not known")),
+    }
+}
+
+/// The cells from one to another.
+fn cells(from: &str, to: &str) -> Result<Order, String> {
+    match (number(from)?, number(to)?) {
+        (first, last) if first > last => Err(format!("cell {from} stands behind cell {to}")),
+        (first, last) => Ok(Order::Cells(Some(first), Some(last))),
     }
 }
 
@@ -111,7 +121,7 @@ pub fn order(loaded: &Loaded, line: &str) -> Result<Order, String> {
         ["regs"] => Order::Registers,
         ["cells"] => Order::Cells(None, None),
         ["cells", from] => Order::Cells(Some(number(from)?), None),
-        ["cells", from, to] => Order::Cells(Some(number(from)?), Some(number(to)?)),
+        ["cells", from, to] => cells(from, to)?,
         ["state"] => Order::State,
         ["record"] => Order::Record,
         ["help"] => Order::Help,

@@ -97,6 +97,7 @@ fn take(
         }
         (Ending::Spent, None) => supply.steps = given.budget,
         (Ending::Spent, Some(word)) => match (number(word)?, typed.len()) {
+            _ if word.starts_with('-') => return Err(format!("'{word}' is no number of steps")),
             (steps, 1) => supply.steps = steps,
             _ => return Err("one number of steps, or none for the same again".to_string()),
         },

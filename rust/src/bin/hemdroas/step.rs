@@ -15,6 +15,9 @@ use super::what::{event_of, what};
 use hemdroas::Ending;
 use std::collections::VecDeque;
 
+/// What is said when the routine cannot go on.
+const OVER: &str = "it is over: 'back' goes back, 'stop' ends the lesson\n";
+
 /// A lesson, and what the person at the terminal asked for.
 struct Class<'a> {
     args: &'a Args,
@@ -101,6 +104,9 @@ impl Class<'_> {
                 }
                 match ask(&format!("readings of {name}: "))? {
                     None => return Ok(false),
+                    Some(line) if line.is_empty() => {
+                        files::complain("a reading is wanted; 'help' lists what is known\n");
+                    }
                     Some(line) if line.starts_with(|c: char| c.is_ascii_alphabetic()) => {
                         if self.instead(&line)? {
                             return Ok(false);
@@ -173,6 +179,7 @@ impl Class<'_> {
                 head(lesson.loaded),
                 rows(lesson.loaded, 0, &lesson.pairs)
             ),
+            Order::What if !lesson.is_running() => OVER.to_string(),
             Order::What => format!("{}\n", what(lesson.loaded, lesson.engine.at, regs, state)),
             Order::Breaks => {
                 let all = self.breaks.iter().map(|goal| goal.text(lesson.loaded));
@@ -190,7 +197,7 @@ impl Class<'_> {
     /// is reached.
     fn go_on(&mut self, most: u32, until: Option<Goal>) -> Result<(), Problem> {
         if !self.lesson.is_running() {
-            return self.tell("it is over: 'back' goes back, 'stop' ends the lesson\n");
+            return self.tell(OVER);
         }
         self.over = self.advance(&Stretch {
             most,
