@@ -1,7 +1,7 @@
 //! The documents: every line behind `$ ` is typed as it stands, in the
 //! repository's folder, and prints what stands below it.
 
-use crate::folder;
+use crate::{examples, folder};
 use std::path::Path;
 use std::process::Command;
 
@@ -47,6 +47,30 @@ fn type_all(name: &str, text: &str) {
             .expect("a shell runs");
         let came = String::from_utf8(output.stdout).expect("text is printed");
         assert_eq!(came, printed, "$ {typed}");
+    }
+}
+
+/// The examples of the manual page, in a folder with the files that they name.
+#[test]
+fn the_manual_page() {
+    let here = folder("doc-manual");
+    for name in ["roast.routine", "roast.drum", "roast.policy"] {
+        std::fs::copy(examples().join(name), here.join(name)).expect("an example is copied");
+    }
+    let page = include_str!("../../../docs/hemdroas.1");
+    let (_, rest) = page.split_once("\n.EX\n").expect("examples begin");
+    let (lines, _) = rest.split_once("\n.EE\n").expect("examples end");
+    for line in lines.lines() {
+        let typed = line.replace('\\', "");
+        let words = typed
+            .strip_prefix("hemdroas ")
+            .expect("a line of the command");
+        let output = Command::new(env!("CARGO_BIN_EXE_hemdroas"))
+            .args(words.split(' '))
+            .current_dir(&here)
+            .output()
+            .expect("the command runs");
+        assert!(output.status.success(), "{typed}: {output:?}");
     }
 }
 

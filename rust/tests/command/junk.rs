@@ -1,5 +1,6 @@
 //! Every subcommand on files that are none, and on outputs that cannot be used.
 
+use crate::json::{objects, Value};
 use crate::{command, examples, file, folder, Came};
 use std::fs;
 use std::io::pipe;
@@ -171,6 +172,30 @@ fn files_that_are_none() {
     let files: usize = good().iter().map(files).sum();
     assert!(files >= 29, "every file of every subcommand");
     assert_eq!(tried, 11 * files);
+}
+
+/// With --json the status is the same, and what is wrong is an object.
+#[test]
+fn files_that_are_none_have_objects() {
+    let folder = folder("junk-json");
+    for (path, status, said) in junk(&folder) {
+        for (args, _) in good_json() {
+            for words in replaced(&args, |_| path.clone()) {
+                let came = run(&words);
+                assert_eq!(
+                    (came.status, came.error.as_str()),
+                    (status, ""),
+                    "{words:?}"
+                );
+                let message = said.split("error: ").last().unwrap();
+                let all = objects(&came.out);
+                let is_error = |object: &&Value| object.field("type").text() == "error";
+                let mut errors = all.iter().filter(is_error);
+                let is_said = |error: &Value| error.field("message").text().contains(message);
+                assert!(errors.any(is_said), "{words:?}: {}", came.out);
+            }
+        }
+    }
 }
 
 #[test]

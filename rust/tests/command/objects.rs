@@ -52,6 +52,20 @@ fn checked(printed: &str) -> Vec<Value> {
     all
 }
 
+/// Every field that the document lists has a meaning there.
+#[test]
+fn every_field_has_a_meaning() {
+    let part = FILES.split("| field | meaning |").nth(1);
+    let rows = part.expect("the table of fields").lines().skip(2);
+    let rows = rows.take_while(|line| line.starts_with('|'));
+    let explained: BTreeSet<&str> = rows
+        .flat_map(|row| quoted(row.split('|').nth(1).expect("a row has cells")))
+        .collect();
+    let listed = documented().into_iter().flat_map(|(_, fields)| fields);
+    let listed: BTreeSet<&str> = listed.collect();
+    assert_eq!(explained, listed);
+}
+
 fn types(all: &[Value]) -> BTreeSet<String> {
     let kinds = all
         .iter()
