@@ -1,6 +1,6 @@
 //! What a class types at the prompt of step, each command on its own.
 
-use crate::{command, file, folder, typed};
+use crate::{command, file, folder, typed, Came};
 
 /// Jumps of every condition, cells, an order above its ceiling and two readings.
 const LESSON: &str = "\
@@ -24,8 +24,8 @@ on: SET r5, 258
     GOX r7, always
 ";
 
-/// What a class with these lines shows.
-fn shown(test: &str, lines: &str) -> String {
+/// How a class with these lines comes back.
+fn class(test: &str, more: &[&str], lines: &str) -> Came {
     let folder = folder(test);
     let path = file(&folder, "lesson", LESSON);
     let args = [
@@ -33,9 +33,13 @@ fn shown(test: &str, lines: &str) -> String {
         &path,
         "--drum=profile.drum",
         "--policy=profile.policy",
-        "--readings=196.5",
     ];
-    let came = typed(&args, lines);
+    typed(&[&args[..], more].concat(), lines)
+}
+
+/// What a class with these lines shows.
+fn shown(test: &str, lines: &str) -> String {
+    let came = class(test, &["--readings=196.5"], lines);
     assert!(!came.error.contains("is not known"), "{}", came.error);
     came.out
 }
@@ -194,16 +198,8 @@ fn all_asks_nothing() {
 /// What cannot be understood is said, and asked for again.
 #[test]
 fn typos_are_named() {
-    let folder = folder("typos");
-    let path = file(&folder, "lesson", LESSON);
-    let args = [
-        "step",
-        &path,
-        "--drum=profile.drum",
-        "--policy=profile.policy",
-    ];
     let lines = "back 0\n-1\n4294967296\nback x\ncells 5 1\ncells x\nuntil nowhere\nbreak 99\nwhat now\nregs\nuntil bean\n\n\n196.55\n196.5\nall\nwhat\n\nstop\n";
-    let came = typed(&args, lines);
+    let came = class("typos", &[], lines);
     for said in [
         "'0' is no number of instructions; 'help' lists what is known",
         "'-1' is no number of instructions;*",
