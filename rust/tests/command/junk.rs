@@ -362,27 +362,48 @@ fn a_file_that_is_written_keeps_its_mode() {
     }
 }
 
-/// A user who may write any file may not be one for this test: then it takes another.
-#[test]
-fn a_file_that_may_not_be_written_is_not_replaced() {
+/// Writes a file of a mode in a folder of a mode, as a user who may not write all files.
+/// None if the folders above the command are closed to that user.
+fn written_by_nobody(folder: &Path, file_mode: u32, folder_mode: u32) -> Option<(Came, Vec<u8>)> {
     const NOBODY: u32 = 65534;
-    let folder = folder("kept");
-    let out = file(&folder, "out", "before");
-    fs::set_permissions(&out, fs::Permissions::from_mode(0o444)).unwrap();
-    fs::set_permissions(&folder, fs::Permissions::from_mode(0o777)).unwrap();
-    let may_write = fs::File::options().write(true).open(&out).is_ok();
+    let mode = fs::Permissions::from_mode;
+    let out = file(folder, "out", "before");
+    fs::set_permissions(&out, mode(0o444)).unwrap();
     let mut command = Command::new(env!("CARGO_BIN_EXE_hemdroas"));
     command.args("assemble sample.routine --drum sample.drum -o".split(' '));
     command.arg(&out).current_dir(examples());
-    if may_write {
+    if fs::File::options().write(true).open(&out).is_ok() {
         command.uid(NOBODY);
     }
-    // Folders above the command may be closed to that user.
-    if let Ok(output) = command.output() {
-        let came = Came::of(output);
+    fs::set_permissions(&out, mode(file_mode)).unwrap();
+    fs::set_permissions(folder, mode(folder_mode)).unwrap();
+    let output = command.output();
+    fs::set_permissions(folder, mode(0o755)).unwrap();
+    Some((Came::of(output.ok()?), fs::read(&out).unwrap()))
+}
+
+#[test]
+fn a_file_that_may_not_be_written_is_not_replaced() {
+    let folder = folder("kept");
+    if let Some((came, content)) = written_by_nobody(&folder, 0o444, 0o777) {
         came.ended(3, "out: Permission denied");
-        assert_eq!(fs::read(&out).unwrap(), b"before");
+        assert_eq!(content, b"before");
     }
+}
+
+#[test]
+fn a_file_is_written_where_no_other_can_be_made() {
+    let folder = folder("alone");
+    let bytes = "assemble sample.routine --drum sample.drum -o -";
+    let bytes = command(&bytes.split(' ').collect::<Vec<_>>()).out;
+    if let Some((came, content)) = written_by_nobody(&folder, 0o666, 0o555) {
+        came.printed(0, "");
+        assert_eq!(content, bytes.as_bytes());
+    }
+    let out = file(&folder, &"n".repeat(250), "before");
+    let line = format!("assemble sample.routine --drum sample.drum -o {out}");
+    command(&line.split(' ').collect::<Vec<_>>()).printed(0, "");
+    assert_eq!(fs::read(&out).unwrap(), bytes.as_bytes());
 }
 
 #[test]

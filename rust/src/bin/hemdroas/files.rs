@@ -97,6 +97,9 @@ pub fn keep_inputs(args: &Args) -> Result<(), Problem> {
     Ok(())
 }
 
+/// Why a folder takes no other file: it may not be written, or the name is too long.
+const NO_NEIGHBOUR: [ErrorKind; 2] = [ErrorKind::PermissionDenied, ErrorKind::InvalidFilename];
+
 /// The mode of a file that is to be written, if there is one. One that may not be
 /// written is not replaced either.
 fn mode(path: &Path) -> io::Result<Option<Permissions>> {
@@ -108,7 +111,8 @@ fn mode(path: &Path) -> io::Result<Option<Permissions>> {
 }
 
 /// Writes a file beside the path and moves it there, so that a full disk leaves
-/// what was there before. The file keeps its mode.
+/// what was there before. The file keeps its mode. Where none can be made beside it,
+/// it is written as it stands.
 fn replace(path: &Path, content: &[u8]) -> io::Result<()> {
     let mode = mode(path)?;
     let mut beside = path.as_os_str().to_owned();
@@ -122,9 +126,11 @@ fn replace(path: &Path, content: &[u8]) -> io::Result<()> {
         }
         file.sync_all()
     };
-    let written = File::create(&beside)
-        .and_then(fill)
-        .and_then(|()| fs::rename(&beside, path));
+    let made = match File::create(&beside) {
+        Err(error) if NO_NEIGHBOUR.contains(&error.kind()) => return fill(File::create(path)?),
+        made => made?,
+    };
+    let written = fill(made).and_then(|()| fs::rename(&beside, path));
     if written.is_err() {
         // It is of no use; that it cannot be removed says no more than the error does.
         let _ = fs::remove_file(&beside);
