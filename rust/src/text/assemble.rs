@@ -2,7 +2,7 @@
 
 use super::kinds::{Field, Kind, CONDITIONS, EVENT, GOIF, KINDS};
 use super::objections::objections;
-use super::said::{is_name, lines, quoted, Fault, Faults, Parsed, Place, Said};
+use super::said::{is_name, lines, no_name, quoted, Fault, Faults, Parsed, Place, Said};
 use super::{hint, number, Names};
 use crate::model::words::{word, Fields};
 use crate::names::REGISTERS;
@@ -383,7 +383,7 @@ impl<'a> Statements<'a> {
             )));
         }
         if !is_name(label.text) || is_register(label.text) || label.text == LANDING {
-            return Err(label.fault(format!("{} cannot be a label", quoted(label.text))));
+            return Err(label.fault(no_name(label.text, "label")));
         }
         if self.known.insert(label.text, instruction).is_some() {
             return Err(label.fault(format!("the label {} stands twice", quoted(label.text))));

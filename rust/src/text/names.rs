@@ -1,6 +1,6 @@
 //! Names of events.
 
-use super::said::{is_name, quoted};
+use super::said::{is_name, no_name, quoted};
 use super::{hint, number};
 use crate::names::EVENTS;
 
@@ -76,7 +76,7 @@ impl Names {
     pub fn add(&mut self, event: &str, name: &str) -> Result<(), String> {
         let event = number(event).and_then(|_| self.known_event(event))?;
         if !is_name(name) || KEYWORDS.contains(&name) {
-            return Err(format!("{} cannot be a name", quoted(name)));
+            return Err(no_name(name, "name"));
         }
         if self.event(name).is_ok_and(|other| other != event) {
             return Err(format!("{} is the name of another event", quoted(name)));

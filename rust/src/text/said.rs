@@ -309,9 +309,22 @@ pub(super) fn quoted(word: &str) -> String {
     }
 }
 
-/// Whether a word can be the name of a label, an event or a state.
-pub(super) fn is_name(word: &str) -> bool {
+/// Whether a word has the letters of a name.
+fn has_letters(word: &str) -> bool {
     let is_first = |c: char| c.is_ascii_alphabetic() || c == '_';
     let is_later = |c: char| c.is_ascii_alphanumeric() || "_-.+".contains(c);
-    word.len() <= LONGEST_NAME && word.starts_with(is_first) && word.chars().all(is_later)
+    word.starts_with(is_first) && word.chars().all(is_later)
+}
+
+/// Whether a word can be the name of a label, an event or a state.
+pub(super) fn is_name(word: &str) -> bool {
+    word.len() <= LONGEST_NAME && has_letters(word)
+}
+
+/// What is said of a word that cannot be what it should name.
+pub(super) fn no_name(word: &str, what: &str) -> String {
+    match word.len() > LONGEST_NAME && has_letters(word) {
+        true => format!("{} is longer than {LONGEST_NAME} characters", quoted(word)),
+        false => format!("{} cannot be a {what}", quoted(word)),
+    }
 }

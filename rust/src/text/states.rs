@@ -1,7 +1,7 @@
 //! The lines of a policy file that concern states and their arrows.
 
 use super::policy::{Form, Table};
-use super::said::{is_name, quoted, Fault, Faults, Place, Said};
+use super::said::{is_name, no_name, quoted, Fault, Faults, Place, Said};
 use super::Names;
 use crate::names::{EVENTS, MOST_STATES, NO_ARROW};
 
@@ -59,7 +59,7 @@ impl<'a> States<'a> {
     /// Takes a line that names a state.
     pub fn state(&mut self, name: Said<'a>) -> Result<(), Fault> {
         if !is_name(name.text) || name.text == "none" {
-            return Err(name.fault(format!("{} cannot be a name", quoted(name.text))));
+            return Err(name.fault(no_name(name.text, "name")));
         }
         if self.names.contains(&name.text) {
             return Err(name.fault(format!("the state {} stands twice", quoted(name.text))));

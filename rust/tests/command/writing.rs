@@ -2,7 +2,7 @@
 //! once.
 
 use crate::{command, examples, file, folder};
-use hemdroas::text::{assemble, drum, Names, Routine};
+use hemdroas::text::{assemble, drum, policy, Names, Routine};
 use std::fs;
 
 /// The names of the profile's drum.
@@ -276,6 +276,21 @@ fn the_one_thing_that_is_wrong_is_named() {
             })
             .collect();
         assert_eq!(found, [said], "{line}");
+    }
+    let long = "a".repeat(61);
+    for line in [
+        format!("{long}: HALT\nGOIF always, {long}\n"),
+        format!("event 0 {long}\nstate a\n {long} -> a\n"),
+        format!("state {long}\n 0 -> {long}\n"),
+    ] {
+        let faults = match line.starts_with('a') {
+            true => assemble(line.as_bytes(), &names()).unwrap_err(),
+            false => policy(line.as_bytes(), &names()).unwrap_err(),
+        };
+        let quoted = &long[..40];
+        let said = format!("'{quoted}...' is longer than 60 characters");
+        assert_eq!(faults.len(), 1, "{faults:?}");
+        assert_eq!(faults[0].message, said);
     }
     // Every comma that is missing.
     let faults = assemble(b"GOIF r1 r2, below end\nend:\n", &names()).unwrap_err();
