@@ -73,6 +73,33 @@ fn what_says_why_a_jump_is_taken() {
     );
 }
 
+/// What an instruction without a jump will do, and a GOX above the routine's end.
+#[test]
+fn what_says_what_will_change() {
+    let folder = folder("changes");
+    let text = "SET r1, 7\nSET r1, 12\nADD r2, r1, r1\nGOX r1, always\nlanding\nHALT\n";
+    let path = file(&folder, "changes", text);
+    let args = [
+        "step",
+        &path,
+        "--drum=profile.drum",
+        "--policy=profile.policy",
+    ];
+    let lines = "what\n\nwhat\nback\n2\nwhat\n\nwhat\n\nwhat\n\nwhat\nstop\n";
+    let came = typed(&args, lines);
+    in_order(
+        &came.out,
+        &[
+            "\nr1: 0 -> 7\n   1 ",
+            "\nr1: 7 -> 12\nat",
+            "\nr2: 0 -> 24\n",
+            "\nalways: yes, r1 is 12, modulo 8: to instruction 4\n",
+            "\nit will end (20)\n",
+            "\nit is over",
+        ],
+    );
+}
+
 #[test]
 fn until_and_break_take_a_line_an_event_or_a_label() {
     for order in ["until", "break"] {
@@ -198,9 +225,10 @@ fn all_asks_nothing() {
 /// What cannot be understood is said, and asked for again.
 #[test]
 fn typos_are_named() {
-    let lines = "back 0\n-1\n4294967296\nback x\ncells 5 1\ncells x\nuntil nowhere\nbreak 99\nwhat now\nregs\nuntil bean\n\n\n196.55\n196.5\nall\nwhat\n\nstop\n";
+    let lines = "re\x07gs\nback 0\n-1\n4294967296\nback x\ncells 5 1\ncells x\nuntil nowhere\nbreak 99\nwhat now\nregs\nuntil bean\n\n\n196.55\n196.5\nall\nwhat\n\nstop\n";
     let came = class("typos", &[], lines);
     for said in [
+        "'re\u{fffd}gs' is not known; 'help' lists what is known",
         "'0' is no number of instructions; 'help' lists what is known",
         "'-1' is no number of instructions;*",
         "'4294967296' has more than 32 bits;*",

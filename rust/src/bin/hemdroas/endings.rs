@@ -5,7 +5,7 @@ use super::json::{list, object, Json};
 use super::load::{Loaded, Stand};
 use super::problem::Problem;
 use super::stretch::{instruction_at, Stretch};
-use super::what::{event_of, jump_of, landings_said, wrapped, Registers};
+use super::what::{event_of, jump_of, landings_said, Registers};
 use hemdroas::names::{BUNDLE_LENGTH, EVENTS, GUEST_REGISTERS};
 use hemdroas::text::{Names, Table};
 use hemdroas::Ending;
@@ -88,11 +88,11 @@ impl<'a> End<'a> {
             ),
             Ending::NoLanding => {
                 let bundles = (loaded.checked.commands.len() / BUNDLE_LENGTH) as u32;
-                let target = jump_of(word, &self.regs, bundles).map_or(0, |jump| jump.target);
+                let jump = jump_of(word, &self.regs, bundles)?;
                 format!(
                     "{}it would go to {}, which is no landing; {}",
-                    wrapped(word, &self.regs, bundles),
-                    routine.target(target),
+                    jump.wrapped,
+                    routine.target(jump.target),
                     landings_said(&loaded.checked.landings)
                 )
             }

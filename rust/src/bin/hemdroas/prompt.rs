@@ -58,7 +58,10 @@ fn plain(question: &str) -> Result<Option<String>, Problem> {
     if read.map_err(|error| files::failed("standard input", error))? == 0 {
         return Ok(None);
     }
-    let line = String::from_utf8_lossy(&line).trim().to_string();
+    // What a terminal would obey is shown as one mark, as it is in a file's line.
+    let line = String::from_utf8_lossy(&line);
+    let is_odd = |c: char| c.is_control() && c != '\t';
+    let line = line.trim().replace(is_odd, "\u{fffd}");
     // What nobody types at a terminal is shown, so that the answer stands on its own lines.
     if !io::stdin().is_terminal() {
         files::complain(&format!("{line}\n"));

@@ -4,7 +4,7 @@ use super::endings::changed_cells;
 use super::load::Loaded;
 use super::problem::Problem;
 use super::stretch::{Recorded, PAIR};
-use super::what::event_of;
+use super::what::{event_of, Registers};
 use hemdroas::text::scaled;
 use hemdroas::{native, Ending, Engine, EngineAnswer, Status};
 
@@ -111,6 +111,15 @@ impl<'a> Lesson<'a> {
             cells: changed_cells(self.loaded, &memory, &self.memory),
             ending,
         }))
+    }
+
+    /// The registers after the next instruction, if that asks for nothing.
+    pub fn registers_ahead(&self) -> Registers {
+        let (mut engine, mut memory) = (self.engine, self.memory.clone());
+        let (layout, words) = (self.loaded.layout(), &self.loaded.routine().words);
+        // A refusal or a pause leaves the engine as it is.
+        let _ = native::engine(layout, words, &mut engine, &mut memory, 1, &[], &mut []);
+        engine.regs
     }
 
     /// Goes back by so many instructions: runs again from the installation, with

@@ -16,6 +16,15 @@ pub fn place_text(lesson: &Lesson) -> String {
     )
 }
 
+/// The registers that are not as before.
+pub fn register_changes(before: &Registers, after: &Registers) -> Vec<String> {
+    let all = before.iter().zip(after).enumerate();
+    let changed = all.filter(|(_, (old, new))| old != new);
+    changed
+        .map(|(register, (old, new))| format!("r{register}: {old} -> {new}"))
+        .collect()
+}
+
 /// What one instruction did: the record, registers, cells, state.
 pub fn taken_text(lesson: &Lesson, taken: &Taken) -> String {
     let loaded = lesson.loaded;
@@ -31,14 +40,8 @@ pub fn taken_text(lesson: &Lesson, taken: &Taken) -> String {
             loaded.names.both(pair.event)
         );
     }
-    let changes = taken
-        .before
-        .regs
-        .iter()
-        .zip(&lesson.engine.regs)
-        .enumerate();
-    for (register, (old, new)) in changes.filter(|(_, (old, new))| old != new) {
-        text += &format!("      r{register}: {old} -> {new}\n");
+    for change in register_changes(&taken.before.regs, &lesson.engine.regs) {
+        text += &format!("      {change}\n");
     }
     for (cell, old, new) in &taken.cells {
         text += &format!("      cell {cell}: {old} -> {new}\n");

@@ -10,7 +10,9 @@ use super::prompt::{ask, typed_readings};
 use super::records::{head, rows};
 use super::running::{given, readings};
 use super::school::{Lesson, Taken};
-use super::shown::{cells_text, place_text, registers_text, taken_json, taken_text};
+use super::shown::{
+    cells_text, place_text, register_changes, registers_text, taken_json, taken_text,
+};
 use super::what::{event_of, what};
 use hemdroas::Ending;
 use std::collections::VecDeque;
@@ -180,7 +182,13 @@ impl Class<'_> {
                 rows(lesson.loaded, 0, &lesson.pairs)
             ),
             Order::What if !lesson.is_running() => OVER.to_string(),
-            Order::What => format!("{}\n", what(lesson.loaded, lesson.engine.at, regs, state)),
+            Order::What => match what(lesson.loaded, lesson.engine.at, regs, state) {
+                Some(said) => format!("{said}\n"),
+                None => match register_changes(regs, &lesson.registers_ahead()) {
+                    none if none.is_empty() => "no register will change\n".to_string(),
+                    changes => format!("{}\n", changes.join("\n")),
+                },
+            },
             Order::Breaks => {
                 let all = self.breaks.iter().map(|goal| goal.text(lesson.loaded));
                 let all: Vec<String> = all.collect();

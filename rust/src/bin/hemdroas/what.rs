@@ -14,6 +14,8 @@ pub struct Jump {
     pub condition: String,
     pub is_taken: bool,
     pub target: u32,
+    /// How the register of a GOX comes to the target, where it is not the number itself.
+    pub wrapped: String,
     /// Whether it goes only to a landing.
     pub wants_landing: bool,
 }
@@ -34,10 +36,14 @@ pub fn event_of(word: u64) -> Option<u32> {
 /// The jump of a word, in a routine of so many bundles.
 pub fn jump_of(word: u64, regs: &Registers, bundles: u32) -> Option<Jump> {
     let get = |register: u32| regs.get(register as usize).copied().unwrap_or(0);
-    let (a, b, c, target, wants_landing) = match instruction_of(word)? {
-        Instr::GoIf { a, b, c, v } => (a, b, c, v, false),
-        Instr::GoX { d, a, b, c } => (a, b, c, get(d) % bundles, true),
+    let (a, b, c, target, through) = match instruction_of(word)? {
+        Instr::GoIf { a, b, c, v } => (a, b, c, v, None),
+        Instr::GoX { d, a, b, c } => (a, b, c, get(d) % bundles, Some(d)),
         _ => return None,
+    };
+    let wrapped = match through.map(|d| (d, get(d))) {
+        Some((d, value)) if value >= bundles => format!("r{d} is {value}, modulo {bundles}: "),
+        _ => String::new(),
     };
     let (left, right) = (get(a), get(b));
     let signed = (left as i32, right as i32);
@@ -55,7 +61,8 @@ pub fn jump_of(word: u64, regs: &Registers, bundles: u32) -> Option<Jump> {
         condition,
         is_taken,
         target,
-        wants_landing,
+        wrapped,
+        wants_landing: through.is_some(),
     })
 }
 
@@ -64,18 +71,6 @@ pub fn landings_said(landings: &[u32]) -> String {
     match landings.is_empty() {
         true => "there are no landings".to_string(),
         false => format!("the landings are {}", landings_text(landings)),
-    }
-}
-
-/// How the register of a GOX comes to its target, where it is not the number
-/// itself.
-pub fn wrapped(word: u64, regs: &Registers, bundles: u32) -> String {
-    match instruction_of(word) {
-        Some(Instr::GoX { d, .. }) => match regs.get(d as usize) {
-            Some(value) if *value >= bundles => format!("r{d} is {value}, modulo {bundles}: "),
-            _ => String::new(),
-        },
-        _ => String::new(),
     }
 }
 
@@ -88,12 +83,12 @@ fn jump_text(loaded: &Loaded, place: u32, jump: &Jump) -> String {
     if !jump.is_taken {
         return format!("{condition}: no, on to {}", routine.place(place + 1));
     }
-    let goal = routine.target(*target);
+    let goal = format!("{}to {}", jump.wrapped, routine.target(*target));
     if !jump.wants_landing || loaded.checked.landings.contains(target) {
-        return format!("{condition}: yes, to {goal}");
+        return format!("{condition}: yes, {goal}");
     }
     let landings = landings_said(&loaded.checked.landings);
-    format!("{condition}: yes, to {goal}, which is no landing; {landings}: it will stop (26)")
+    format!("{condition}: yes, {goal}, which is no landing; {landings}: it will stop (26)")
 }
 
 /// What an event will do.
@@ -119,13 +114,13 @@ fn event_text(loaded: &Loaded, event: u32, r0: u32, state: u32) -> String {
     format!("{name} {records}; state {from} -> {to}")
 }
 
-/// What the next instruction will do.
-pub fn what(loaded: &Loaded, place: u32, regs: &Registers, state: u32) -> String {
+/// What the next instruction will do; none if it only alters a register.
+pub fn what(loaded: &Loaded, place: u32, regs: &Registers, state: u32) -> Option<String> {
     let routine = loaded.routine();
     let word = routine.words.get(place as usize).copied().unwrap_or(0);
     let bundles = (loaded.checked.commands.len() / BUNDLE_LENGTH) as u32;
     if let Some(jump) = jump_of(word, regs, bundles) {
-        return jump_text(loaded, place, &jump);
+        return Some(jump_text(loaded, place, &jump));
     }
     let layout = loaded.layout();
     let mask = |register: u32| {
@@ -139,9 +134,10 @@ pub fn what(loaded: &Loaded, place: u32, regs: &Registers, state: u32) -> String
             ),
         }
     };
-    match instruction_of(word) {
-        Some(Instr::Event { v }) => event_text(loaded, v, regs[0], state),
-        Some(Instr::Load { a, .. } | Instr::Store { a, .. }) => mask(a),
-        _ => format!("no jump: {}", routine.instruction(place)),
-    }
+    Some(match instruction_of(word)? {
+        Instr::Event { v } => event_text(loaded, v, regs[0], state),
+        Instr::Load { a, .. } | Instr::Store { a, .. } => mask(a),
+        Instr::Halt => "it will end (20)".to_string(),
+        _ => return None,
+    })
 }
