@@ -126,7 +126,11 @@ pub fn listing(listed: &Listed, under: impl Fn(usize) -> Vec<String>) -> String 
             text += &format!("#     {comment}\n");
         }
     }
-    text
+    match text.is_empty() {
+        // An empty file is no routine.
+        true => "# no instructions\n".to_string(),
+        false => text,
+    }
 }
 
 /// A word of the guest as text, with labels for its target as a listing has them.

@@ -427,6 +427,14 @@ fn empty_files_are_refused_alike() {
     }
     let comment = file(&folder, "comment", "# nothing\n");
     command(&["assemble", &comment, "-o", "-"]).printed(0, "\0\0");
+    // A routine of no instructions is listed as one.
+    for content in ["# nothing\n", "\0\0"] {
+        let path = file(&folder, "none", content);
+        let came = command(&["list", &path]);
+        came.printed(0, "# no instructions\n");
+        let listed = file(&folder, "listed", &came.out);
+        command(&["assemble", &listed, "-o", "-"]).printed(0, "\0\0");
+    }
     let came = command(&["check", &comment, "--drum", "sample.drum"]);
     assert_eq!(came.status, 0, "{}", came.error);
 }
