@@ -108,6 +108,28 @@ fn run(words: &[String]) -> Came {
     came
 }
 
+/// The file among these arguments that lies in a folder.
+fn copied<'a>(words: &'a [String], folder: &Path) -> &'a str {
+    let folder = folder.to_str().expect("paths are text");
+    let parts = words.iter().flat_map(|word| word.split('='));
+    let mut inside = parts.filter(|part| part.starts_with(folder));
+    inside.next().expect("a file was copied")
+}
+
+/// Runs the command with a shell's line behind it, in the examples' folder.
+fn shell(line: &str) -> Came {
+    let output = Command::new("sh")
+        .args([
+            "-c",
+            &format!("exec '{}' {line}", env!("CARGO_BIN_EXE_hemdroas")),
+        ])
+        .current_dir(examples())
+        .stdin(Stdio::null())
+        .output()
+        .expect("a shell runs");
+    Came::of(output)
+}
+
 /// Files that are none, each with the status and what is said of it.
 fn junk(folder: &Path) -> Vec<(String, i32, &'static str)> {
     let bytes: Vec<u8> = (0..4000u32)
@@ -251,23 +273,9 @@ fn an_output_that_is_closed_cannot_be_written() {
     let others = ["--version", "help", "help run", "policy"];
     let others = others.map(|line| (line.split(' ').collect(), 0));
     for (args, _) in good().into_iter().chain(good_json()).chain(others) {
-        let line = format!(
-            "exec '{}' {} >&-",
-            env!("CARGO_BIN_EXE_hemdroas"),
-            args.join(" ")
-        );
-        let output = Command::new("sh")
-            .args(["-c", &line])
-            .current_dir(examples())
-            .stdin(Stdio::null())
-            .output()
-            .expect("a shell runs");
-        let error = String::from_utf8_lossy(&output.stderr);
-        assert_eq!(
-            (output.status.code(), error.as_ref()),
-            (Some(3), "hemdroas: standard output: it is closed\n"),
-            "{args:?}"
-        );
+        let came = shell(&format!("{} >&-", args.join(" ")));
+        let said = "hemdroas: standard output: it is closed\n";
+        assert_eq!((came.status, came.error.as_str()), (3, said), "{args:?}");
     }
 }
 
@@ -287,10 +295,7 @@ fn an_output_that_is_an_input_is_refused() {
                 .into_iter()
                 .filter(|word| word != "-o" && word != "-")
                 .collect();
-            let input = words
-                .iter()
-                .find_map(|word| word.split('=').find(|part| part.contains("same")));
-            let input = input.expect("a file was copied");
+            let input = copied(&words, &folder);
             let name = Path::new(input).file_name().unwrap().to_str().unwrap();
             let (hard, soft) = (folder.join("hard"), folder.join("soft"));
             let _ = (fs::remove_file(&hard), fs::remove_file(&soft));
@@ -309,26 +314,10 @@ fn an_output_that_is_an_input_is_refused() {
 #[test]
 fn standard_output_that_is_an_input_is_refused() {
     let folder = folder("printed");
-    let shell = |line: &str| {
-        let output = Command::new("sh")
-            .args([
-                "-c",
-                &format!("exec '{}' {line}", env!("CARGO_BIN_EXE_hemdroas")),
-            ])
-            .current_dir(examples())
-            .stdin(Stdio::null())
-            .stderr(Stdio::piped())
-            .output()
-            .expect("a shell runs");
-        Came::of(output)
-    };
     for (args, status) in good() {
         let copy = |name: &str| file(&folder, name, fs::read(examples().join(name)).unwrap());
         for words in replaced(&args, copy) {
-            let input = words
-                .iter()
-                .find_map(|word| word.split('=').find(|part| part.contains("printed")));
-            let input = input.expect("a file was copied");
+            let input = copied(&words, &folder);
             let before = fs::read(input).unwrap();
             let came = shell(&format!("{} >> {input}", words.join(" ")));
             came.ended(
@@ -347,6 +336,24 @@ fn standard_output_that_is_an_input_is_refused() {
         }
     }
     shell("list - < /dev/null > /dev/null").ended(1, "the file is empty");
+}
+
+/// Messages are not written to an input either: standard output has this one.
+#[test]
+fn standard_error_that_is_an_input_is_refused() {
+    let folder = folder("said");
+    for (args, _) in good() {
+        let copy = |name: &str| file(&folder, name, fs::read(examples().join(name)).unwrap());
+        for words in replaced(&args, copy) {
+            let input = copied(&words, &folder);
+            let before = fs::read(input).unwrap();
+            let said = format!(
+                "hemdroas: standard error: it is the input {input}, and would be overwritten\n"
+            );
+            shell(&format!("{} 2>> {input}", words.join(" "))).printed(3, &said);
+            assert_eq!(fs::read(input).unwrap(), before, "{words:?}");
+        }
+    }
 }
 
 #[test]

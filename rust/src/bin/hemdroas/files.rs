@@ -13,8 +13,9 @@ use std::path::{Path, PathBuf};
 /// The most bytes of a file.
 const LARGEST_FILE: u64 = 1 << 20;
 
-/// What messages call the output that has no name.
+/// What messages call the outputs that have no name.
 const STANDARD_OUTPUT: &str = "standard output";
+const STANDARD_ERROR: &str = "standard error";
 
 /// What is said of a file that cannot be read or written.
 pub fn failed(path: &str, error: io::Error) -> Problem {
@@ -58,9 +59,9 @@ fn identity(path: &str) -> Option<(u64, u64)> {
     identity_of(fs::metadata(path))
 }
 
-/// The identity of standard output, where it goes to a plain file.
-fn printed_identity() -> Option<(u64, u64)> {
-    let out = io::stdout().as_fd().try_clone_to_owned().ok()?;
+/// The identity of standard output or standard error, where it goes to a plain file.
+fn printed_identity(out: impl AsFd) -> Option<(u64, u64)> {
+    let out = out.as_fd().try_clone_to_owned().ok()?;
     identity_of(File::from(out).metadata())
 }
 
@@ -70,8 +71,9 @@ fn outputs(args: &Args) -> Vec<(&str, Option<(u64, u64)>)> {
     let named = args.value("-o").filter(|&out| out != "-");
     let mut outputs: Vec<_> = named.iter().map(|&out| (out, identity(out))).collect();
     if named.is_none() || args.is_json() {
-        outputs.push((STANDARD_OUTPUT, printed_identity()));
+        outputs.push((STANDARD_OUTPUT, printed_identity(io::stdout())));
     }
+    outputs.push((STANDARD_ERROR, printed_identity(io::stderr())));
     outputs
 }
 
@@ -90,6 +92,11 @@ pub fn keep_inputs(args: &Args) -> Result<(), Problem> {
             let opened = if *input == "-" { "/dev/stdin" } else { input };
             if identity(opened) == written {
                 let said = format!("it is the input {input}, and would be overwritten");
+                // The message itself would be written there: standard output has it.
+                if out == STANDARD_ERROR && !args.is_json() {
+                    print(&format!("hemdroas: {out}: {said}\n"))?;
+                    return Err(Problem::Quiet);
+                }
                 return Err(Problem::File(out.to_string(), said));
             }
         }
