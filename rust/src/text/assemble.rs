@@ -366,6 +366,8 @@ struct Statements<'a> {
     statements: Vec<Said<'a>>,
     labels: Vec<(&'a str, u32)>,
     known: Labels<'a>,
+    /// The line of each label.
+    lines: HashMap<&'a str, usize>,
     landings: BTreeSet<u32>,
 }
 
@@ -385,9 +387,12 @@ impl<'a> Statements<'a> {
         if !is_name(label.text) || is_register(label.text) || label.text == LANDING {
             return Err(label.fault(no_name(label.text, "label")));
         }
-        if self.known.insert(label.text, instruction).is_some() {
-            return Err(label.fault(format!("the label {} stands twice", quoted(label.text))));
+        if let Some(first) = self.lines.get(label.text) {
+            let message = format!("the label {} stands twice", quoted(label.text));
+            return Err(label.fault(format!("{message}, first in line {first}")));
         }
+        self.lines.insert(label.text, label.place().line);
+        self.known.insert(label.text, instruction);
         self.labels.push((label.text, instruction));
         Ok(())
     }

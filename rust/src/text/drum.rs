@@ -305,9 +305,10 @@ impl Reader {
     fn number(&mut self, letter: Said, value: Said) -> Result<(), Fault> {
         let place = LETTERS.iter().position(|&known| known == letter.text);
         let slot = &mut self.numbers[place.unwrap_or(0)];
-        if slot.is_some() {
+        if let Some((_, first)) = slot {
             self.is_unread = true;
-            return Err(letter.fault(format!("{} stands twice", letter.text)));
+            let message = format!("{} stands twice, first in line {}", letter.text, first.line);
+            return Err(letter.fault(message));
         }
         let number = number(value.text);
         self.is_unread |= number.is_err();

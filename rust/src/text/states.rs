@@ -61,8 +61,10 @@ impl<'a> States<'a> {
         if !is_name(name.text) || name.text == "none" {
             return Err(name.fault(no_name(name.text, "name")));
         }
-        if self.names.contains(&name.text) {
-            return Err(name.fault(format!("the state {} stands twice", quoted(name.text))));
+        if let Some(first) = self.names.iter().position(|&known| known == name.text) {
+            let line = self.places[first].line;
+            let message = format!("the state {} stands twice", quoted(name.text));
+            return Err(name.fault(format!("{message}, first in line {line}")));
         }
         match self.names.len() {
             MOST_NAMED if self.is_full => return Ok(()),

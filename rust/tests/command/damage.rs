@@ -23,7 +23,10 @@ fn drums() {
             DRUM.replace("U 1024", "U 1024 5"),
             ":2:1: error: U wants one number",
         ),
-        (DRUM.replace("M 0", "U 1024"), ":5:*: error: U stands twice"),
+        (
+            DRUM.replace("M 0", "U 1024"),
+            ":5:*: error: U stands twice, first in line 2",
+        ),
         (
             DRUM.replace("event 2", "event 16"),
             ":12:*: error: 16 is no event",

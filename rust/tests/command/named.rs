@@ -212,7 +212,7 @@ fn what_follows_from_an_error_is_not_said() {
         ),
         (
             "state a\n 0 -> a\nstate a\n 0 -> a\n",
-            ":3:7: error: the state 'a' stands twice",
+            ":3:7: error: the state 'a' stands twice, first in line 1",
         ),
         (
             "state a\n 0 -> a\nstate b c\n 0 -> b\n",
