@@ -360,8 +360,22 @@ fn bad_usage() {
 
 #[test]
 fn an_option_is_no_value_of_another() {
-    let args = ["assemble", "sample.routine", "--drum", "-o", "out"];
-    command(&args).ended(2, "hemdroas: --drum wants a value");
+    for line in ["--drum -o out", "--drum -o=out"] {
+        let line = format!("assemble sample.routine {line}");
+        let args: Vec<&str> = line.split(' ').collect();
+        command(&args).ended(2, "hemdroas: --drum wants a value");
+    }
+    // Readings may be none, but only at the end or behind =.
+    let run = "run sample.routine --drum sample.drum --policy sample.policy";
+    for (more, status) in [
+        ("--readings --resume", 2),
+        ("--resume --readings", 4),
+        ("--readings= --resume", 4),
+    ] {
+        let line = format!("{run} {more}");
+        let came = command(&line.split(' ').collect::<Vec<_>>());
+        assert_eq!(came.status, status, "{line}: {}", came.error);
+    }
     // A file may have such a name.
     let args = ["assemble", "sample.routine", "-o=-", "--drum=-o"];
     command(&args).ended(3, "hemdroas: -o: No such file or directory");

@@ -75,10 +75,16 @@ impl Args {
             ("", Some(_)) => return Err(format!("{name} takes no value")),
             (_, Some(value)) => value,
             // Another option of the command is no value; behind = it may be one.
-            (_, None) => {
-                let next = words.next().filter(|next| command.option(next).is_none());
-                next.cloned().unwrap_or_default()
-            }
+            (_, None) => match words.next() {
+                Some(next)
+                    if command
+                        .option(next.split('=').next().unwrap_or(""))
+                        .is_some() =>
+                {
+                    return Err(format!("{name} wants a value"));
+                }
+                next => next.cloned().unwrap_or_default(),
+            },
         };
         if value.is_empty() && !["", MAY_BE_EMPTY].contains(&wants) {
             return Err(format!("{name} wants a value"));
