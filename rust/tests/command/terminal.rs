@@ -16,7 +16,7 @@ extern "C" {
     fn grantpt(file: i32) -> i32;
     fn unlockpt(file: i32) -> i32;
     fn ptsname(file: i32) -> *const std::ffi::c_char;
-    fn ioctl(file: i32, request: u64, size: *const [u16; 4]) -> i32;
+    fn ioctl(file: i32, request: u64, ...) -> i32;
     fn setsid() -> i32;
 }
 
@@ -33,12 +33,13 @@ const SET_SIZE: u64 = 0x5414;
 fn terminal(columns: u16) -> Option<(File, String)> {
     // SAFETY: calls of the C library with a descriptor of its own, and with a live array.
     unsafe {
+        let size: [u16; 4] = [24, columns, 0, 0];
         let person = posix_openpt(BOTH);
         if person < 0 {
             return None;
         }
         assert!(grantpt(person) == 0 && unlockpt(person) == 0);
-        assert_eq!(ioctl(person, SET_SIZE, &[24, columns, 0, 0]), 0);
+        assert_eq!(ioctl(person, SET_SIZE, &raw const size), 0);
         let name = CStr::from_ptr(ptsname(person)).to_str().unwrap();
         Some((File::from_raw_fd(person), name.to_string()))
     }

@@ -25,7 +25,7 @@ mod linux {
     extern "C" {
         fn tcgetattr(file: i32, settings: *mut Settings) -> i32;
         fn tcsetattr(file: i32, action: i32, settings: *const Settings) -> i32;
-        fn ioctl(file: i32, request: u64, size: *mut Size) -> i32;
+        fn ioctl(file: i32, request: u64, ...) -> i32;
     }
 
     const STANDARD_INPUT: i32 = 0;
@@ -61,7 +61,7 @@ mod linux {
         pub fn columns(&self) -> Option<usize> {
             let mut size = Size::default();
             // SAFETY: the pointer is to a live array of the size that the request fills.
-            let is_known = unsafe { ioctl(STANDARD_INPUT, GET_SIZE, &mut size) } == 0;
+            let is_known = unsafe { ioctl(STANDARD_INPUT, GET_SIZE, &raw mut size) } == 0;
             (is_known && size[1] > 0).then_some(size[1].into())
         }
     }
