@@ -459,3 +459,24 @@ fn more_than_1023_instructions_are_refused_alike() {
         came.refused("more than 1023 instructions; refused as oversize (5)");
     }
 }
+
+/// S is the policy's where the drum's file leaves it out.
+#[test]
+fn a_drum_without_states_takes_any_policy() {
+    let folder = folder("states");
+    let halt = file(&folder, "halt", "HALT\n");
+    for states in 1..=16 {
+        let text: String = (0..states).map(|n| format!("state s{n}\n")).collect();
+        let policy = file(&folder, "policy", text);
+        let check = |drum| command(&["check", &halt, "--drum", drum, "--policy", &policy]);
+        let came = check("roast.drum");
+        assert!(came.out.ends_with(", installed\n"), "{}", came.error);
+        let came = check("sample.drum");
+        match states {
+            2 => assert_eq!(came.status, 0, "{}", came.error),
+            _ => came.refused(&format!(
+                "it has {states} states, and S of sample.drum is 2; without its line S a drum takes any; refused as bad policy (10)"
+            )),
+        }
+    }
+}
