@@ -43,6 +43,6 @@ sample-holds =
         (record { readings = refl; budget = refl; log = refl; memory = refl }, (record { readings = refl; budget = refl; log = refl; memory = refl }, tt)),
       );
       answers = λ x. refl;
-      unjudged = λ x. (λ l. free-set (lot .memory) 9 x refl, tt);
+      unjudged = λ x. (λ l. free-set (firstLoad .memory) 9 x refl, tt);
       faulted = λ x. refl;
     }
