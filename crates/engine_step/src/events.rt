@@ -1,5 +1,6 @@
 // Decides EVENT in the engine.
 use crate::known_cells::read_cell;
+use machine_step::installed::entry_in;
 use types::Effect;
 use types::Layout;
 use types::PolicyNumbers;
@@ -17,7 +18,7 @@ pub fn entry(layout: Layout, v: u32, memory: &[u32]) -> usize
     ensures { λ r. ⌜ r ≡ layout .table + events * getD (now (memory .entry)) (layout .cell) 0 + v ⌝ }
 {
     let state = read_cell(memory, layout.cell as usize);
-    layout.table as usize + PolicyNumbers::EVENTS as usize * (state as usize) + v as usize
+    entry_in(layout.table, state, v)
 }
 
 // What an event's pauses depend on: free log cells, and readings left.

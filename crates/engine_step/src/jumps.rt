@@ -1,5 +1,6 @@
 // Decides GOIF and GOX in the engine.
 use crate::known_cells::read_cell;
+use machine_step::installed::has_bit;
 use types::Effect;
 use types::Layout;
 use types::Status;
@@ -33,7 +34,7 @@ fn has_landing(j: u32, landings: u32, memory: &[u32]) -> bool
     ensures { λ r. ⌜ r ≡ marked (now (memory .entry)) landings j ⌝ }
 {
     let bits = read_cell(memory, landings as usize + (j / Layout::CELL_BITS) as usize);
-    (bits >> (j % Layout::CELL_BITS)) % 2 == 1
+    has_bit(bits, j)
 }
 
 // The effect of a taken GOX: to instruction rd modulo N if that is a landing, else it stops. N is a power of two, so a mask gives the modulo.
