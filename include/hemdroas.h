@@ -103,7 +103,7 @@ enum hemdroas_refusal {
     HEMDROAS_BAD_BASE = 13,         /* the base is not a multiple of the number of commands */
     HEMDROAS_BAD_LANDING_LIST = 14, /* the landings are not strictly rising, or one is above 1023 */
     HEMDROAS_TOO_MANY_STATES = 15,  /* the policy would have more than 16 states */
-    HEMDROAS_BAD_DRAWING = 16,      /* no start, not 1 to 16 states, not 16 entries for each, or a bit for a state that does not exist */
+    HEMDROAS_BAD_DRAWING = 16,      /* see hemdroas_determinise: no start, not 1 to 16 states, not 16 entries for each, or a bit for no state */
     HEMDROAS_BAD_PAIR = 17,         /* an event above 15, an odd number of events, or more than four different ones */
     HEMDROAS_NOT_FORWARD = 18       /* a GOX, or a GOIF that jumps to itself or back */
 };
@@ -260,7 +260,7 @@ struct hemdroas_precedence_answer {
     uint32_t number; /* enum hemdroas_refusal */
     uint32_t place;  /* bytes of the table written */
     uint32_t states; /* states of the policy; it starts in state 0 */
-    uint32_t never;  /* bit e is set if event e can never be allowed, as when pairs form a ring */
+    uint32_t never;  /* bit e is set if event e can never be allowed, for instance if pairs form a ring */
 };
 
 /* What hemdroas_determinise answers. If it is refused, the other numbers are 0. */
@@ -425,9 +425,11 @@ void hemdroas_precedence(const uint8_t *pairs, uint64_t n, uint8_t *table, uint6
  * this order, that begins at a start.
  *
  * This is the subset construction: each state of the policy is a nonempty set of
- * the drawing's states, all those that some list of events can lead to. State 0 is
- * the set of starts. A breadth-first search numbers the others as it finds them:
- * it follows the events 0 to 15 of state 0, then those of state 1, and so on.
+ * the drawing's states. After a list of events, the policy is in the set of all
+ * states that the drawing can be in. Sets that no list leads to are left out.
+ * State 0 is the set of starts. A breadth-first search numbers the others as it
+ * finds them: it follows the events 0 to 15 of state 0, then those of state 1,
+ * and so on.
  * Refused as bad drawing (16), then too many states (15), then small hopper (9). */
 void hemdroas_determinise(uint32_t states, uint32_t starts, const uint16_t *arrows, uint64_t n,
                           uint8_t *table, uint64_t room, struct hemdroas_determinise_answer *made);
