@@ -75,7 +75,7 @@ HostIsolation =
 
 -- ---- two lists of calls
 
--- two calls with the same answer and record, the same pairs in their logs and, in memories of U cells, the same state cell and sandbox;
+-- two calls with the same answer and record, and the same pairs in their logs. In memories of U cells, state cell and sandbox are the same too.
 -- p is the index of the pairs in an answer
 pub record SameCalls (p : ℕ) (lay : Layout) (r r′ : HostResult) : Type 0 where
   pub answer : r .answer ≡ r′ .answer

@@ -1,5 +1,5 @@
--- Shows that the premises of HostIsolation and HostNoninterference can be met: document 01's sample routine is loaded on a small drum,
--- run in two calls with a refused one between, and run again under another policy.
+-- Shows that the premises of HostIsolation and HostNoninterference can be met. Document 01's sample routine is loaded on a small drum.
+-- It is run in two calls with a refused one between, and again under another policy.
 use Prim.Native.Nat.{ℕ}
 use mathlib.Core.Path.{_≡_}
 use mathlib.Core.List.{List, [], _∷_, _++_, map}
@@ -33,8 +33,8 @@ firstLoad = loadFor layout policy bytes (replicate 40 0) (replicate 128 0)
 abbrev pub runInput : List ℕ → ℕ → RunInput
 runInput mem budget = record { memory = mem; budget = budget; readings = []; log = replicate 8 0 }
 
--- the session before the first call; then three calls: six steps after the host wrote x to free cell 9; a memory too short;
--- a thousand steps after it wrote x to free cell 8
+-- the session before the first call, and three calls. Before the first, of six steps, the host writes x to free cell 9. The second has a memory
+-- that is too short. Before the third, of a thousand steps, the host writes x to free cell 8
 abbrev pub firstSession : Session
 firstSession = sessionOf (machineFrom (firstLoad .machine)) (firstLoad .memory) [] [] 0
 

@@ -26,7 +26,7 @@ pub fn store_machine(xs: &mut [u32; RECORD], m: Machine)
     store_record(xs, &m.regs, m.pc, status);
 }
 
-// A machine as numbers. The zeros that it is stored over have a valid status, running.
+// A machine as numbers. It is stored over zeros, because their status, running, is valid.
 pub fn record_of(m: Machine) -> [u32; RECORD]
     ensures { λ r. ⌜ r ≡ machineTo m ⌝ }
 {

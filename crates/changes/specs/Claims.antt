@@ -126,9 +126,9 @@ pub record PassesWith (r : ℕ) (lay : Layout) (ws : List ℕ) (N : ℕ) (is : �
   pub words : (h p : ℕ) → h < N → p < bundleLength → getD ws (bundleLength * h + p) 0 ≡ wordOf (shapeWith r lay N (is h) p)
   pub last : is (N - 1) ≡ HALT
 
--- `passes` and `passed`: today's checker is this one for register 15;
+-- `passes` and `passed`: today's checker is this one for register 15.
 -- `refused`: 'the checker refuses lists written before, with 11, whenever they hold a LOAD, STORE, GOX or EVENT bundle',
---     unless bad layout (7), bad count (12) or bad base (13) comes first; this holds for all fields and places, and the bundle's first command is enough;
+--     unless bad layout (7), bad count (12) or bad base (13) comes first. This holds for all fields and places. The bundle's first command is enough.
 -- `kept` and `before`: a list without such a bundle, and with register fields below 8, passes exactly if it passed before
 pub record BeforeLaws (lay : Layout) (ws : List ℕ) (N : ℕ) : Type 0 where
   pub passes : (is : ℕ → Instr) → PassesWith hidden lay ws N is → checkAnswer lay ws ≡ answer 0 0
@@ -152,8 +152,8 @@ ListsBefore = (lay : Layout) (ws : List ℕ) → BeforeLaws lay ws (length ws / 
 abbrev pub oldEvent : ℕ → ℕ → List ℕ
 oldEvent r e = wordOf (Look r e) ∷ wordOf (StopIf r) ∷ wordOf (Keep r) ∷ wordOf (Event e) ∷ []
 
--- 'Lists in the old order that contain an event are refused with 11', whatever the event and its place, unless bad layout (7), bad count (12)
--- or bad base (13) comes first; the place is at most that bundle
+-- 'Lists in the old order that contain an event are refused with 11', whatever the event and its place: as bad bundle (11), at that bundle or before.
+-- Lists that are refused as bad layout (7), bad count (12) or bad base (13) are left out
 abbrev pub OldRefused : Type 0
 OldRefused =
     (lay : Layout) (ws : List ℕ) (h r e : ℕ) →

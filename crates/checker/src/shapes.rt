@@ -14,7 +14,7 @@ ghost use Rattle.types.specs.Names.{mostBundles};
 ghost use Rattle.spec.specs.Bundles.{addressOf};
 ghost use Rattle.checker.specs.shapes.FourWords.{passesOf};
 
-// Whether four words are a bundle, by the kind of the first. If no `more` follow, it must be HALT. Plain ones are tested first: most bundles are.
+// Whether four words are a bundle, by the kind of the first. The last one, with no `more` after it, must be HALT. Most are plain, so that is tested first.
 pub fn passes_words(l: Layout, n: usize, w: u64, x: u64, y: u64, z: u64, more: bool) -> bool
     requires { ⌜ (0 < n) × (n ≤ mostBundles) × (addressOf l n ≤ 2 ^ 32) ⌝ }
     ensures { λ r. ⌜ r ≡ passesOf l n w x y z more ⌝ }

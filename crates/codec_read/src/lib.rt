@@ -29,7 +29,7 @@ pub struct Scanned {
     pub past: usize,
 }
 
-// That index, after word i has been looked at.
+// The index of that GOIF, after word i. Until one is found, it is n.
 fn earliest(n: usize, past: usize, i: usize, w: u64) -> usize
     ensures { λ r. ⌜ r ≡ cond (eqb past n && badLanding n w) i past ⌝ }
 {

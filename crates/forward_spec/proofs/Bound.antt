@@ -1,5 +1,5 @@
--- The bound: while a machine runs a forward list, its pc is at least as many commands past the base as steps were counted,
--- and never past the first command of the last bundle.
+-- The bound on steps. While a machine runs a forward list, pc − B is at least the number of steps counted,
+-- and pc is never past the first command of the last bundle.
 use mathlib.Core.Path.{_≡_, refl, _∙_, ap}
 use mathlib.Core.Bool.{Bool, true, false}
 use mathlib.Core.Logic.{⊎-elim}

@@ -29,7 +29,7 @@ fn entries_right(states: u32, table: &[u8]) -> bool
     ok
 }
 
-// Whether the policy's numbers and table are right. The entries come last: a table of 16 bytes a state is made of whole words.
+// Whether the policy's numbers and table are right. The entries come last: by then the table is known to have 16 bytes a state, so it is made of whole words.
 pub fn table_right(policy: PolicyNumbers, table: &[u8]) -> bool
     ensures { λ r. ⌜ r ≡ tableRight (lentPolicy policy (now (table .entry)) []) ⌝ }
 {

@@ -21,7 +21,7 @@ pub fn count_right(k: usize) -> bool
         & (usize::count_ones(k / Bundle::LENGTH) == 1)
 }
 
-// Whether the base is a multiple of the length of n bundles. If that length is 0 or above the base, only base 0 is.
+// Whether the base is a multiple of the length of n bundles. For n = 0, or n above the base, only base 0 is.
 pub fn base_right(l: Layout, n: usize) -> bool
     ensures { λ r. ⌜ r ≡ baseRight l n ⌝ }
 {

@@ -19,8 +19,7 @@ pub struct Point {
     pub used: usize,
 }
 
-// What a loop of steps leaves: the point where the run is, its ending, and how many steps it has taken. As long as the run goes on, the ending is
-// spent.
+// What a loop of steps leaves: the point where the run is, its ending, and how many steps it has taken. While the run goes on, the ending is spent (25).
 pub struct LoopExit {
     pub at: Point,
     pub ending: Ending,

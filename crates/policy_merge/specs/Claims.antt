@@ -53,7 +53,8 @@ PairsExact = (a b : Policy) → BothRight a b → Exactly (pairAfter a b) (start
 abbrev pub CeilingsOfBoth : Type 0
 CeilingsOfBoth = (c d : List ℕ) (i v : ℕ) → i < orders → min v (getD (smaller c d) i 0) ≡ min (min v (getD c i 0)) (getD d i 0)
 
--- merging refuses a policy as bad policy (10) exactly if its state count is not 1 to 16, or if installing would refuse it under a layout with as many states
+-- a policy is right for merging, so not refused as bad policy (10), exactly if its state count is 1 to 16 and installing finds it right
+-- under a layout with as many states
 abbrev pub SideInstalls : Type 0
 SideInstalls = (p : Policy) (lay : Layout) → lay .states ≡ p .states → sideRight p ≡ (statesRight (p .states) && rightPolicy lay p)
 

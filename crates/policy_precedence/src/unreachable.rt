@@ -19,7 +19,7 @@ fn advance(names: usize, pairs: &[u8], s: usize, e: usize) -> usize
     if next == NO_ARROW { s } else { next }
 }
 
-// The state in which every named event is recorded that can be. Four passes over all events are enough: at most four are named.
+// The state in which all named events that can be recorded are recorded. Four passes over all events are enough: at most four are named.
 pub fn fixpoint(names: usize, pairs: &[u8]) -> usize
     requires { ⌜ ValidPairs (now pairs) names ⌝ }
     ensures { λ r. ⌜ (r ≡ fixpointOf (now (pairs .entry))) × (r < statesOf (now (pairs .entry))) ⌝ }

@@ -23,7 +23,7 @@ ghost use Rattle.spec.specs.Bundles.{bundleOf, bundlesFrom, rewriteAnswer, rewr
 ghost use Rattle.words.specs.Packing.{Packable};
 ghost use Rattle.rewriter.specs.Rewriting.{BundlesFit};
 
-// Instruction h of a routine. After the last word follow HALTs.
+// Instruction h of a routine. HALTs follow the last word.
 fn instruction_at(words: &[u64], h: usize) -> Instr
     ensures { λ r. ⌜ r ≡ routine (now (words .entry)) h ⌝ }
 {

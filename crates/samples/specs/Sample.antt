@@ -1,5 +1,5 @@
--- Shows that the claims' premises can be met: document 01's sample routine in two runs with a refused one between,
--- and a second list of runs that differs only in free cells and in old log contents.
+-- Shows that the claims' premises can be met. Document 01's sample routine is run twice, with a refused run between.
+-- A second list of runs differs only in free cells and in old log contents.
 use Prim.Native.Nat.{ℕ}
 use mathlib.Core.Path.{_≡_}
 use mathlib.Core.List.{List, [], _∷_, _++_, map}

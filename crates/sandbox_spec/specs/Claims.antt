@@ -16,8 +16,8 @@ use Rattle.sandbox_spec.specs.Loading.{loadAnswer, loadCommands, loadMem
 abbrev pub loadedAt : Layout → Policy → List ℕ → ℕ → List ℕ → Session
 loadedAt lay pol bytes room mem = sessionOf (loadMachine lay pol bytes room mem) (loadMemory lay pol bytes room mem) [] [] 0
 
--- a load that is taken (0) satisfies demand 3's premise: its commands are those that the rewriter writes and the checker passes,
--- and record and memory are those of an installation. So every list of runs from there is isolated.
+-- a load that is taken (0) satisfies demand 3's premise. The rewriter writes its commands, and the checker passes them.
+-- Record and memory are those of an installation. So every list of runs from there is isolated.
 -- Each run must be lent the memory that the load or the last run left, except in free cells
 pub record Loaded (lay : Layout) (pol : Policy) (bytes out mem ws : List ℕ) : Type 0 where
   pub rewritten : rewriteAnswer lay (wordsIn bytes) (length out) .number ≡ 0

@@ -17,8 +17,8 @@ use Rattle.spec.specs.Runs.{begins, begunFrom, RunInput, Every, Pairwise
 
 -- ---- masks and sizes
 
--- 'On a right layout it lies in SL..SH and leaves an address already there as it is'; the sandbox has 2^width cells;
--- the three commands before GOXR compute B + 4 × (rd modulo N)
+-- the mask: 'On a right layout it lies in SL..SH and leaves an address already there as it is'. The sandbox has 2^width cells.
+-- `lands`: the three commands before GOXR compute B + 4 × (rd modulo N)
 pub record MaskLaws (lay : Layout) : Type 0 where
   pub inside : (e : ℕ) → inBox lay (maskOf (lay .low) (lay .high) e) ≡ true
   pub fixed : (e : ℕ) → inBox lay e ≡ true → maskOf (lay .low) (lay .high) e ≡ e
@@ -55,8 +55,8 @@ Sizes = (n : ℕ) → n ≤ mostInstructions → SizeLaws n
 
 -- ---- two's complement
 
--- 'ra as two's complement, divided by 2^v, rounded down': the quotient q has q × 2^v ≤ x < (q + 1) × 2^v as integers, and fits 32 bits;
--- 'less than' is the unsigned order after the sign bit of each is flipped
+-- SAR: 'ra as two's complement, divided by 2^v, rounded down'. The quotient q has q × 2^v ≤ x < (q + 1) × 2^v as integers, and fits 32 bits.
+-- 'less than' is the unsigned order after the sign bit of each number is flipped
 pub record SignLaws (x y v : ℕ) : Type 0 where
   pub fits : sarOf x v < 2 ^ 32
   pub down : (twos (sarOf x v) *ℤ pos (2 ^ v)) ≤ℤ twos x
@@ -123,7 +123,8 @@ pub record ShapeLaws (lay : Layout) (N w x y z : ℕ) : Type 0 where
 abbrev pub Shapes : Type 0
 Shapes = (lay : Layout) (N w x y z : ℕ) → ShapeLaws lay N w x y z
 
--- bad layout (7), bad count (12) and bad base (13) do not apply: 'a list of 4N commands, N a power of two from 1 to 1,024', and B is a multiple of 4N
+-- a list that is not refused as bad layout (7), bad count (12) or bad base (13): it has '4N commands, N a power of two from 1 to 1,024',
+-- and B is a multiple of 4N
 pub record Placed (lay : Layout) (ws : List ℕ) (N : ℕ) : Type 0 where
   pub layout : rightLayout lay ≡ true
   pub count : countRight (length ws) ≡ true
@@ -163,8 +164,8 @@ statusAfter Spent = Running
 statusAfter NoLanding = Strayed
 statusAfter Refused = Running
 
--- a run answers bad layout (7) exactly if the layout is not right or the memory's length is not U, and then changes nothing;
--- any other run answers the ending that belongs to the status it leaves
+-- a run answers bad layout (7) exactly if the layout is not right or the memory's length is not U. Then it changes nothing.
+-- Any other run answers the ending that belongs to the status it leaves
 pub record EndingLaws (lay : Layout) (m : Machine) (mem log : List ℕ) (r : RunResult) : Type 0 where
   pub refused : endingNumber (r .outcome .answer .ending) ≡ numberOf BadLayout → fits lay mem ≡ false
   pub refuses : fits lay mem ≡ false → r ≡ runResultOf (outcomeOf m Refused 0 0 0) mem log
@@ -356,8 +357,8 @@ Isolation = (lay : Layout) (pol : Policy) (ws mem : List ℕ) (gs : List RunInpu
 
 -- ---- the pc
 
--- 'The pc wraps at 2^32, which a passed routine, on demand 3's premise, never does': pc stays in the list, which ends at or before 2^32,
--- and a step that adds 1 to it does not wrap
+-- 'The pc wraps at 2^32, which a passed routine, on demand 3's premise, never does'. The list ends at or before 2^32, and pc stays in it.
+-- A step that adds 1 to pc does not wrap
 pub record PcLaws (lay : Layout) (ws : List ℕ) (c : Session) : Type 0 where
   pub from : lay .base ≤ c .machine .pc
   pub within : c .machine .pc < lay .base + length ws

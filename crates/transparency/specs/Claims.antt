@@ -69,8 +69,8 @@ TransparentPaused =
     let c = after lay pol (commandsOf lay code) mem gs in
     Sandboxed lay pol code mem raw reads room gs (c .begun - 1) → Waiting lay (commandsOf lay code) (c .machine) → MachineSameAsRaw lay (rawRun lay code raw reads (c .begun - 1)) c
 
--- 'A pause is no instruction, and a run that can go on follows it': if the raw run has not ended, the sandboxed one executes one bundle
--- within four steps, given its memory, two log cells and a reading
+-- 'A pause is no instruction, and a run that can go on follows it'. If the raw run has not ended, the sandboxed one executes one bundle
+-- within four steps, if it is lent its memory, two log cells and a reading
 abbrev pub TransparentNext : Type 0
 TransparentNext =
     (lay : Layout) (pol : Policy) (code mem raw reads : List ℕ) (room : ℕ) (gs : List RunInput) →

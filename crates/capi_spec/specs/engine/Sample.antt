@@ -1,5 +1,5 @@
--- Shows that the premises of HostEngineIsolation, HostEngineNoninterference and HostUnjudgedIsolation can be met: the routine and drum of this crate's
--- other sample, loaded, then run by the engine in two calls with a refused one between.
+-- Shows that the premises of HostEngineIsolation, HostEngineNoninterference and HostUnjudgedIsolation can be met.
+-- The engine runs the routine of this crate's other sample, on its drum, in two calls with a refused one between.
 use Prim.Native.Nat.{ℕ}
 use mathlib.Core.Path.{_≡_}
 use mathlib.Core.List.{List, [], _∷_, map}
@@ -21,8 +21,8 @@ use Rattle.engine_spec.specs.Continues.{EntriesPreserved, reachedCalls}
 abbrev pub words : List ℕ
 words = wordsIn bytes
 
--- the session before the first call; then three calls: two instructions after the host wrote x to free cell 9; a memory too short;
--- a thousand after it wrote x to free cell 8
+-- the session before the first call, and three calls. Before the first, of two instructions, the host writes x to free cell 9. The second has a
+-- memory that is too short. Before the third, of a thousand, the host writes x to free cell 8
 abbrev pub firstSession : Session
 firstSession = sessionOf initialEngine (firstLoad .memory) [] [] 0
 

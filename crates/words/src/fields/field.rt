@@ -1,4 +1,4 @@
-// Extracts one field of a word: kind in bits 0 to 7, d from 8, a from 12, b from 16, c from 20, zero bits from 24, v from 32.
+// Extracts one field of a word. The kind is in bits 0 to 7; d begins at bit 8, a at 12, b at 16, c at 20, the zero bits at 24, v at 32.
 ghost use mathlib.Core.Path.{_≡_};
 ghost use Prim.Native.Nat.{_/_, _%_, _^_, _<_};
 ghost use Rattle.spec.specs.Words.{kindOf, dOf, aOf, bOf, cOf, zeroOf, vOf};
@@ -16,7 +16,7 @@ const AT_ZERO: u64 = 24;
 
 pub const AT_V: u64 = 32;
 
-// One more than the largest value of a field: of the kind or the zero bits, of a register or the condition, of v.
+// How many values a field can have: the kind or the zero bits; a register or the condition; v.
 pub const BYTE: u64 = 0x100;
 
 pub const FOUR_BITS: u64 = 0x10;
