@@ -1,8 +1,8 @@
 //! The text forms that people write: routines, drum files and policy files.
 //!
-//! Text becomes words and numbers here and comes back as text; whether they are
-//! right is for the library to say. A text that cannot be read comes back as
-//! the list of all that is wrong with it, each with its place.
+//! Text becomes words and numbers here, and these become text. The library decides
+//! whether they are right. For a text that cannot be read, the result is a list of
+//! all its errors, each with its place.
 
 mod assemble;
 mod drum;

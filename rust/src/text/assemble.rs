@@ -171,7 +171,7 @@ impl Meanings<'_> {
         }
     }
 
-    /// What is said of a name that means nothing here.
+    /// The message about a name that is not known.
     fn unknown(&self, kind: &Kind, word: &str, faults: &mut Faults) -> String {
         let near = match is_register(word) || kind.name == EVENT {
             true => String::new(),
@@ -271,7 +271,7 @@ fn begins_comment(word: &str) -> bool {
     [";", "//", "/*"].iter().any(|mark| word.starts_with(mark))
 }
 
-/// What is said of a line that begins with no instruction.
+/// The message about a line that begins with no instruction.
 fn no_instruction(word: &str, is_alone: bool) -> String {
     let known = KINDS.iter().map(|kind| kind.name);
     let near = hint(word, known.chain([LANDING]));
@@ -286,8 +286,8 @@ fn no_instruction(word: &str, is_alone: bool) -> String {
     format!("{} is no instruction{near}", quoted(word))
 }
 
-/// What is wrong with a word that stands behind another one, without a comma, where
-/// so many operands may still come.
+/// What is wrong with a word that follows another without a comma, if so many
+/// operands may still come.
 fn stray(kind: &Kind, (before, word): (Said, Said), missing: usize) -> String {
     let joined = format!("{}{}", before.text, word.text);
     let is_torn = |text: &str| is_register(text) || number(text).is_ok();
@@ -304,8 +304,8 @@ fn stray(kind: &Kind, (before, word): (Said, Said), missing: usize) -> String {
     }
 }
 
-/// What is wrong with the words of operands: a comment's, or words that no comma
-/// parts. All commas that are missing are named, unless a word is too many.
+/// What is wrong with the words of operands: they begin a comment, or no comma
+/// separates them. All missing commas are reported, unless there are too many words.
 fn strays(kind: &Kind, operands: &[Said]) -> Vec<Fault> {
     let words: Vec<Vec<Said>> = operands.iter().map(Said::words).collect();
     let comment = words
@@ -316,7 +316,7 @@ fn strays(kind: &Kind, operands: &[Said]) -> Vec<Fault> {
         let message = format!("a comment begins with #, not with {}", quoted(word.text));
         return vec![word.fault(message)];
     }
-    // All words behind an instruction without operands are too many.
+    // An instruction without operands must have no words after it.
     let words = words.iter().filter(|_| most_operands(kind) > 0);
     let pairs: Vec<&[Said]> = words.flat_map(|words| words.windows(2)).collect();
     let missing = most_operands(kind).saturating_sub(operands.len());
@@ -435,9 +435,8 @@ impl<'a> Statements<'a> {
     }
 }
 
-/// What the library refuses of the lines that were read, beside lines that were
-/// not. Where lines are lost, the routine's end is not known, so jumps are not
-/// judged.
+/// What the library refuses of the lines that could be read. If other lines could
+/// not, the routine's end is not known, so jumps are not judged.
 fn other_doubts(routine: &Routine, is_torn: bool) -> impl Iterator<Item = Fault> {
     let is_sure = move |doubt: &Fault| match doubt.refusal {
         Some((Refusal::BadLanding, _)) => !is_torn,
@@ -451,7 +450,7 @@ fn other_doubts(routine: &Routine, is_torn: bool) -> impl Iterator<Item = Fault>
 }
 
 /// The words of a routine's text: an instruction a line, labels before a colon,
-/// `landing` before a landing, comments behind #.
+/// `landing` before a landing, comments after #.
 pub fn assemble(text: &[u8], names: &Names) -> Parsed<Routine> {
     let mut faults = Faults::default();
     let mut said = Statements::default();
@@ -468,7 +467,7 @@ pub fn assemble(text: &[u8], names: &Names) -> Parsed<Routine> {
     };
     for statement in said.statements {
         let found = meanings.instruction(statement, &mut faults);
-        // What cannot be read still is an instruction, so that the others keep their places.
+        // A line that cannot be read counts as an instruction, so the others keep their places.
         let (word, source) = found.unwrap_or_else(|| unread(statement));
         routine.words.push(word);
         routine.sources.push(source);

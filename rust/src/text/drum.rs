@@ -24,7 +24,7 @@ impl Landings {
         match self {
             Landings::Listed(listed) => {
                 let all = listed.iter().flat_map(|(range, _)| range.clone());
-                // As many numbers cannot rise: the library need not see more to refuse them.
+                // So many numbers cannot rise: the library refuses them without seeing more.
                 all.take(2 * MOST_BUNDLES).collect()
             }
             Landings::Routine => marked.to_vec(),
@@ -32,7 +32,7 @@ impl Landings {
     }
 }
 
-/// For each event the number that a person's 1 stands for: 10 where readings
+/// The scale of each event: the reading that a typed 1 means. It is 10 if readings
 /// are tenths.
 pub type Scales = [u32; EVENTS as usize];
 
@@ -74,7 +74,7 @@ pub struct Drum {
     /// Where everything lies, and the ceilings of the orders. Where the file
     /// leaves S out, it is 1.
     pub layout: Layout,
-    /// Whether S is the policy's, for the file leaves it out.
+    /// Whether the file leaves S out. Then S is the policy's.
     pub takes_states: bool,
     /// The place of each of the layout's letters.
     pub places: [Place; LETTERS.len()],
@@ -231,7 +231,7 @@ pub(super) fn event_names(
                 let at = if is_event { name } else { event };
                 faults.keep(at.check(names.add(event.text, name.text)))
             }
-            // What is wrong with it is said where the lines are read.
+            // Its errors are reported where the lines are read.
             _ => None,
         };
         if added.is_none() {
@@ -284,7 +284,7 @@ impl Reader {
     fn odd_line(&mut self, words: &[Said]) -> Result<(), Fault> {
         let first = words[0];
         let meant = meant(words, &LETTERS).or_else(|| meant(words, &KEYWORDS));
-        // What is meant is not missing, too.
+        // The line that was meant is not reported as missing.
         if let Some(letter) = LETTERS.iter().position(|&known| Some(known) == meant) {
             self.numbers[letter].get_or_insert((0, first.place()));
             self.is_unread = true;
@@ -431,7 +431,8 @@ pub fn drum(text: &[u8]) -> Parsed<Drum> {
     }
 }
 
-/// What is wrong with a drum file's text, and the drum if no part of its layout is.
+/// What is wrong with a drum file's text, and the drum if its whole layout could be
+/// read.
 pub fn drum_in_part(text: &[u8]) -> (Option<Drum>, Vec<Fault>) {
     let mut faults = Faults::default();
     let said: Vec<Vec<Said>> = lines(text, &mut faults).iter().map(Said::words).collect();

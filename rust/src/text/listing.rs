@@ -61,7 +61,7 @@ impl Listed<'_> {
         labels
     }
 
-    /// The label of a target that has none: no event's name.
+    /// A label for a target that has none. It is no event's name.
     fn target(&self, v: u32) -> String {
         let mut label = format!("at{v}");
         while self.names.event(&label).is_ok() {
@@ -100,9 +100,8 @@ impl Listed<'_> {
     }
 }
 
-/// A routine's text, numbered, that [`super::assemble`] takes back to the same
-/// words if they are instructions; under each instruction the comments that are
-/// given for it.
+/// A routine's text, numbered, with the given comments under each instruction. If
+/// the words are instructions, [`super::assemble`] makes the same words from it.
 pub fn listing(listed: &Listed, under: impl Fn(usize) -> Vec<String>) -> String {
     let count = listed.words.len();
     let labels = listed.labels();
@@ -144,7 +143,7 @@ pub fn instruction(words: &[u64], place: usize, names: &Names) -> String {
     listed.instruction(place)
 }
 
-/// A command as text, its jump's target an address.
+/// A command as text. The target of a jump is an address.
 pub fn command(word: u64, names: &Names) -> String {
     let when = condition_name;
     match Command::of_word(word) {

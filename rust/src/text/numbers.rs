@@ -10,7 +10,7 @@ fn too_large(word: &str) -> String {
     format!("{} has more than 32 bits", quoted(word))
 }
 
-/// A number of 32 bits: decimal, hexadecimal behind 0x, or a negative decimal as
+/// A number of 32 bits: decimal, hexadecimal with 0x, or a negative decimal in
 /// two's complement.
 pub fn number(word: &str) -> Result<u32, String> {
     let parsed = match (word.strip_prefix("0x"), word.strip_prefix('-')) {
@@ -29,7 +29,7 @@ pub fn number(word: &str) -> Result<u32, String> {
 }
 
 /// A number as a person writes it, times a scale of 1, 10, 100 and so on: with
-/// scale 10, 196.5 is 1965. A number behind 0x is taken as it is.
+/// scale 10, 196.5 is 1965. A number with 0x is not scaled.
 pub fn scaled(word: &str, scale: u32) -> Result<u32, String> {
     if word.starts_with("0x") {
         return number(word);
@@ -68,8 +68,8 @@ pub fn scaled(word: &str, scale: u32) -> Result<u32, String> {
     fits.ok_or_else(|| too_large(word))
 }
 
-/// The text that [`scaled`] takes back; with a scale, numbers from 2^31 on are
-/// negative.
+/// The text of a number, from which [`scaled`] makes it again. With a scale, numbers
+/// from 2^31 on are negative.
 pub fn scaled_text(value: u32, scale: u32) -> String {
     let places = scale.ilog10() as usize;
     if places == 0 {

@@ -1,5 +1,4 @@
-//! What an instruction is refused for, in words: the verdict is the library's,
-//! and here it is explained.
+//! Explains why an instruction is refused. The library decides whether it is.
 
 use super::Field;
 use crate::model::words::fields;
@@ -26,8 +25,8 @@ fn objection(field: Field, refusal: Refusal, message: String) -> Objection {
     }
 }
 
-/// What is wrong with an instruction of a routine of so many, whose number may be
-/// written as a negative one.
+/// What is wrong with an instruction. The routine has so many instructions. The
+/// number may be written as a negative one.
 pub fn objections(word: u64, count: usize, is_signed: bool) -> Vec<Objection> {
     let all = fields(word);
     let written = |v: u32| match is_signed {

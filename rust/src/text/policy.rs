@@ -166,7 +166,7 @@ impl<'a> Reader<'a> {
         })
     }
 
-    /// Keeps what a wrong line was to name.
+    /// Keeps the names that a wrong line would have defined.
     fn lose(&mut self, words: &[Said], faults: &mut Faults) {
         // A word alone may be a state's name.
         let is_alone = words.len() == 1 && !KEYWORDS.contains(&words[0].text);
@@ -179,7 +179,7 @@ impl<'a> Reader<'a> {
     fn pair(&mut self, first: Said, second: Said, faults: &mut Faults) -> Result<(), Fault> {
         let event = |said: Said| {
             let event = said.event(self.names.event(said.text))?;
-            // One above 15 is the library's to refuse.
+            // The library refuses events above 15.
             let top = EVENTS - 1;
             let message = |_| format!("{} is no event: they are 0 to {top}", said.text);
             said.check(u8::try_from(event).map_err(message))
@@ -193,7 +193,7 @@ impl<'a> Reader<'a> {
         Ok(())
     }
 
-    /// Adds what the library would refuse, beside lines that are wrong.
+    /// Adds what the library would refuse, in addition to the wrong lines.
     fn doubt(&self, faults: &mut Faults) {
         let events = self.events.iter().flatten().map(|&event| u32::from(event));
         let above = events
@@ -310,7 +310,7 @@ pub fn policy_text(table: &Table, ceilings: &Ceilings, names: &Names) -> String 
         text += &format!("state {name}\n");
         let row = &table.table[EVENTS as usize * state..][..EVENTS as usize];
         let share = |entry: u8| row.iter().filter(|&&other| other == entry).count();
-        // What most events do is said once. No arrow need not be said at all.
+        // What most events do is written once, as `others`. Missing arrows are not written.
         let usual = row
             .iter()
             .copied()

@@ -1,4 +1,4 @@
-//! Why reading refused a routine's bytes, in words: the verdict is the library's.
+//! Explains why reading refused a routine's bytes. The library decides.
 
 use super::kinds::{Field, KINDS};
 use crate::names::{GUEST_REGISTERS, MOST_INSTRUCTIONS, TOP_CONDITION, TOP_EVENT, TOP_SHIFT};

@@ -78,8 +78,8 @@ impl Faults {
         }
     }
 
-    /// Keeps a name that a wrong line was to give: nobody is told that it is not known.
-    /// The name may have a mark behind it.
+    /// Keeps a name that a wrong line would have defined, so that uses of it are not
+    /// reported. The name may be followed by a mark.
     pub fn lose(&mut self, name: &str) {
         let plain = name.trim_end_matches([':', ',', ';']);
         let names = [name, plain].into_iter().filter(|name| !name.is_empty());
@@ -91,7 +91,7 @@ impl Faults {
         self.lost.contains(name)
     }
 
-    /// The same, or a line that could not be read may be that line.
+    /// The same, or whether a line that could not be read may be that line.
     pub fn is_lost(&self, name: &str) -> bool {
         self.is_torn || self.is_given(name)
     }
@@ -227,7 +227,7 @@ impl<'a> Said<'a> {
     }
 }
 
-/// The text of a line, or the column and the message of what makes it none.
+/// The text of a line, or the column and the message of what is wrong with it.
 fn plain(line: usize, bytes: &[u8]) -> Result<&str, (usize, String)> {
     let fault = |column, message: &str| Err((column, message.to_string()));
     if bytes.len() > LONGEST_LINE {
@@ -321,7 +321,7 @@ pub(super) fn is_name(word: &str) -> bool {
     word.len() <= LONGEST_NAME && has_letters(word)
 }
 
-/// What is said of a word that cannot be what it should name.
+/// The message about a word that cannot be a name.
 pub(super) fn no_name(word: &str, what: &str) -> String {
     match word.len() > LONGEST_NAME && has_letters(word) {
         true => format!("{} is longer than {LONGEST_NAME} characters", quoted(word)),

@@ -4,13 +4,13 @@ use super::commands::{Command, Opt};
 use super::problem::Problem;
 use hemdroas::text::{hint, number};
 
-/// The arguments of a subcommand, of which it knows every one.
+/// The arguments of a subcommand. All of its options are known ones.
 pub struct Args {
     files: Vec<String>,
     options: Vec<(&'static str, String)>,
 }
 
-/// The value that may be empty: no readings.
+/// The only kind of value that may be empty: a list of readings.
 const MAY_BE_EMPTY: &str = "LIST";
 
 /// How many files a subcommand takes.
@@ -20,13 +20,13 @@ pub enum Files {
     Some,
 }
 
-/// What is taken for another option's value by mistake.
+/// Whether a word looks like an option.
 fn is_option(word: &str) -> bool {
     word.len() > 1 && word.starts_with('-')
 }
 
 impl Args {
-    /// Words as arguments of a command.
+    /// The arguments of a command, from the words of the command line.
     pub fn of(words: &[String], command: &Command) -> Result<Args, String> {
         let mut args = Args {
             files: Vec::new(),
@@ -52,7 +52,7 @@ impl Args {
         }
     }
 
-    /// Takes an option, its value behind = or in the next word.
+    /// Takes an option. Its value follows `=`, or is the next word.
     fn option<'a>(
         &mut self,
         word: &str,
@@ -74,7 +74,7 @@ impl Args {
             ("", None) => String::new(),
             ("", Some(_)) => return Err(format!("{name} takes no value")),
             (_, Some(value)) => value,
-            // Another option of the command is no value; behind = it may be one.
+            // An option of the command is no value, unless it follows `=`.
             (_, None) => match words.next() {
                 Some(next)
                     if command

@@ -88,8 +88,8 @@ fn show_why(args: &Args, path: &str, why: &str) -> Result<(), Problem> {
     files::print(&format!("{path}: {why}\n"))
 }
 
-/// Says of every routine that it is not checked, for the drum or the policy is
-/// at fault.
+/// Says of every routine that it was not checked, because the drum or the policy
+/// is wrong.
 fn show_unchecked(args: &Args, problem: Problem) -> Done {
     let fault = match &problem {
         Problem::File(file, _) => file.clone(),
@@ -114,8 +114,8 @@ fn show_routine(args: &Args, setup: &Setup, path: &str) -> Done {
     }
 }
 
-/// The same on a drum that is not right, which was said before: only the routine's own
-/// errors are shown.
+/// The same on a drum that is not right. Its errors were shown before, so only the
+/// routine's own errors are shown here.
 fn show_on_bad_drum(args: &Args, setup: &Setup, drum: &Problem, path: &str) -> Done {
     match setup.read(path) {
         Ok(_) => show_why(args, path, &drum.short()).map(|()| drum.status()),

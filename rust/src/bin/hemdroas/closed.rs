@@ -1,5 +1,5 @@
 //! Whether standard output was closed when the command began. Rust opens
-//! /dev/null in its place before `main`, so it is looked at before that.
+//! /dev/null in its place before `main`, so this is tested even before that.
 
 #[cfg(target_os = "linux")]
 mod linux {
@@ -20,7 +20,7 @@ mod linux {
         WAS_CLOSED.store(flags < 0, Ordering::Relaxed);
     }
 
-    // The system calls what is listed here before `main`.
+    // The system calls the functions of this section before `main`.
     #[used]
     #[link_section = ".init_array"]
     static LOOK: extern "C" fn() = look;
@@ -33,7 +33,7 @@ mod linux {
 #[cfg(target_os = "linux")]
 pub use linux::was_closed;
 
-/// Elsewhere it is not known.
+/// On other systems it is not known.
 #[cfg(not(target_os = "linux"))]
 pub fn was_closed() -> bool {
     false

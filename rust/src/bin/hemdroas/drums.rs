@@ -20,8 +20,8 @@ pub struct DrumFile {
     pub drum: Drum,
 }
 
-/// What the library answers to a policy without arrows, on memory that is the same
-/// everywhere, and that memory.
+/// Installs a policy without arrows in a memory whose cells all have one value.
+/// Returns the library's answer, and the memory after it.
 fn installed(layout: &Layout, landings: &[u32], filled: u32) -> (Answer, Vec<u32>) {
     let mut memory = vec![filled; layout.size.min(MOST_CELLS) as usize];
     let table = vec![NO_ARROW as u8; (EVENTS * layout.states.min(MOST_STATES)) as usize];
@@ -62,7 +62,7 @@ impl DrumFile {
         if reports.is_empty() {
             return Ok(file);
         }
-        // The text is at fault first; what the library would refuse is said too.
+        // The text is wrong. What the library would refuse is reported too.
         let more = file.wrong(&file.drum.layout).into_iter();
         reports.extend(more.map(|report| Report {
             refusal: None,
@@ -111,8 +111,8 @@ impl DrumFile {
         Report::by_place(&self.content, reports)
     }
 
-    /// The number of an answer about a routine on this drum, or the refusal,
-    /// of the drum's file or of the routine.
+    /// The number of an answer about a routine on this drum. A refusal is reported at
+    /// the drum's file or at the routine.
     pub fn taken(
         &self,
         layout: &Layout,
@@ -180,7 +180,7 @@ impl DrumFile {
         others.map(report).collect()
     }
 
-    /// The landings that are above all or do not rise.
+    /// The landings that are above 1,023 or do not rise.
     fn bad_landings(&self) -> Vec<Report> {
         let listed = match &self.drum.landings {
             Landings::Listed(listed) => listed.as_slice(),

@@ -24,7 +24,7 @@ pub enum Key {
     Unknown,
 }
 
-/// The key of a sequence behind the escape key.
+/// The key that a sequence after the escape key means.
 fn escaped(bytes: &mut impl Iterator<Item = u8>) -> Option<Key> {
     let (first, last) = match bytes.next()? {
         b'[' => sequence(bytes)?,
@@ -43,8 +43,8 @@ fn escaped(bytes: &mut impl Iterator<Item = u8>) -> Option<Key> {
     })
 }
 
-/// The first byte of a sequence's numbers, if it has any, and its last byte. With
-/// Control or Shift, the numbers of a key tell so.
+/// The first byte of a sequence's numbers, if it has any, and its last byte. The
+/// numbers also tell whether Control or Shift was held.
 fn sequence(bytes: &mut impl Iterator<Item = u8>) -> Option<(Option<u8>, u8)> {
     let mut first = None;
     loop {
@@ -125,7 +125,7 @@ pub struct Editor<'a> {
     pub at: usize,
     /// The lines before, the last one last.
     before: &'a [String],
-    /// Which of them is shown; all of them behind the last.
+    /// The index of the one that is shown. Past the last one, an empty line is shown.
     shown: usize,
 }
 
@@ -139,7 +139,7 @@ impl<'a> Editor<'a> {
         }
     }
 
-    /// Shows one of the lines before, or an empty one behind the last.
+    /// Shows one of the lines before. Past the last one, shows an empty line.
     fn show(&mut self, shown: usize) {
         self.shown = shown.min(self.before.len());
         let line = self.before.get(self.shown);
@@ -166,7 +166,7 @@ impl<'a> Editor<'a> {
             .map_or(0, |blank| blank + 1)
     }
 
-    /// Does what a key asks for; how the line is ended, if it is.
+    /// Does what a key asks for. Returns how the line ended, if it did.
     pub fn press(&mut self, key: Key) -> Option<Typed> {
         let (at, end) = (self.at, self.line.len());
         match key {
@@ -193,8 +193,8 @@ impl<'a> Editor<'a> {
         None
     }
 
-    /// What a terminal is sent to show the line behind a question: the part of it
-    /// around the cursor that has room.
+    /// What a terminal is sent to show the line after its question. If the line is too
+    /// long, only the part around the cursor is shown.
     pub fn drawn(&self, question: &str, width: usize) -> String {
         let room = width.saturating_sub(question.chars().count() + 1).max(8);
         let from = self.at.saturating_sub(room);

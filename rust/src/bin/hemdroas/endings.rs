@@ -1,4 +1,4 @@
-//! How a run came back, and why.
+//! How a run ended or paused, and why.
 
 use super::files;
 use super::json::{list, object, Json};
@@ -31,17 +31,17 @@ pub fn allowed(policy: &Table, state: u32, names: &Names) -> String {
     }
 }
 
-/// What a run was given: its budget in which unit, its log.
+/// What a run was given: its budget, the budget's unit, and its log.
 pub struct Given {
     pub budget: u32,
     pub unit: &'static str,
     pub log: u32,
 }
 
-/// How a run or a lesson came back, and where it stands.
+/// How a run or a lesson ended or paused, and where it is.
 pub struct End<'a> {
     pub loaded: &'a Loaded,
-    /// None where the person left.
+    /// None if the person left.
     pub ending: Option<Ending>,
     pub given: &'a Given,
     /// The steps or instructions done.
@@ -73,7 +73,7 @@ impl<'a> End<'a> {
         self.loaded.state_in(self.memory)
     }
 
-    /// Why it came back so.
+    /// Why it ended or paused.
     fn why(&self) -> Option<String> {
         let (loaded, given) = (self.loaded, self.given);
         let routine = loaded.routine();
@@ -150,7 +150,7 @@ impl<'a> End<'a> {
         ])
     }
 
-    /// As it was asked for.
+    /// Shows it as text or as an object.
     pub fn show(&self, is_json: bool) -> Result<(), Problem> {
         match is_json {
             true => files::print_json(&self.json()),

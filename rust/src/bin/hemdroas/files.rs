@@ -17,7 +17,7 @@ const LARGEST_FILE: u64 = 1 << 20;
 const STANDARD_OUTPUT: &str = "standard output";
 const STANDARD_ERROR: &str = "standard error";
 
-/// What is said of a file that cannot be read or written.
+/// The problem that a file cannot be read or written. A broken pipe is not reported.
 pub fn failed(path: &str, error: io::Error) -> Problem {
     match error.kind() {
         ErrorKind::BrokenPipe => Problem::Quiet,
@@ -59,14 +59,14 @@ fn identity(path: &str) -> Option<(u64, u64)> {
     identity_of(fs::metadata(path))
 }
 
-/// The identity of standard output or standard error, where it goes to a plain file.
+/// The identity of standard output or standard error, if it goes to a plain file.
 fn printed_identity(out: impl AsFd) -> Option<(u64, u64)> {
     let out = out.as_fd().try_clone_to_owned().ok()?;
     identity_of(File::from(out).metadata())
 }
 
-/// The outputs of the arguments, each with its identity where it is a plain file.
-/// Objects are printed beside a file that is written.
+/// The outputs of the arguments, each with its identity if it is a plain file. With
+/// `-o` and `--json` there are two: the file, and standard output for the object.
 fn outputs(args: &Args) -> Vec<(&str, Option<(u64, u64)>)> {
     let named = args.value("-o").filter(|&out| out != "-");
     let mut outputs: Vec<_> = named.iter().map(|&out| (out, identity(out))).collect();
@@ -92,7 +92,7 @@ pub fn keep_inputs(args: &Args) -> Result<(), Problem> {
             let opened = if *input == "-" { "/dev/stdin" } else { input };
             if identity(opened) == written {
                 let said = format!("it is the input {input}, and would be overwritten");
-                // The message itself would be written there: standard output has it.
+                // The message would overwrite the input, so it goes to standard output.
                 if out == STANDARD_ERROR && !args.is_json() {
                     print(&format!("hemdroas: {out}: {said}\n"))?;
                     return Err(Problem::Quiet);
@@ -104,11 +104,12 @@ pub fn keep_inputs(args: &Args) -> Result<(), Problem> {
     Ok(())
 }
 
-/// Why a folder takes no other file: it may not be written, or the name is too long.
+/// Errors that mean that no file can be made beside another: the folder may not be
+/// written, or the name is too long.
 const NO_NEIGHBOUR: [ErrorKind; 2] = [ErrorKind::PermissionDenied, ErrorKind::InvalidFilename];
 
-/// The mode of a file that is to be written, if there is one. One that may not be
-/// written is not replaced either.
+/// The mode of a file that is to be written, if the file exists. If it may not be
+/// written, this fails, so that it is not replaced either.
 fn mode(path: &Path) -> io::Result<Option<Permissions>> {
     match File::options().write(true).open(path) {
         Ok(file) => Ok(Some(file.metadata()?.permissions())),
@@ -118,8 +119,8 @@ fn mode(path: &Path) -> io::Result<Option<Permissions>> {
 }
 
 /// Writes a file beside the path and moves it there, so that a full disk leaves
-/// what was there before. The file keeps its mode. Where none can be made beside it,
-/// it is written as it stands.
+/// what was there before. The file keeps its mode. If none can be made beside it,
+/// the file is written in place.
 fn replace(path: &Path, content: &[u8]) -> io::Result<()> {
     let mode = mode(path)?;
     let mut beside = path.as_os_str().to_owned();
@@ -139,13 +140,13 @@ fn replace(path: &Path, content: &[u8]) -> io::Result<()> {
     };
     let written = fill(made).and_then(|()| fs::rename(&beside, path));
     if written.is_err() {
-        // It is of no use; that it cannot be removed says no more than the error does.
+        // The error is returned below, whether or not the file can be removed.
         let _ = fs::remove_file(&beside);
     }
     written
 }
 
-/// Writes a file, or standard output for -. What is no plain file is written as it stands.
+/// Writes a file, or standard output for -. What is no plain file is written in place.
 pub fn write(path: &str, content: &[u8]) -> Result<(), Problem> {
     if path == "-" {
         return print_bytes(content);

@@ -9,7 +9,7 @@ use std::collections::BTreeMap;
 /// The events of a state's row.
 const ROW: usize = EVENTS as usize;
 
-/// The least events that are called 'others' together.
+/// How many events at least are called 'others' together.
 const LEAST_OTHERS: usize = 4;
 
 /// A state: its name, and the events that 'others' does not mean.

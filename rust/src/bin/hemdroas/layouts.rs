@@ -1,4 +1,4 @@
-//! Why a layout is not right, in words: the verdict is the library's.
+//! Explains why a layout is not right. The library decides whether it is.
 
 use hemdroas::names::{EVENTS, LANDING_CELLS, MOST_CELLS, MOST_STATES};
 use hemdroas::Layout;
@@ -22,7 +22,7 @@ const Q: usize = 7;
 /// A region: its name, its letter, its first cell and its length.
 type Region = (&'static str, usize, u64, u64);
 
-/// The regions that share a cell, two and two.
+/// The pairs of regions that share a cell.
 fn shared(regions: &[Region]) -> impl Iterator<Item = Wrong> + '_ {
     let meet = |a: &Region, b: &Region| a.2 < b.2 + b.3 && b.2 < a.2 + a.3;
     let pairs = (0..regions.len()).flat_map(|i| (0..i).map(move |j| (j, i)));

@@ -1,4 +1,4 @@
-//! A routine on a drum, as far as running.
+//! Loads a routine on a drum, up to the point where it can run.
 
 use super::args::Args;
 use super::drums::DrumFile;
@@ -34,7 +34,7 @@ pub struct Checked {
     pub commands: Vec<u64>,
 }
 
-/// Where a routine stands: its machine and its memory.
+/// A stand: the machine and the memory of a routine at one moment of its runs.
 #[derive(Clone)]
 pub struct Stand {
     pub machine: Machine,
@@ -47,7 +47,7 @@ pub struct Loaded {
     pub names: Names,
     pub scales: Scales,
     pub policy: Table,
-    /// Where it stands after installing.
+    /// Its stand after installing.
     pub first: Stand,
 }
 
@@ -103,8 +103,8 @@ impl Setup {
         })
     }
 
-    /// The layout: S is the policy's where the drum leaves it out, and each
-    /// ceiling the smaller of both.
+    /// The layout. If the drum leaves S out, it is the policy's. Each ceiling is the
+    /// smaller of both.
     fn layout(&self) -> Layout {
         let Some(policy) = &self.policy else {
             return self.drum.drum.layout;
@@ -173,9 +173,9 @@ impl Setup {
     }
 }
 
-/// Loads the routine, drum and policy of the arguments: reading, rewriting,
-/// checking and installing, each by the library. The readings that are listed have
-/// no comma that may be a point.
+/// Loads the routine, drum and policy of the arguments. The library reads, rewrites,
+/// checks and installs. Listed readings with a comma that may be a decimal point are
+/// refused.
 pub fn load(args: &Args) -> Result<Loaded, Problem> {
     let loaded = Setup::of(args)?.load(args.file(0))?;
     let finest = loaded.scales.iter().copied().max().unwrap_or(1);

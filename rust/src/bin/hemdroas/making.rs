@@ -1,4 +1,4 @@
-//! Policies from their files, made by the library where these hold no table.
+//! Policies from their files. If a file holds no table, the library makes one.
 
 use super::files;
 use super::problem::{faulty, meaning, Problem};
@@ -8,8 +8,8 @@ use hemdroas::text::{self, Form, Names, Place, PolicyFile, Table};
 use hemdroas::{native, Answer, Drawing, Refusal};
 use std::collections::BTreeSet;
 
-/// The keys of a policy's states, which were numbered as first met, from that
-/// of the start.
+/// What each state of a made policy stands for. States are numbered as first met,
+/// so the table is walked in the same order, from the start on.
 pub fn met<K: Clone>(table: &[u8], start: K, next: impl Fn(&K, u32) -> K) -> Vec<K> {
     let states = table.len() / EVENTS as usize;
     let mut keys = vec![start];
@@ -23,7 +23,8 @@ pub fn met<K: Clone>(table: &[u8], start: K, next: impl Fn(&K, u32) -> K) -> Vec
     keys
 }
 
-/// Names for states, if each can be one and they differ; else numbered ones.
+/// The names for states, if each is a possible name and all differ; else numbered
+/// ones.
 pub fn named(states: usize, names: Vec<String>) -> Vec<String> {
     let mut sorted = names.clone();
     sorted.sort();
@@ -56,7 +57,7 @@ fn named_events(pairs: &[u8]) -> Vec<u8> {
     events
 }
 
-/// What is said of the events that are too many.
+/// The words for events that are too many.
 const ORDINALS: [&str; 12] = [
     "fifth",
     "sixth",
@@ -72,8 +73,7 @@ const ORDINALS: [&str; 12] = [
     "sixteenth",
 ];
 
-/// The events of pairs that are above all, or one too many, and what is wrong with
-/// each.
+/// The events of pairs that are above 15 or too many, and what is wrong with each.
 fn bad_pairs(pairs: &[u8], names: &Names) -> Vec<(usize, String)> {
     let mut seen = BTreeSet::new();
     let mut bad = Vec::new();
@@ -185,10 +185,10 @@ fn of_drawing(
     })
 }
 
-/// The policy of a policy file, made by the library where it is no table.
+/// The policy of a policy file. If the file holds no table, the library makes one.
 pub fn make(path: &str, file: &Given) -> Result<MadePolicy, Problem> {
     match &file.said.form {
-        // A drum's layout would be blamed for it, which has S of the policy.
+        // A layout made with this S would be refused, as if the drum were wrong.
         Form::States(table) if table.states.len() > MOST_STATES as usize => {
             Err(file.too_many(path, Refusal::BadPolicy, table.states.len()))
         }
@@ -225,8 +225,7 @@ impl Given {
         report.at(&self.content, place).into()
     }
 
-    /// A refusal of more states than a policy or a drawing has, at the first of
-    /// them.
+    /// A refusal of a file with too many states, at the first one that is too many.
     fn too_many(&self, path: &str, refusal: Refusal, states: usize) -> Problem {
         let said = format!("the file has {states} states, and at most {MOST_STATES} are taken");
         self.refused(path, refusal, self.said.states[MOST_STATES as usize], said)

@@ -45,8 +45,8 @@ pub enum Order {
 }
 
 impl Goal {
-    /// The goal of a word: a line of the text (an instruction, where there is no
-    /// text), an event or a label.
+    /// The goal that a word means: an event, a label or a line of the text. If there is
+    /// no text, a number means an instruction.
     fn of(loaded: &Loaded, word: &str) -> Result<Goal, String> {
         let routine = loaded.routine();
         if let Ok(number) = number(word) {

@@ -25,7 +25,7 @@ fn given(args: &Args, place: usize, names: &Names) -> Result<Given, Problem> {
     making::policy(args.file(place), names)
 }
 
-/// A refusal to take one form of file for another.
+/// The problem that a file has another form than the command needs.
 fn no_form(args: &Args, form: &str) -> Problem {
     Report::error(args.file(0), format!("this file holds no {form}")).into()
 }
@@ -49,7 +49,7 @@ impl Whole {
         })
     }
 
-    /// What is said of events that are never allowed.
+    /// The line about events that are never allowed.
     fn never_line(&self) -> String {
         let names: Vec<String> = events(self.made.never)
             .map(|event| self.names.word(event))
@@ -151,7 +151,7 @@ fn pair_names(table: &[u8], states: usize, first: &Table, second: &Table) -> Vec
 
 pub fn merge(args: &Args) -> Done {
     let one = given(args, 0, &drums::names(args)?)?;
-    // Both sides speak of the same events, so the second knows the first one's names.
+    // Both sides use the same events, so the second may use the first one's names.
     let other = given(args, 1, &one.said.names)?;
     let first = make(args.file(0), &one)?.table;
     let second = make(args.file(1), &other)?.table;

@@ -11,7 +11,7 @@ use super::running::{all_used, given, show_pairs, supply};
 use super::stretch::{event_at, stretch, How, Stretch, Supply};
 use hemdroas::Ending;
 
-/// What a run would do from a stand, which becomes the one that it would leave.
+/// What a run would do from a stand. The stand becomes the one after that run.
 pub fn look_ahead(
     loaded: &Loaded,
     stand: &mut Stand,
@@ -28,7 +28,7 @@ fn show_begin(args: &Args, loaded: &Loaded) -> Result<(), Problem> {
     }
 }
 
-/// Shows how a run would come back between two stands.
+/// Shows how a run between two stands would end.
 fn show_end(
     args: &Args,
     loaded: &Loaded,
@@ -44,7 +44,7 @@ fn show_end(
     }
 }
 
-/// Shows what a run would do between two stands.
+/// Shows what a run between two stands would do.
 pub fn show_preview(
     args: &Args,
     loaded: &Loaded,

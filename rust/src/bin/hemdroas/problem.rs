@@ -34,16 +34,16 @@ pub enum Problem {
     Usage(String),
     /// A file cannot be read or written.
     File(String, String),
-    /// A text or the library refuses.
+    /// A text cannot be read, or the library refuses.
     Refused(Vec<Report>),
-    /// Nobody reads on.
+    /// Nothing is to be said: for instance, the reader of the output has ended.
     Quiet,
 }
 
 /// How a subcommand ended.
 pub type Done = Result<Status, Problem>;
 
-/// The reports that are printed together.
+/// How many reports are printed together.
 const TOGETHER: usize = 1000;
 
 impl From<Report> for Problem {
@@ -62,7 +62,7 @@ impl Problem {
         }
     }
 
-    /// What is said of no file's text on standard error, and in objects.
+    /// The message and the objects of a problem that is not about a file's text.
     fn said(&self) -> (String, Vec<Report>) {
         match self {
             Problem::Usage(said) => (format!("hemdroas: {said}\n"), vec![Report::error("", said)]),

@@ -58,11 +58,11 @@ fn plain(question: &str) -> Result<Option<String>, Problem> {
     if read.map_err(|error| files::failed("standard input", error))? == 0 {
         return Ok(None);
     }
-    // What a terminal would obey is shown as one mark, as it is in a file's line.
+    // A control character is replaced by a mark, so that a terminal does not obey it.
     let line = String::from_utf8_lossy(&line);
     let is_odd = |c: char| c.is_control() && c != '\t';
     let line = line.trim().replace(is_odd, "\u{fffd}");
-    // What nobody types at a terminal is shown, so that the answer stands on its own lines.
+    // A line that was not typed at a terminal is shown, so that the answer starts a line.
     if !io::stdin().is_terminal() {
         files::complain(&format!("{line}\n"));
     }
@@ -85,7 +85,7 @@ pub fn words(listed: &str) -> impl Iterator<Item = String> + '_ {
     words.filter(|word| !word.is_empty()).map(str::to_string)
 }
 
-/// Two readings with a comma between them that may be one with a decimal comma.
+/// Two readings with a comma between them, if they may be one with a decimal comma.
 fn doubtful(word: &str, scale: u32) -> Option<(&str, &str)> {
     let is_whole = |part: &str| !part.is_empty() && part.bytes().all(|c| c.is_ascii_digit());
     let parts: Vec<&str> = word.split(',').collect();
@@ -102,7 +102,7 @@ fn doubts(line: &str, scale: u32) -> impl Iterator<Item = (&str, &str)> {
     words.filter_map(move |word| doubtful(word, scale))
 }
 
-/// Refuses a line with a comma that may stand for the point of an event with decimals.
+/// Refuses a line in which a comma may be a decimal point, if the event has decimals.
 pub fn sure(line: &str, scale: u32) -> Result<(), String> {
     match doubts(line, scale).next().filter(|_| scale > 1) {
         Some((whole, rest)) => Err(format!(
@@ -112,9 +112,9 @@ pub fn sure(line: &str, scale: u32) -> Result<(), String> {
     }
 }
 
-/// The readings of a line that was typed for an event with a scale. A comma that may
-/// stand for a point is not taken for two readings; where an event has no decimals,
-/// what is taken is said.
+/// The readings of a line that was typed for an event. If the event has decimals, a
+/// comma that may be a decimal point is refused. If not, it separates two readings,
+/// and a message says so.
 pub fn typed_readings(line: &str, scale: u32) -> Result<Vec<String>, String> {
     sure(line, scale)?;
     for (whole, rest) in doubts(line, scale) {

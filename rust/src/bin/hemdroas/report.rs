@@ -5,7 +5,8 @@ use hemdroas::text::{is_unseen, Fault, Place};
 use hemdroas::Refusal;
 use std::rc::Rc;
 
-/// The most characters of a line that is shown, and those of them that are none.
+/// A line is shown if it is not longer than this, and has no more unprintable
+/// characters than this.
 const LONGEST_SHOWN: usize = 200;
 const MOST_ODD: usize = 3;
 
@@ -34,7 +35,7 @@ fn shown(line: &[u8]) -> Option<Rc<str>> {
     is_shown.then(|| text.into())
 }
 
-/// What is to be said of a file.
+/// An error or a warning about a file.
 #[derive(Clone)]
 pub struct Report {
     pub level: Level,
@@ -115,13 +116,13 @@ impl Report {
         }
     }
 
-    /// What the library answers, if it is its refusal.
+    /// The refusal's name and number, if the library refuses, and the instruction.
     fn verdict(&self) -> String {
         let refused = self.refusal.map_or(String::new(), |refusal| {
             format!("; refused as {refusal} ({})", refusal.number())
         });
         match &self.instruction {
-            // Its line stands before it.
+            // The report shows the line, so the instruction need not be named.
             Some((_, None)) if self.refusal.is_none() => refused,
             Some((place, None)) => format!("{refused}, instruction {place}"),
             Some((place, Some(text))) => format!("{refused}, instruction {place}: {text}"),

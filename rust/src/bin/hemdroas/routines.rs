@@ -11,7 +11,7 @@ use hemdroas::names::BUNDLE_LENGTH;
 use hemdroas::text::{command, listing, objections, Names};
 use hemdroas::{model, native, Answer, Refusal};
 
-/// Warns of jumps behind the end: such a routine has bytes, but no drum takes it.
+/// Warns of jumps past the end: such a routine has bytes, but no drum takes it.
 fn warn_of_jumps(routine: &Routine) {
     let Answer::Refused {
         refusal: Refusal::BadLanding,
@@ -40,8 +40,8 @@ pub fn assemble(args: &Args) -> Done {
     Ok(Status::Well)
 }
 
-/// The lines under an instruction: its bundle's commands, with their addresses;
-/// behind the last instruction, the HALTs that fill the list.
+/// The lines under an instruction: its bundle's commands, with their addresses.
+/// After the last instruction, one line stands for the HALTs that fill the list.
 fn bundle_lines(
     place: usize,
     count: usize,

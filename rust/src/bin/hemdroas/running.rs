@@ -25,7 +25,7 @@ pub const USUAL_LOG: u32 = 64;
 /// The scale with the most decimals, for a reading whose event is not known yet.
 const FINEST_SCALE: u32 = 1000;
 
-/// What the arguments give a run. Readings are numbers, used or not.
+/// What the arguments give a run. All readings must be numbers, even if unused.
 pub fn given(args: &Args, unit: &'static str) -> Result<Given, Problem> {
     for reading in readings(args) {
         let said = scaled(&reading, FINEST_SCALE);
@@ -56,7 +56,7 @@ pub fn supply(args: &Args, given: &Given) -> Supply {
     }
 }
 
-/// A bad reading among the arguments.
+/// Refuses the arguments if a reading could not be used.
 pub fn all_used(supply: &mut Supply) -> Result<(), Problem> {
     match supply.unused.take() {
         Some(said) => Err(Problem::Usage(format!("--readings: {said}"))),
@@ -64,7 +64,7 @@ pub fn all_used(supply: &mut Supply) -> Result<(), Problem> {
     }
 }
 
-/// What goes on after a pause.
+/// What the person chose at a pause.
 enum Resumed {
     On,
     Preview(VecDeque<String>),
@@ -104,7 +104,7 @@ fn take(
         (_, None) => (),
         (_, Some(word)) => return Err(format!("'{word}' is not known here")),
     }
-    // Each run that goes on is lent an empty log.
+    // After a pause the run gets an empty log.
     supply.log = given.log;
     Ok(())
 }

@@ -15,7 +15,7 @@ pub struct Lesson<'a> {
     pub memory: Vec<u32>,
     pub done: u32,
     pub pairs: Vec<Recorded>,
-    /// All readings that were given, of which so many are used.
+    /// All readings that were given, and how many of them are used.
     pub readings: Vec<u32>,
     pub used: usize,
 }
@@ -49,7 +49,7 @@ impl<'a> Lesson<'a> {
         self.loaded.state_in(&self.memory)
     }
 
-    /// The next instruction's word; behind the last it is a HALT.
+    /// The next instruction's word. After the last one it is HALT.
     pub fn word(&self) -> u64 {
         let words = &self.loaded.routine().words;
         words.get(self.engine.at as usize).copied().unwrap_or(0)
@@ -87,7 +87,7 @@ impl<'a> Lesson<'a> {
         Ok((ending, answer))
     }
 
-    /// Takes one instruction; none if the probe is silent.
+    /// Executes one instruction. Returns none if the probe is silent.
     pub fn step(&mut self) -> Result<Option<Taken>, Problem> {
         let (before, state, memory) = (self.engine, self.state(), self.memory.clone());
         let mut log = [0; PAIR];
@@ -113,7 +113,7 @@ impl<'a> Lesson<'a> {
         }))
     }
 
-    /// The registers after the next instruction, if that asks for nothing.
+    /// The registers after the next instruction, if it needs no reading and no log.
     pub fn registers_ahead(&self) -> Registers {
         let (mut engine, mut memory) = (self.engine, self.memory.clone());
         let (layout, words) = (self.loaded.layout(), &self.loaded.routine().words);
@@ -122,8 +122,8 @@ impl<'a> Lesson<'a> {
         engine.regs
     }
 
-    /// Goes back by so many instructions: runs again from the installation, with
-    /// so many fewer. The readings stay, so that going on reads them again.
+    /// Goes back by so many instructions: runs again from the installation, with so
+    /// many fewer. The readings stay, so that they are read again.
     pub fn back(&mut self, instructions: u32) -> Result<(), Problem> {
         let budget = self.done.saturating_sub(instructions);
         let mut log = vec![0; PAIR * self.pairs.len()];

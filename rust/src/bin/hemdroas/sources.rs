@@ -29,10 +29,9 @@ pub struct Routine {
     pub names: Names,
 }
 
-/// Whether a routine's file holds text. The second byte tells: in bytes it is
-/// the high one of the count, at most 3, and no text has a control character
-/// there. A blank file is no text, for a routine that lost all but its first
-/// byte can look like one.
+/// Whether a routine's file holds text. The second byte tells: in bytes it is the
+/// high byte of the count, at most 3, and no text has a control character there. A
+/// blank file is no text: it may be a routine that lost all but its first byte.
 pub fn is_text(content: &[u8]) -> bool {
     let is_plain = |byte: u8| byte >= b' ' || b"\t\r\n".contains(&byte);
     let is_blank = content.iter().all(u8::is_ascii_whitespace);
@@ -102,8 +101,8 @@ impl Routine {
         }
     }
 
-    /// What is said of bytes that would be text but for a control character
-    /// among the first two.
+    /// The report about a file that would be text without a control character among
+    /// its first two.
     fn odd_text(&self) -> Option<Report> {
         let text = std::str::from_utf8(&self.content).ok()?;
         let is_odd = |c: char| c.is_control() && !"\t\r\n".contains(c);
@@ -214,7 +213,7 @@ impl Routine {
         }
     }
 
-    /// What is to be said of an instruction.
+    /// A report about an instruction.
     pub fn report(&self, level: Level, place: u32, found: &Objection) -> Report {
         let source = self
             .text

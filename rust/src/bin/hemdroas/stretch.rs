@@ -1,8 +1,8 @@
-//! A stretch of a run: from where a routine stands to its end or to a pause.
+//! A stretch of a run: from a stand to the routine's end or to a pause.
 //!
-//! The library runs it in parts, from event to event, which comes to the same
-//! as one run. So each recorded value is known with the r0 that it came from,
-//! and a reading is scaled by the event that asks for it.
+//! The library runs it in parts, from event to event. The result is that of one
+//! run, but the r0 of each recorded value is known, and each reading is scaled for
+//! the event that asks for it.
 
 use super::load::{Loaded, Stand};
 use super::problem::Problem;
@@ -26,7 +26,7 @@ pub struct Supply {
     pub steps: u32,
     pub log: u32,
     pub readings: VecDeque<String>,
-    /// Why a reading could not be used; it and those behind it are dropped.
+    /// Why a reading could not be used. It and those after it are dropped.
     pub unused: Option<String>,
 }
 
@@ -58,7 +58,7 @@ impl Stretch {
         }
     }
 
-    /// This one and the next.
+    /// Adds the stretch that follows this one.
     pub fn add(&mut self, next: Stretch) {
         self.ending = next.ending;
         self.steps += next.steps;
@@ -89,7 +89,7 @@ fn run(loaded: &Loaded, stand: &mut Stand, lent: Lent) -> RunAnswer {
     )
 }
 
-/// One preview of the library; the stand becomes the one that a run would leave.
+/// One preview of the library. The stand becomes the one after that run.
 fn preview(loaded: &Loaded, stand: &mut Stand, lent: Lent) -> RunAnswer {
     let record = stand.machine.to_record();
     let (mut after, mut work) = (record, vec![0; stand.memory.len()]);
@@ -111,7 +111,7 @@ fn preview(loaded: &Loaded, stand: &mut Stand, lent: Lent) -> RunAnswer {
     answer
 }
 
-/// One run or preview. No loaded routine's is refused.
+/// One run or preview. For a loaded routine it is never refused.
 fn part(loaded: &Loaded, stand: &mut Stand, how: How, lent: Lent) -> Result<RunAnswer, Problem> {
     let answer = match how {
         How::Run => run(loaded, stand, lent),
@@ -127,12 +127,12 @@ fn part(loaded: &Loaded, stand: &mut Stand, how: How, lent: Lent) -> Result<RunA
     }
 }
 
-/// The instruction at which a stand is.
+/// The instruction that a stand is at.
 pub fn instruction_at(loaded: &Loaded, stand: &Stand) -> u32 {
     stand.machine.pc.wrapping_sub(loaded.layout().base) / BUNDLE_LENGTH as u32
 }
 
-/// The event at which a stand waits.
+/// The event that a stand is at, if it is at one.
 pub fn event_at(loaded: &Loaded, stand: &Stand) -> Option<u32> {
     let place = instruction_at(loaded, stand) as usize;
     super::what::event_of(*loaded.routine().words.get(place)?)
@@ -155,8 +155,8 @@ fn reading(loaded: &Loaded, stand: &Stand, supply: &mut Supply) -> Vec<u32> {
     }
 }
 
-/// Takes the event at which a stand waits, with a reading if it is one's turn;
-/// the pair, or the pause that keeps it from being recorded.
+/// Executes the event that a stand is at, with the next reading if there is one.
+/// Returns the recorded pair, or the pause if nothing was recorded.
 fn event(
     loaded: &Loaded,
     stand: &mut Stand,
@@ -184,7 +184,7 @@ fn event(
     })
 }
 
-/// Runs on from a stand with what there is.
+/// Runs from a stand until the routine ends, pauses or has used up its supply.
 pub fn stretch(
     loaded: &Loaded,
     stand: &mut Stand,

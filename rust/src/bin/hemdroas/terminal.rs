@@ -1,5 +1,5 @@
-//! A terminal that gives each key as it is pressed, where the system is one whose
-//! settings are known here.
+//! A terminal that gives each key as it is pressed. It works on systems whose
+//! terminal settings are known here.
 
 #[cfg(all(
     target_os = "linux",
