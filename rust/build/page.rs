@@ -54,7 +54,7 @@ fn imported(line: &str) -> Option<(&str, &str)> {
     Some((names, rest.strip_suffix("\";")?))
 }
 
-/// The name that a line exports: the word behind `const`, `function` or `class`.
+/// The name that a line exports: the word after `const`, `function` or `class`.
 fn exported(line: &str) -> Option<&str> {
     let said = line.strip_prefix("export ")?;
     let is_end = |c: char| !c.is_ascii_alphanumeric() && c != '_';
@@ -62,7 +62,7 @@ fn exported(line: &str) -> Option<&str> {
     said.split(is_end).find(|word| !is_keyword(word))
 }
 
-/// The modules as one script, each a block behind those that it imports from. A
+/// The modules as one script, each a block after those that it imports from. A
 /// block takes what it imports from `modules` and puts there what it exports.
 struct Script {
     web: PathBuf,

@@ -1,5 +1,5 @@
 /*
- * A controller in a few kilobytes: it polls the probe one reading at a time, runs
+ * A controller in a few kilobytes. It polls the probe one reading at a time, runs
  * the routine for a few steps at each tick, and drains a log of four events. The
  * drum is a model: gas warms the beans. The routine then runs again as it is
  * written, by the engine, and must give the same orders. A damaged routine is

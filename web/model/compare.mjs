@@ -1,5 +1,5 @@
-// The two comparisons. Engine and machine, at each bundle's beginning and at every end or pause; and the same commands on another
-// memory, after every command. A row says what was compared, what stands on each side and whether they are equal.
+// The two comparisons. Engine and machine are compared at each bundle's beginning and at every end or pause. The same commands on
+// another memory are compared after every command. A row says what was compared, both values and whether they are equal.
 import { offsetOf } from "../library/header.mjs";
 import { plural } from "./numbers.mjs";
 
@@ -24,7 +24,7 @@ export const instructionOf = (facts, machine) => Math.floor((machine[PC] - facts
 
 const row = (what, here, there, ok = here === there) => ({ what, here, there, ok });
 
-/** A row of two lists: how many they are, or the first number that differs. */
+/** A row for two lists: their lengths, or the first number that differs. */
 function listRow(what, size, nameOf, [one, other]) {
   const at = one.findIndex((number, i) => number !== other[i]);
   if (at < 0) return row(what, size, size);

@@ -1,5 +1,5 @@
 // What the page asks the library once: which cells installing writes, what each event does in each state, which events are
-// readings, how many commands an instruction becomes. Asked, not computed: no rule is written here a second time.
+// readings, how many commands an instruction becomes. The page asks and does not compute, so no rule is written a second time.
 import { COUNTS, ENDING, answerText, named, offsetOf } from "../library/header.mjs";
 import { kindOf, wordOf } from "../library/words.mjs";
 
@@ -41,7 +41,7 @@ function installedOn(lib, code, value, scratch) {
   return scratch.memory.slice();
 }
 
-/** The region of each cell: installing on two memories that differ everywhere makes equal exactly the cells that it writes. */
+/** The region of each cell. Installing in two memories that differ everywhere makes exactly those cells equal that it writes. */
 function askRegions(lib, code, shape, scratch) {
   const one = installedOn(lib, code, 0, scratch);
   const other = installedOn(lib, code, ALL_ONES, scratch);
@@ -63,7 +63,7 @@ function tryEvent(lib, layout, event, scratch, readings) {
   return lib.engineRun(layout, routine, scratch.engine, scratch.memory, stretch).ending;
 }
 
-/** Of each state and event the state that follows, or null: the engine is asked in each state. */
+/** The state after each event in each state, or null. The engine is asked in each state. */
 function askArrows(lib, code, shape, scratch) {
   const installed = installedOn(lib, code, 0, scratch);
   const arrow = (state) => (event) => {
@@ -75,7 +75,7 @@ function askArrows(lib, code, shape, scratch) {
   return Array.from({ length: code.policy.states }, (_, state) => EVENTS.map(arrow(state)));
 }
 
-/** Which events are readings: with the policy that allows everything and a silent probe, they and only they wait. */
+/** Which events are readings: under a policy that allows everything, with a silent probe, exactly these events wait. */
 function askReadings(lib, code, scratch) {
   const table = lib.lend(Uint8Array, COUNTS.MOST_TABLE);
   const made = must("Making the policy of no pairs", lib.precedence(table.subarray(0, 0), table));
@@ -86,7 +86,7 @@ function askReadings(lib, code, scratch) {
   return EVENTS.map((event) => tryEvent(lib, layout, event, scratch, 0) === ENDING.PROBE_SILENT);
 }
 
-/** page: what `hemdroas page` handed in. */
+/** page: the data that `hemdroas page` wrote. */
 export function askFacts(lib, page) {
   const code = lendCode(lib, page);
   const shape = named("layout", code.layout);
@@ -113,8 +113,8 @@ export function askFacts(lib, page) {
 }
 
 /**
- * Does a jump's condition hold for these registers? The same jump as GOIF to instruction 0, behind a HALT, is run by the engine:
- * it is at 0 or not.
+ * Whether a jump's condition holds for these registers. The engine runs the same jump as a GOIF from instruction 1 to instruction 0:
+ * the condition holds if it is at 0 afterwards.
  */
 export function conditionHolds(lib, facts, { a, b, c }, registers) {
   const { layout, scratch } = facts;

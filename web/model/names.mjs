@@ -9,10 +9,10 @@ export const cellName = (page, cell) => page.free.find((named) => named.cell ===
 
 export const labelOf = (page, instruction) => Object.keys(page.labels).find((label) => page.labels[label] === instruction);
 
-/** The line of an instruction, from 1; null behind the last. */
+/** The line of an instruction, from 1; null after the last. */
 export const lineOf = (page, instruction) => page.lines[instruction] ?? null;
 
-/** An instruction as its line has it, without label and comment; behind the last stands HALT. */
+/** An instruction as its line has it, without label and comment; after the last it is HALT. */
 export const instructionText = (page, instruction) => page.texts[instruction] ?? "HALT";
 
 export function placeText(page, instruction) {

@@ -17,7 +17,7 @@ const DECIMAL = /^-?\d+(?:\.(\d+))?$/;
 
 const placesOf = (scale) => Math.round(Math.log10(scale));
 
-/** A person's word as a number: with scale 10, 196.5 is 1965. Behind 0x it is taken as it is. */
+/** A typed word as a number: with scale 10, 196.5 is 1965. A number with 0x is not scaled. */
 function readWord(word, scale) {
   const decimals = word.match(DECIMAL)?.[1] ?? "";
   if (!RAW.test(word) && !DECIMAL.test(word)) return { problem: `“${word}” is no number. Write decimal numbers, or 0x and hexadecimal.` };
@@ -31,8 +31,8 @@ function readWord(word, scale) {
 }
 
 /**
- * Numbers with commas or spaces between them: { values }, or { problem }, a sentence for the field. `scaleAfter` gives the scale of
- * the next one, told the one before.
+ * Numbers with commas or spaces between them: { values }, or { problem }, a sentence for the field. `scaleAfter` takes a number and
+ * gives the scale of the next one.
  */
 export function readNumbers(text, scaleAfter = () => 1) {
   const values = [];

@@ -1,4 +1,4 @@
-// A policy as it is drawn: the states that events lead to, and of each state its events by where they lead.
+// A policy as it is drawn: the states that can be reached, and for each state its events, grouped by the state they lead to.
 import { stateName } from "./names.mjs";
 
 /** The states that events lead to from the start, as first met. */
@@ -8,7 +8,7 @@ function reached(start, arrows) {
   return met;
 }
 
-/** The events of a state by where they lead; null is nowhere. */
+/** The events of a state, grouped by the state they lead to; null means no arrow. */
 function byTarget(row) {
   const groups = new Map();
   row.forEach((to, event) => groups.set(to, [...(groups.get(to) ?? []), event]));

@@ -1,5 +1,5 @@
-// Looking ahead: what would come with these readings, from where the viewer stands. hemdroas_preview works on a copy; what it was
-// lent is compared afterwards.
+// Looking ahead: what the run would do with these readings, from the moment that is shown. hemdroas_preview works on a copy.
+// Afterwards it is tested that what it was lent did not change.
 import { same } from "./compare.mjs";
 import { MOST_LOG, MOST_READINGS } from "./trace.mjs";
 

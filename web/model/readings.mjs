@@ -1,5 +1,5 @@
-// Readings as a person writes them. A routine may read probes of several scales: then each reading has the scale of the event that
-// takes it, as `hemdroas run --readings` has it. Which event that is, the library is asked.
+// Readings as a person writes them. A routine may read probes of several scales. Then each reading has the scale of the event that
+// takes it, as in `hemdroas run --readings`. The library is asked which event that is.
 import { ENDING, offsetOf } from "../library/header.mjs";
 import { countOf, kindName, wordAt } from "../library/words.mjs";
 import { scaleOf } from "./names.mjs";
@@ -49,8 +49,8 @@ export class Readings {
   }
 
   /**
-   * The scale of each reading in turn, from where a machine stands, or from the installation: a function that is told the reading
-   * before, and nothing for the first. A reading that no event takes has the largest scale of the probes.
+   * Returns a function that gives the scale of each reading in turn, from a machine's record on, or from the installation. It takes
+   * the reading before; for the first one, nothing. A reading that no event takes has the largest scale of the probes.
    */
   scalesFrom(from = null) {
     const largest = Math.max(1, ...this.scales);

@@ -39,7 +39,7 @@ export class Session {
     return true;
   }
 
-  /** The frames that can be shown: after each command; or only where an instruction begins, the routine ends or the budget is spent. */
+  /** The frames that can be shown: all of them, or only those where an instruction begins, the routine ends or the budget is spent. */
   #findStops() {
     const { frames, ending } = this.trace;
     const isSpent = (k) => ending === ENDING.SPENT && k === frames.length - 1;
@@ -148,7 +148,7 @@ export class Session {
     return wordAt(this.facts.words, instruction);
   }
 
-  /** The word of an instruction. After the last word follow HALTs. */
+  /** The word of an instruction. HALTs follow the last word. */
   wordOrHalt(instruction) {
     return 2 * instruction < this.facts.words.length ? this.word(instruction) : { kind: 0 };
   }

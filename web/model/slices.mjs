@@ -6,8 +6,8 @@ const now = () => performance.now();
 const nextTurn = () => new Promise((resume) => setTimeout(resume));
 
 /**
- * Runs a generator to its end, as long as it is wanted: asked before each of its steps, since what it works on may have been given
- * to newer work while it waited. After each slice `onSlice` is told the last yield. True if it came to its end.
+ * Runs a generator in slices. Before each step it asks `isWanted`, since newer work may have taken over while it waited. After each
+ * slice it gives the last value to `onSlice`. Returns true if the generator came to its end.
  */
 export async function inSlices(work, isWanted, onSlice = () => {}) {
   for (let end = now() + SLICE; isWanted(); ) {

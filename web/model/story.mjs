@@ -1,4 +1,4 @@
-// What the last step did, in a sentence, told from what the library answered: the records and memories before and after it.
+// A sentence that says what the last step did. It is made from the library's records and memories before and after the step.
 import { CONDITIONS, commandName, kindName, wordAt } from "../library/words.mjs";
 import { offsetOf } from "../library/header.mjs";
 import { FORMATS, valueText } from "./numbers.mjs";
@@ -7,7 +7,7 @@ import { eventName, labelOf, placeText, scaleOf, stateName, targetText } from ".
 const PC = offsetOf("machine", "pc");
 const HIDDEN = PC - 1;
 
-/** What is told of: the session, how numbers are written, and the frames before and after. */
+/** What a sentence is made from: the session, how numbers are written, and the frames before and after. */
 const scene = (session, format, before, after) => ({
   page: session.page,
   session,

@@ -13,7 +13,7 @@ export const MOST_READINGS = 4096;
 const GOLDEN = 0x9e3779b1; // an odd number with well mixed bits
 const EVERY_NUMBER = 2 ** 32;
 
-/** What stands in the other memory where this one has `value`: never the same. */
+/** The other memory's value for a cell in which this one has `value`. It always differs. */
 const otherValue = (cell, value) => ((value + (Math.imul(cell + 1, GOLDEN) >>> 1) + 1) % EVERY_NUMBER) >>> 0;
 
 /** The arrays that a trace and its replays are lent, once. */
@@ -148,7 +148,7 @@ export class Trace {
     if (isPause || !last.isRunning) last.agree = this.#compare(ending);
   }
 
-  /** All frames, of which it stops after each, so that the caller can do other things between them. */
+  /** Makes all frames. It stops after each, so that the caller can do other things between them. */
   *run() {
     this.#note({ compared: true });
     for (;;) {

@@ -1,11 +1,11 @@
-// The same list with one mask taken out, for the school. The checker refuses it; here, and on no drum, it is run all the same.
+// The same list with one mask removed, for teaching. The checker refuses it. The page runs it anyway; no drum would.
 import { COUNTS, STATUS, answerText, offsetOf } from "../library/header.mjs";
 import { commandKind, commandName, countOf, isAccess, kindName, wordAt, wordOf } from "../library/words.mjs";
 import { movedCells } from "./compare.mjs";
 
 export const AS_WRITTEN = null;
 
-const USES = ["LOAD", "STORE", "GOXR"]; // the commands behind a mask
+const USES = ["LOAD", "STORE", "GOXR"]; // the commands that follow a mask
 const MASK = ["ANDI", "ORI"].map(commandKind);
 
 export const isJumpMask = (word) => kindName(word) === "GOX";
@@ -25,8 +25,8 @@ function bundleOf(facts, instruction) {
 }
 
 /**
- * The commands of a bundle without its mask: NOPs stand for it, and the access goes to the address as the routine has it, the jump
- * to the shifted one; or, with `aim`, to that address, which a SET names.
+ * The commands of a bundle with NOPs in place of its mask. An access uses the address that the routine has in its register, a jump
+ * that number shifted. With `aim`, both use the address `aim`: the first command sets the register to it.
  */
 function bareBundle(facts, instruction, aim) {
   const { first, commands } = bundleOf(facts, instruction);
@@ -40,7 +40,7 @@ function bareBundle(facts, instruction, aim) {
   return { first, use: first + use, words: bare.flatMap(wordOf) };
 }
 
-/** The list with the mask of one instruction taken out, and what the checker says of it. */
+/** The list with the mask of one instruction removed, and the checker's answer. */
 export function withoutMask(lib, facts, instruction, aim) {
   const room = facts.bareRoom ?? (facts.bareRoom = lib.lendWords(COUNTS.MOST_COMMANDS));
   const commands = room.subarray(0, facts.commands.length);
@@ -50,7 +50,7 @@ export function withoutMask(lib, facts, instruction, aim) {
   return { ...facts, commands, first, use, answer: lib.check(facts.layout, commands) };
 }
 
-/** Addresses to which a jump should never lead: the first EVENT, behind the look at the policy; and the one behind all commands. */
+/** Two addresses that a jump must never reach: that of the first EVENT, after its LOOK, and the one after all commands. */
 export function forbiddenTargets({ commands, shape }) {
   const event = placesOf(commands).find((place) => commandName(wordAt(commands, place)) === "EVENT");
   return { event: event === undefined ? null : shape.base + event, behind: shape.base + countOf(commands) };
@@ -59,19 +59,19 @@ export function forbiddenTargets({ commands, shape }) {
 const PC = offsetOf("machine", "pc");
 const STATUS_AT = offsetOf("machine", "status");
 
-/** The region of an address at which there is no cell; and of a target that is in a bundle, or is no command. */
+/** The regions of an address without a cell, of a target within a bundle, and of a target outside the list. */
 const AWAY = "away";
 const INSIDE = "inside";
 const OUTSIDE = "outside";
 
-/** Where a jump's target lies: null for the first command of a bundle. */
+/** The region of a jump's target; null for the first command of a bundle. */
 function targetRegion({ commands, shape, bundle }, address) {
   const place = address - shape.base;
   if (place < 0 || place >= countOf(commands)) return OUTSIDE;
   return place % bundle === 0 ? null : INSIDE;
 }
 
-/** Each time that the bare command was done: at which frame, at which address, and what lies there. A jump that was not made has none. */
+/** For each time that the unmasked command was executed: the frame, what it did, the address and its region if it strays. */
 function usesOf({ facts, frames }) {
   const command = wordAt(facts.commands, facts.use);
   const name = commandName(command);
@@ -95,8 +95,8 @@ function endAlike(one, other) {
 }
 
 /**
- * What a finished trace of such a list did that it does not do with the mask, whose trace is `masked`. `strays` are its accesses
- * outside the sandbox, `first` the first frame at which something was seen; null if nothing was.
+ * How a finished trace of such a list differs from `masked`, the trace with the mask. `strays` are its accesses outside the sandbox
+ * and its jumps to no bundle. `first` is the first frame that shows a difference, or null.
  */
 export function differences(trace, masked) {
   const { frames } = trace;
@@ -121,7 +121,7 @@ export function differences(trace, masked) {
   };
 }
 
-/** What it did, most telling first, in the words behind 'The routine'. Empty if it did nothing that it should not. */
+/** What it did wrong, the most telling first, in words that follow 'The routine'. Empty if it did nothing wrong. */
 export function deedsOf({ strays, isSeen, isMoved, endsAlike, ending }) {
   const did = (region) => strays.find((stray) => stray.region === region);
   const deed = (region, words) => (did(region) ? [words(did(region))] : []);
@@ -138,7 +138,7 @@ export function deedsOf({ strays, isSeen, isMoved, endsAlike, ending }) {
   return endsAlike ? deeds : [...deeds, "ended otherwise than with the mask"];
 }
 
-/** What differs between two sides: registers, shared cells and pairs; and this side's free cells that changed. */
+/** What differs between two sides (registers, shared cells, pairs), and the free cells that changed on this side. */
 function differencesAt(facts, here, there) {
   const apart = (what, a, b) => [...a.keys()].filter((i) => a[i] !== b[i]).map((i) => ({ what: what(i), here: a[i], there: b[i] }));
   const isShared = (cell) => facts.region[cell] !== "free";

@@ -1,5 +1,5 @@
-// Two comparisons at every step: the same commands on another memory, and the engine beside the machine. Were one ever to fail,
-// the page says so above all else.
+// Two comparisons at every step: the same commands on another memory, and the engine beside the machine. If one ever fails, the
+// page says so at its top.
 import { STATUS, answerText } from "../library/header.mjs";
 import { allOk, equalTwins } from "../model/compare.mjs";
 import { FORMATS, plural } from "../model/numbers.mjs";
@@ -71,7 +71,7 @@ function updateAgreement({ session }) {
   );
 }
 
-/** The sentence above all else, were a comparison ever to fail. */
+/** The sentence at the top of the page, if a comparison fails. */
 function updateLoud({ session }) {
   const { failures } = session;
   const loud = byId("loud");

@@ -20,7 +20,7 @@ const BUTTONS = [
   ["end", "End", "End"],
 ];
 
-/** No letters: who speaks to the computer would press them by chance. */
+/** No letters: people who control the computer by voice would press them by chance. */
 const KEYS = { ArrowRight: "step", ArrowLeft: "back", Home: "reset", End: "end", " ": "play" };
 const SHIFT_KEYS = { ArrowRight: "event" };
 

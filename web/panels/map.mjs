@@ -1,5 +1,5 @@
-// The map of the whole memory: one square for each cell, by region; marks for what it holds, what changed, what was chosen, and
-// an address outside the sandbox with the cell that the mask made of it.
+// The map of the whole memory: one square for each cell, coloured by region. Marks show cells that are not 0, that changed or that
+// were chosen. Another mark leads from an address outside the sandbox to the cell that the mask gives.
 import { byId, h, svg } from "./dom.mjs";
 
 const SIDE = 10; // of a square
@@ -45,7 +45,7 @@ function holdsMark({ session: { facts } }, cell, columns) {
   return svg("circle", { class: `holds ${facts.region[cell]}`, cx: x + SIDE / 2, cy: y + SIDE / 2, r: HOLDS });
 }
 
-/** The cell that the routine named, crossed out, and the way to the one that the mask made of it. */
+/** The cell that the routine named, crossed out, and the way to the cell that the mask gives. */
 function reachMarks({ session }, columns) {
   const { reach, facts } = session;
   if (!reach) return [];

@@ -10,7 +10,7 @@ import { BASELINE } from "./shapes.mjs";
 const NARROWEST = 280;
 const LEAST_LEFT = 54;
 const RIGHT = 16;
-const INDENT = 14; // before the first and behind the last pair
+const INDENT = 14; // before the first and after the last pair
 const TOP = 22;
 const GAP = 34;
 const READINGS_TALL = 120;

@@ -1,4 +1,4 @@
-// 'If the next readings were ..': what would be ordered from here, and nothing is touched.
+// 'If the next readings were ..': shows what would be ordered from here. Nothing is touched.
 import { answerText } from "../library/header.mjs";
 import { FORMATS, numbersText, plural, readNumbers, valueText } from "../model/numbers.mjs";
 import { eventName, scaleOf } from "../model/names.mjs";

@@ -1,4 +1,4 @@
-// Registers and the sandbox's cells; what the last step changed is lit and shows what it was.
+// Registers and the sandbox's cells. Those that the last step changed are lit, and show their old values.
 import { offsetOf } from "../library/header.mjs";
 import { FORMATS, plural } from "../model/numbers.mjs";
 import { byId, h, reveal, spoken } from "./dom.mjs";

@@ -1,5 +1,5 @@
-// The routine as it was written: present line, breakpoints, run to a line, landings, jumps and why they were taken; and the
-// commands of each instruction, as the library rewrote it.
+// The routine as it was written: present line, breakpoints, run to a line, landings, jumps and why they were taken.
+// A switch shows each instruction's commands, as the library rewrote it.
 import { offsetOf } from "../library/header.mjs";
 import { countOf, isJump, kindName } from "../library/words.mjs";
 import { commandLine } from "../model/names.mjs";
@@ -68,7 +68,7 @@ function codeRow(app, instruction, number, text) {
 const textRow = (number, text) =>
   h("li", { class: "line" }, h("span"), h("span", { class: "number" }, String(number)), h("span", { class: "text" }, h("code", {}, coloured(text))));
 
-/** The HALTs behind the last line, in one row. */
+/** The HALTs after the last line, in one row. */
 function behindRow({ rows, session: { facts } }) {
   const count = countOf(facts.words);
   const all = countOf(facts.commands) / facts.bundle;
@@ -79,7 +79,7 @@ function behindRow({ rows, session: { facts } }) {
   return row;
 }
 
-/** By command, the present HALT behind the last line shows its commands. */
+/** Shows the commands of the present HALT after the last line, if the page shows commands. */
 function showBehind({ session, rows }) {
   const { now, facts, byCommand } = session;
   const count = countOf(facts.words);
@@ -132,7 +132,7 @@ function markRow({ session, rows }, row) {
   row.querySelector(".stop")?.setAttribute("aria-pressed", session.breakpoints.has(Number(row.dataset.index)));
 }
 
-/** Beside each jump why it was taken or not, the last time. */
+/** Shows beside each jump why it was or was not taken the last time. */
 function markJumps(app) {
   const { session, rows, format, page } = app;
   const jumps = session.lastJumps;

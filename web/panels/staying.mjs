@@ -1,5 +1,5 @@
-// What stays in the window while the page scrolls: nothing that gets the focus may come to stand behind it, and the routine stays
-// below it.
+// What stays in the window while the page scrolls. It must not cover an element that gets the focus, and the routine stays below
+// it.
 import { byId } from "./dom.mjs";
 
 const STAYING = ["controls", "panel-now"];

@@ -148,7 +148,7 @@ pub fn landings_text(landings: &[u32]) -> String {
     runs.iter().map(run).collect::<Vec<_>>().join(" ")
 }
 
-/// What a line of a drum's or a policy's file wants behind its first word.
+/// What a line of a drum's or a policy's file must have after its first word.
 pub(super) fn wanted(word: &str) -> Option<&'static str> {
     Some(match word {
         "event" => "event wants a number and a name, as in 'event 0 gas'",
@@ -204,8 +204,8 @@ pub(super) fn meant(words: &[Said], known: &[&'static str]) -> Option<&'static s
     same.or_else(|| nearest(first, known.iter().copied()))
 }
 
-/// What is said of a line that begins with no known word. All lines of a file are
-/// listed once.
+/// The message about a line that begins with no known word. It lists the possible
+/// lines only once for a file.
 pub(super) fn no_line(word: &str, meant: Option<&str>, file: &str, all: &mut &str) -> String {
     let begin = format!("{} begins no line of a {file}", quoted(word));
     match meant {

@@ -13,7 +13,7 @@ const MAPS: u8 = 64;
 /// The bit of the number, which has four bytes where the others have one.
 const NUMBER: u8 = 5;
 
-/// The fields behind the kind, in the order of their bits from 1 on.
+/// The fields after the kind, in the order of their bits from 1 on.
 const FIELDS: [(Field, &str); 5] = [
     (Field::D, "d"),
     (Field::A, "a"),
@@ -22,7 +22,7 @@ const FIELDS: [(Field, &str); 5] = [
     (Field::V, "v"),
 ];
 
-/// An instruction's bytes: its map and what stands behind it.
+/// An instruction's bytes: its map and the bytes after it.
 struct Bytes<'a> {
     map: u8,
     fields: &'a [u8],

@@ -192,7 +192,7 @@ impl<'a> Said<'a> {
         self.part(from, to)
     }
 
-    /// The parts before and behind a character, without blanks around them.
+    /// The parts before and after a character, without blanks around them.
     pub fn split_once(&self, separator: impl Fn(char) -> bool) -> Option<(Said<'a>, Said<'a>)> {
         let at = self.text.find(&separator)?;
         let behind = at + self.text[at..].chars().next().map_or(0, char::len_utf8);

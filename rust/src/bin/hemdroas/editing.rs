@@ -12,7 +12,8 @@ pub enum Key {
     Later,
     Backspace,
     Delete,
-    /// Control-U, -K and -W: what stands before, behind, and the word before.
+    /// Control-U, -K and -W erase what is before the cursor, what is after it, and the
+    /// word before it.
     CutBefore,
     CutBehind,
     CutWord,

@@ -50,7 +50,7 @@ fn is_help(word: &str) -> bool {
     word == "--help" || word == "-h"
 }
 
-/// The subcommand that words begin with, and the words behind it.
+/// The subcommand that words begin with, and the words after it.
 fn find(words: &[String]) -> Option<(&'static Command, &[String])> {
     COMMANDS.iter().find_map(|command| {
         let count = command.name.split(' ').count();

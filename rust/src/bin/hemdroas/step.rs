@@ -17,7 +17,7 @@ use super::what::{event_of, what};
 use hemdroas::Ending;
 use std::collections::VecDeque;
 
-/// What is said when the routine cannot go on.
+/// The message if the routine cannot go on.
 const OVER: &str = "it is over: 'back' goes back, 'stop' ends the lesson\n";
 
 /// A lesson, and what the person at the terminal asked for.

@@ -66,7 +66,7 @@ pub fn jump_of(word: u64, regs: &Registers, bundles: u32) -> Option<Jump> {
     })
 }
 
-/// What is said of a drum's landings.
+/// The text about a drum's landings.
 pub fn landings_said(landings: &[u32]) -> String {
     match landings.is_empty() {
         true => "there are no landings".to_string(),
