@@ -1,5 +1,5 @@
-// What is refused: by `hemdroas page` in the words of `hemdroas check`, with nothing written; and by the page, were it ever handed
-// such a thing, with the library's word and number.
+// Refusals. `hemdroas page` refuses in the words of `hemdroas check`, and writes nothing. If a page gets such data all the same, it
+// shows the refusal's word and number.
 import assert from "node:assert/strict";
 import { existsSync, readFileSync } from "node:fs";
 import { join } from "node:path";

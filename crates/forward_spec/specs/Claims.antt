@@ -111,13 +111,13 @@ abbrev pub stepsCharged : List (Run Outcome) → ℕ
 stepsCharged [] = 0
 stepsCharged (r ∷ rs) = stepsChargedBy r + stepsCharged rs
 
--- a forward list has ended or stopped once its runs were charged 4 × (N − 1) + 1 steps, so once the 'budgets suffice', whatever the logs and readings
+-- 'the budgets suffice': once its runs were charged 4 × (N − 1) + 1 steps, a forward list has ended or stopped, whatever the logs and readings
 abbrev pub Finishes : Type 0
 Finishes =
     (lay : Layout) (pol : Policy) (ws mem : List ℕ) (gs : List RunInput) → checkForwardAnswer lay ws .number ≡ 0 → HostPremise lay pol ws mem gs →
     mostSteps (length ws / bundleLength) ≤ stepsCharged (allRuns lay pol ws mem gs) → Terminated (after lay pol ws mem gs .machine)
 
--- the same by the number of runs, each with a free pair, a reading and budget at least 1, however small the budgets and however often it pauses
+-- the same by the number of runs, if each has a free pair, a reading and a budget of at least 1: 4 × (N − 1) + 1 runs are enough
 abbrev pub FinishesIn : Type 0
 FinishesIn =
     (lay : Layout) (pol : Policy) (ws mem : List ℕ) (gs : List RunInput) → checkForwardAnswer lay ws .number ≡ 0 → HostPremise lay pol ws mem gs →

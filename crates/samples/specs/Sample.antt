@@ -45,7 +45,8 @@ memory x = set (replicate 1024 0) 700 x
 abbrev pub runInput : List ℕ → ℕ → ℕ → RunInput
 runInput mem budget old = record { memory = mem; budget = budget; readings = 1800 ∷ 1950 ∷ 2100 ∷ []; log = replicate 64 old }
 
--- three runs: six steps after the host wrote x to free cell 650; a memory too short; a thousand steps after it wrote x to free cell 600
+-- three runs. Before the first, of six steps, the host writes x to free cell 650. The second has a memory that is too short.
+-- Before the third, of a thousand steps, the host writes x to free cell 600
 abbrev pub firstRun : ℕ → RunInput
 firstRun x = runInput (set (installMemory layout policy (memory x)) 650 x) 6 x
 

@@ -1,4 +1,4 @@
--- The cases marked * of document 01's sample tray, as request [1] left them, and r14 and r15 in bytes from request [6], as rows of one table.
+-- The cases marked * of document 01's sample tray, as request [1] left them, as rows of one table. Request [6] adds r14 and r15 in bytes.
 use Prim.Native.Nat.{ℕ, _+_, _-_, _^_}
 use mathlib.Core.Path.{_≡_}
 use mathlib.Core.Bool.{Bool, true, false, _&&_, Bool·beq}

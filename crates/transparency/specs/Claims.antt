@@ -27,7 +27,7 @@ pub record SameBox (lay : Layout) (mem raw : List ℕ) : Type 0 where
 abbrev pub IsPrefix : List ℕ → List ℕ → Type 0
 IsPrefix used reads = (i : ℕ) → i < length used → getD used i 0 ≡ getD reads i 0
 
--- [14]'s premise: the raw run behaves well for k instructions, with the same sandbox cells, and with readings of which the sandboxed run used a prefix
+-- [14]'s premise: the raw run behaves well for k instructions. It starts with the same sandbox cells, and the sandboxed run used a prefix of its readings
 pub record Behaved (lay : Layout) (pol : Policy) (code mem raw used reads : List ℕ) (k : ℕ) : Type 0 where
   pub box : SameBox lay mem raw
   pub readings : IsPrefix used reads

@@ -55,7 +55,8 @@ abbrev pub engineResumedRun : RunInput
 engineResumedRun = record { memory = engineAfter layout policy code memory (pausedRun ∷ []) .memory; budget = 1000; readings = readings; log = replicate 2 0 }
 
 -- the premises of Transparent are met: the sandboxed run ends after eight bundles, the raw run after eight instructions.
--- So are those of TransparentPaused and TransparentResumed, with the seventh bundle begun, and those of EngineTransparent and, at the pause, EngineTransparentStep
+-- The premises of TransparentPaused and TransparentResumed are met with seven bundles begun. Those of EngineTransparent are met too, and at the pause
+-- those of EngineTransparentStep
 pub record SampleHolds : Type 0 where
   pub sandboxed : Sandboxed layout policy code memory memory readings 64 (run ∷ []) 8
   pub begun : after layout policy commands memory (run ∷ []) .begun ≡ 8

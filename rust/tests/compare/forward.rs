@@ -54,8 +54,8 @@ fn forward_routine(rng: &mut Rng, layout: &Layout, n: usize) -> Vec<u64> {
         .collect()
 }
 
-/// Every routine of up to three of these words: right ones of each sort, a GOIF of
-/// each condition to each place and past the end, and one for each refusal.
+/// Every routine of up to three of these words. There are right ones of each sort, a
+/// GOIF of each condition to each place and past the end, and one for each refusal.
 fn small_routines() -> Vec<Vec<u64>> {
     let mut words = vec![
         Instr::Halt.word(),

@@ -77,9 +77,9 @@ fn checked(tally: &mut Tally, layout: &Layout, mut list: Vec<u64>) {
     assert_eq!(check(tally, layout, &list), refused, "{list:x?}");
 }
 
-/// Every kind of instruction with each register in each of its fields: written,
-/// rewritten and checked, run by the engine, and read from bytes, where a field can
-/// be above 15.
+/// Tries every kind of instruction with each register in each of its fields. It is
+/// written, rewritten, checked, run by the engine and read from bytes. In bytes a
+/// field can be above 15.
 #[test]
 fn registers_of_instructions() {
     let (mut tally, mut rng) = Tally::new("registers of instructions", 25);

@@ -1,6 +1,6 @@
-// Looks at the form of a page in the browser: contrast of every text and field, texts that are cut or lie over each other, text that is
-// too small, sideways scrolling. It is run in the page, so it stands alone. `width` is the window's: a phone's browser makes
-// innerWidth larger where something does not fit.
+// Tests the form of a page in the browser: the contrast of texts and fields, texts that are cut, too small or over each other, and
+// sideways scrolling. It runs in the page, so it imports nothing. `width` is the window's: a phone's browser makes innerWidth
+// larger if something does not fit.
 export function lookAtForm(width) {
   const LEAST_CONTRAST = 4.5; // WCAG AA
   const SMALLEST = 10.5;

@@ -1,5 +1,5 @@
-// The page's form, at five widths, light and dark, in five situations; names of all controls for a screen reader; a policy of 16
-// states; and a run of 10,000 commands that does not freeze the page.
+// The page's form, at five widths, light and dark, in five situations. Also: all controls have names for a screen reader, a policy
+// of 16 states is drawn, and a run of 10,000 commands does not freeze the page.
 import assert from "node:assert/strict";
 import { after, before, test } from "node:test";
 import { EXAMPLES, ROAST, makePage, write } from "../command.mjs";

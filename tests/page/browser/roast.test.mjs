@@ -1,5 +1,5 @@
-// The page of each example, opened from a disk and driven by keys and clicks through a whole roast; what it shows is compared
-// with what the command says.
+// Opens the page of each example from a disk and drives it by keys and clicks through a whole roast. What it shows is compared
+// with what the command prints.
 import assert from "node:assert/strict";
 import { readFileSync } from "node:fs";
 import { after, before, test } from "node:test";
