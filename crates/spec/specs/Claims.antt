@@ -123,7 +123,7 @@ pub record ShapeLaws (lay : Layout) (N w x y z : ℕ) : Type 0 where
 abbrev pub Shapes : Type 0
 Shapes = (lay : Layout) (N w x y z : ℕ) → ShapeLaws lay N w x y z
 
--- a list that is not refused as bad layout (7), bad count (12) or bad base (13): it has '4N commands, N a power of two from 1 to 1,024',
+-- a list that is not refused as bad layout (7), bad count (12) or bad base (13). It has '4N commands, N a power of two from 1 to 1,024',
 -- and B is a multiple of 4N
 pub record Placed (lay : Layout) (ws : List ℕ) (N : ℕ) : Type 0 where
   pub layout : rightLayout lay ≡ true
