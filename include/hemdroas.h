@@ -51,7 +51,8 @@
  * that says why. A refused call changes no buffer. A refused run also leaves its
  * machine or engine as it was. If hemdroas_load or hemdroas_install is refused,
  * the machine is set to zeros and to faulted (status 3). A call that succeeds
- * writes only its result: the rest of an output buffer stays as it was.
+ * writes only its result: the rest of an output buffer stays as it was. Below,
+ * 'refused as X, then Y' means that the call tests for X first.
  *
  * Changing the policy. The number of states and the ceilings are part of the
  * layout. Change them there, call hemdroas_check on the commands again, then
@@ -85,7 +86,7 @@ enum {
     HEMDROAS_MOST_CELLS = 4096     /* the largest memory */
 };
 
-/* Why a call was refused; 0, 'taken', is success. */
+/* Why a call was refused; taken (0) is success. */
 enum hemdroas_refusal {
     HEMDROAS_TAKEN = 0,
     HEMDROAS_SHORT_WEIGHT = 1,      /* the bytes end too early */
@@ -103,7 +104,7 @@ enum hemdroas_refusal {
     HEMDROAS_BAD_BASE = 13,         /* the base is not a multiple of the number of commands */
     HEMDROAS_BAD_LANDING_LIST = 14, /* the landings are not strictly rising, or one is above 1023 */
     HEMDROAS_TOO_MANY_STATES = 15,  /* the policy would have more than 16 states */
-    HEMDROAS_BAD_DRAWING = 16,      /* see hemdroas_determinise: no start, not 1 to 16 states, not 16 entries for each, or a bit for no state */
+    HEMDROAS_BAD_DRAWING = 16,      /* see hemdroas_determinise: no start, not 1 to 16 states, not 16 entries for each, or a bit for a missing state */
     HEMDROAS_BAD_PAIR = 17,         /* an event above 15, an odd number of events, or more than four different ones */
     HEMDROAS_NOT_FORWARD = 18       /* a GOX, or a GOIF that jumps to itself or back */
 };
@@ -288,16 +289,24 @@ HEMDROAS_NUMBERS(hemdroas_determinise_answer, 4);
 
 /* ---- from bytes to an installed machine */
 
-/* Reads a routine of n bytes into words. room is the length of words. */
+/* Reads a routine of n bytes into words. room is the length of words. Refused as
+ * short weight (1) if the count of the instructions is cut short, then oversize
+ * (5), then small hopper (9). Then the first bad instruction is refused as short
+ * weight (1), foreign matter (2), unknown variety (3) or off grade (4). If none is
+ * bad, bytes after the last instruction are refused as overweight (6). */
 void hemdroas_read(const uint8_t *bytes, uint64_t n, uint64_t *words, uint64_t room, struct hemdroas_answer *answer);
 
 /* Writes n words as a routine's bytes: the inverse of hemdroas_read. room is the
- * length of bytes. */
+ * length of bytes. More than 1023 words are refused as oversize (5). Then the first
+ * bad word is refused as unknown variety (3), foreign matter (2) or off grade (4).
+ * If no word is bad, too little room is refused as small hopper (9). */
 void hemdroas_write(const uint64_t *words, uint64_t n, uint8_t *bytes, uint64_t room, struct hemdroas_answer *answer);
 
 /* Rewrites n words into bundles of 4 commands, with HALT after the last word. The
- * number of bundles is the smallest power of two above n. The layout's base must
- * be a multiple of the number of commands, else it is refused as bad base (13). */
+ * number of bundles is the smallest power of two above n. room is the length of
+ * commands. Refused as bad layout (7), then oversize (5). Then the first bad word is
+ * refused as unknown variety (3), foreign matter (2), off grade (4) or bad landing
+ * (8). If no word is bad, it may be refused as bad base (13), then small hopper (9). */
 void hemdroas_rewrite(const struct hemdroas_layout *layout, const uint64_t *words, uint64_t n,
                       uint64_t *commands, uint64_t room, struct hemdroas_answer *answer);
 
@@ -309,10 +318,10 @@ void hemdroas_check(const struct hemdroas_layout *layout, const uint64_t *comman
                     struct hemdroas_answer *answer);
 
 /* Checks that n words are a forward routine, one that always finishes: it has no
- * GOX, and each GOIF goes to a higher instruction. Refused as oversize (5). Then
- * the first bad word is refused as unknown variety (3), foreign matter (2), off
- * grade (4) or bad landing (8). If no word is bad, the first instruction that is
- * not forward is refused as not forward (18).
+ * GOX, and each GOIF goes to a higher instruction. More than 1023 words are
+ * refused as oversize (5). Then the first bad word is refused as unknown variety
+ * (3), foreign matter (2), off grade (4) or bad landing (8). If no word is bad, the
+ * first instruction that is not forward is refused as not forward (18).
  *
  * Once it is rewritten into N bundles and installed, such a routine ends or stops
  * within 4 * (N - 1) + 1 steps, counted over all its runs. This holds if the host
@@ -327,9 +336,10 @@ void hemdroas_forward(const uint64_t *words, uint64_t n, struct hemdroas_answer 
 void hemdroas_check_forward(const struct hemdroas_layout *layout, const uint64_t *commands, uint64_t n,
                             struct hemdroas_answer *answer);
 
-/* Tests four bytes of a policy's table, packed into a 32-bit number. It returns 1
- * if states is 1 to 16 and each byte is below states or HEMDROAS_NO_ARROW, else 0.
- * hemdroas_install applies the same test to the whole table. */
+/* Tests four bytes of a policy's table. Here word is a 32-bit number that holds
+ * them, not an instruction. It returns 1 if states is 1 to 16 and each byte is
+ * below states or HEMDROAS_NO_ARROW, else 0. hemdroas_install applies the same
+ * test to the whole table. */
 uint32_t hemdroas_word_right(uint32_t states, uint32_t word);
 
 /* Installs a policy: writes its start state, its table and the landing bits to the
