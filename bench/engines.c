@@ -3,6 +3,8 @@
  * routine: ns an instruction, medians of interleaved rounds. Each round also
  * compares what they leave. Then it times calls of one instruction, for a short
  * and a long routine.
+ *
+ *   engines [ROUNDS [ROUTINE]]    ROUTINE is arith, events or gox
  */
 #include "bench.h"
 
@@ -53,7 +55,11 @@ static double machine(const char *name, size_t cells, size_t count) {
     return t / (double)answer[0].instructions;
 }
 
+/* The routine to measure, where only one is asked for. */
+static const char *only;
+
 static void measure(const char *name, int turn, size_t cells, size_t count, int rounds) {
+    if (only && strcmp(name, only)) return;
     for (int q = 0; q < rounds; q++) {
         for (int i = 0; i < KINDS; i++) {
             int j = (i + q) % KINDS;
@@ -106,6 +112,7 @@ static void slices(int rounds) {
 int main(int argc, char **argv) {
     int rounds = argc > 1 ? atoi(argv[1]) : 101;
     if (rounds < 1 || rounds > MOST_ROUNDS) rounds = 101;
+    if (argc > 2) only = argv[2];
     for (uint32_t i = 0; i < READINGS; i++) readings[i] = i * 2654435761u;
 
     /* a store, a load and two adds in each turn */
@@ -123,6 +130,6 @@ int main(int argc, char **argv) {
     code[4] = word(11, 6, 1, 3, 2, 0);
     measure("gox", 2, 64, 0, rounds);
 
-    slices(rounds);
+    if (!only) slices(rounds);
     return 0;
 }

@@ -1,6 +1,8 @@
 /*
  * Times the proved machine beside machine.c: ns a step, medians of interleaved
  * rounds. Each round also compares what the two leave.
+ *
+ *   bench [ROUNDS [ROUTINE [passes|fails]]]    ROUTINE is arith, events or gox
  */
 #include "bench.h"
 
@@ -36,7 +38,11 @@ static void fresh(int i) {
     machine[i] = (struct hemdroas_machine){.pc = B};
 }
 
+/* The routine and the list to measure, where only one is asked for. */
+static const char *only, *list;
+
 static void measure(const char *name, size_t cells, size_t count, int rounds) {
+    if (only && strcmp(name, only)) return;
     for (int q = 0; q < rounds; q++) {
         for (int i = 0; i < KINDS; i++) {
             int j = (i + q) % KINDS;
@@ -116,7 +122,11 @@ int main(int argc, char **argv) {
     if (rounds < 1 || rounds > MOST_ROUNDS) rounds = 101;
     for (uint32_t i = 0; i < READINGS; i++) readings[i] = i * 2654435761u;
 
+    if (argc > 2) only = argv[2];
+    if (argc > 3) list = argv[3];
+
     for (first = 1; first <= 4; first += 3) {
+        if (list && (first > 1) != !strcmp(list, "passes")) continue;
         int at = 4 * (first - 1);
         /* a store, a load, two adds and the jump in each turn: 17 steps */
         counted(5);
@@ -130,7 +140,7 @@ int main(int argc, char **argv) {
         }
         printf(first > 1 ? "a list that passes:\n" : "a list that does not pass:\n");
         measure("arith", 64, 0, rounds);
-        if (first > 1) slices(rounds);
+        if (first > 1 && !only) slices(rounds);
 
         /* an order and a reading in each turn */
         counted(4);
