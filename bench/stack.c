@@ -2,7 +2,7 @@
  * Measures the stack of each call. It paints the stack below the caller, calls,
  * and counts the bytes that are no longer painted. Inputs are the largest there
  * are, right and refused. It fails if a call takes more than it may. It runs on
- * a PC and, by tools/run-everywhere, on a Cortex-M4.
+ * a PC, by tools/run-everywhere on a Cortex-M4, and by hand on others.
  */
 #include "hemdroas.h"
 #include <stdio.h>
@@ -10,15 +10,23 @@
 
 #if defined(__x86_64__)
 #define STACK_POINTER "mov %%rsp, %0"
-enum { MOST = 1100 }; /* bytes */
 #elif defined(__arm__) || defined(__aarch64__)
 #define STACK_POINTER "mov %0, sp"
-enum { MOST = 1200 };
 #elif defined(__riscv)
 #define STACK_POINTER "mv %0, sp"
-enum { MOST = 1200 };
+#elif defined(__s390x__)
+#define STACK_POINTER "lgr %0, %%r15"
 #else
 #error "say how this machine gives its stack pointer"
+#endif
+
+/* The most bytes that a call may take. */
+#if defined(__x86_64__)
+enum { MOST = 1100 };
+#elif defined(__ARM_ARCH_7EM__)
+enum { MOST = 1200 };
+#else
+enum { MOST = 1500 };
 #endif
 
 enum { DEEP = 1 << 16, PAINT = 0xA5 };
