@@ -12,6 +12,7 @@ use Rattle.types.specs.declared.Layout.{Layout}
 use Rattle.types.specs.declared.Status.{Status}
 use Rattle.types.specs.declared.Status.the-variants.{Running, Ended, Stopped, Faulted, Strayed}
 use Rattle.types.specs.declared.Ending.{Ending}
+use Rattle.types.specs.declared.Answer.{Answer}
 use Rattle.types.specs.declared.Effect.{Effect}
 use Rattle.types.specs.declared.Effect.the-variants.{End, Wait}
 use Rattle.types.specs.Names.{mostInstructions}
@@ -24,7 +25,7 @@ use Rattle.spec.proofs.Conditions.{fits-of}
 use Rattle.spec.proofs.Masks.{sizes}
 use Rattle.spec.proofs.Loops.{Goes, loop-ind, over-from, wait-from, go-from}
 use Rattle.engine_spec.specs.declared.Engine.{Engine}
-use Rattle.engine_spec.specs.Engines.{instrEffect, instrEffectAt, nextOf, withState, applyEffect, RunResult, resultIn, runFrom, startOf, refusalOf, runOf}
+use Rattle.engine_spec.specs.Engines.{instrEffect, instrEffectAt, nextOf, withState, applyEffect, RunResult, endAnswer, resultIn, runFrom, startOf, refusalOf, runOf}
 use Rattle.engine_spec.specs.Claims.{Session, HostPremise, MemoriesPreserved, initialSession, runOn, afterTaken, afterRun, runAs}
 use Rattle.engine_spec.specs.Continues.{isInstructionAt, reachedEffect, reachedNext, continueFrom, repaired, SameButFault, UnjudgedWords}
 use Rattle.engine_spec.specs.Continues.{continueRefusal, continueOf, judgesReached, Call, callOf, callRefusal, callOn, afterCall, callAs, eachCall}
@@ -54,7 +55,7 @@ runs-or-not Faulted = inr (λ e. no (cc))
 runs-or-not Strayed = inr (λ e. no (cc))
 
 same : (r : RunResult) → SameButFault r r
-same r = record { mem = refl; log = refl; regs = refl; at = refl; status = inl refl; steps = refl; pairs = refl; used = refl }
+same r = record { mem = refl; log = refl; regs = refl; at = refl; status = inl refl; answer = inl refl; steps = refl; pairs = refl; used = refl }
 
 module _ (lay : Layout) (ws rd : List ℕ) (most : length ws ≤ mostInstructions) where
   -- ---- one word
@@ -88,7 +89,7 @@ module _ (lay : Layout) (ws rd : List ℕ) (most : length ws ≤ mostInstruction
         go-from e n k s run (λ w z. no (cc)) ∙ ap (λ (f : Effect). runFrom lay (repaired ws) rd n (k + 1) (applyEffect lay rd f s)) y
             ∙ over-from e n (k + 1) (applyEffect lay rd (End Ended) s) (λ z. no (cc)),
       )
-      (record { mem = refl; log = refl; regs = refl; at = refl; status = inr (refl, refl); steps = refl; pairs = refl; used = refl })
+      (record { mem = refl; log = refl; regs = refl; at = refl; status = inr (refl, refl); answer = inr (refl, refl); steps = refl; pairs = refl; used = refl })
 
   both-over : (n k : ℕ) (s : State) → (s .status ≡ Running → ⊥) → SameButFault (continueFrom lay ws rd n k s) (runFrom lay (repaired ws) rd n k s)
   both-over n k s o = rw (over-from (continueLoop lay ws rd) n k s o, over-from (engineLoop lay (repaired ws) rd) n k s o) (same (resultIn (endingOf (s .status)) k s))
@@ -150,8 +151,9 @@ module _ (lay : Layout) (ws : List ℕ) (most : length ws ≤ mostInstructions) 
       (λ e.
       let f = e .0 in
       let h = e .1 in
+      let answer-of : Status → Answer = λ t. endAnswer (endingOf t) in
       rw (over-from (continueLoop lay ws rd) n 0 s (λ z. no (cc)), over-from (engineLoop lay (repaired ws) rd) n 0 (startOf (d .engine) mem log) (λ z. no (cc)))
-      (record { mem = refl; log = refl; regs = v .regs; at = v .at; status = inr e; steps = refl; pairs = refl; used = refl })) (v .status)
+      (record { mem = refl; log = refl; regs = v .regs; at = v .at; status = inr e; answer = inr (ap answer-of f, ap answer-of h); steps = refl; pairs = refl; used = refl })) (v .status)
 
   abbrev call : RunInput → Call
   call g = record { entry = judgesReached; input = g }
@@ -161,7 +163,7 @@ module _ (lay : Layout) (ws : List ℕ) (most : length ws ≤ mostInstructions) 
   call-level c d g v =
       rw (refusal-same (g .memory))
       (⊎-elim (λ t. rw t (from-level c d v (g .readings) (g .memory) (g .log) (g .budget)))
-      (λ t. rw t (record { mem = refl; log = refl; regs = v .regs; at = v .at; status = v .status; steps = refl; pairs = refl; used = refl }))
+      (λ t. rw t (record { mem = refl; log = refl; regs = v .regs; at = v .at; status = v .status; answer = inl refl; steps = refl; pairs = refl; used = refl }))
       (cases (eqb (continueRefusal lay ws (length (g .memory)) .number) 0)))
 
   after-level : (c d : Session) (g : RunInput) → Level c d → Level (afterCall lay ws c (call g)) (afterRun lay (repaired ws) d g)
