@@ -56,7 +56,7 @@ pub fn objections(word: u64, count: usize, is_signed: bool) -> Vec<Objection> {
             Refusal::BadLanding,
             match is_signed {
                 true => format!("{} is no instruction", written(v)),
-                false => format!("{v} lies behind the routine's end, which is {count}"),
+                false => format!("{v} is past the routine's end, which is {count}"),
             },
         ),
         _ => return found,

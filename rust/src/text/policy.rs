@@ -156,7 +156,7 @@ impl<'a> Reader<'a> {
         let is_event = first.text == "others" || self.names.event(first.text).is_ok();
         first.fault(match is_event {
             true => format!(
-                "-> or before is missing behind {}, as in 'gas -> shut' or 'gas before door'",
+                "-> or before is missing after {}, as in 'gas -> shut' or 'gas before door'",
                 quoted(first.text)
             ),
             false => {

@@ -118,7 +118,7 @@ pub fn refused_bytes(bytes: &[u8], refusal: Refusal, place: u32) -> Option<Strin
             let end = begin(bytes, count.into())?;
             let more = bytes.len().checked_sub(end)?;
             Some(format!(
-                "behind the last instruction stand {more} bytes more"
+                "{more} bytes more follow the last instruction"
             ))
         }
         Refusal::UnknownKind => {

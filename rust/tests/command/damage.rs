@@ -168,7 +168,7 @@ fn policies() {
         ),
         (
             POLICY.replace("gas -> none", "gas none"),
-            ":6:3: error: -> or before is missing behind 'gas'",
+            ":6:3: error: -> or before is missing after 'gas'",
         ),
         (
             POLICY.replace("gas -> none", "gas->none"),

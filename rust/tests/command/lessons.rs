@@ -233,7 +233,7 @@ fn typos_are_named() {
         "'-1' is no number of instructions;*",
         "'4294967296' has more than 32 bits;*",
         "'x' is not known;*",
-        "cell 5 stands behind cell 1;*",
+        "cell 5 comes after cell 1;*",
         "'x' is no number;*",
         "'nowhere' is no line, no event and no label;*",
         "no instruction stands in line 99;*",

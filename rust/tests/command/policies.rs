@@ -74,15 +74,15 @@ fn precedence_is_the_librarys() {
     let came = command(&["policy", "precedence", &ring]);
     assert!(
         came.out
-            .starts_with("# never allowed, for the pairs run in a ring: gas, 1\n"),
+            .starts_with("# never allowed, since the pairs form a ring: gas, 1\n"),
         "{}",
         came.out
     );
-    came.ended(0, "never allowed, for the pairs run in a ring: gas, 1");
+    came.ended(0, "never allowed, since the pairs form a ring: gas, 1");
     let came = command(&["policy", "show", &ring]);
     assert!(
         came.out
-            .ends_with("never allowed, for the pairs run in a ring: gas, 1\n"),
+            .ends_with("never allowed, since the pairs form a ring: gas, 1\n"),
         "{}",
         came.out
     );

@@ -78,7 +78,7 @@ fn jumps_behind_the_end_are_listed_too() {
     came.printed(0, "");
     came.ended(
         0,
-        "text:1:14: warning: 9 lies behind the routine's end, which is 1*bad landing (8)",
+        "text:1:14: warning: 9 is past the routine's end, which is 1*bad landing (8)",
     );
     assert_eq!(fs::read(&out).unwrap(), bytes);
     command(&["check", &text, "--drum", "sample.drum"])

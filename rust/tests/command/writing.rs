@@ -221,7 +221,7 @@ loop: HALT
     assert_eq!(came.error.matches(": error: ").count(), 2, "{}", came.error);
     let path = file(&folder, "text", "JUMP\nGOIF always, 3\n");
     command(&["forward", &path])
-        .refused(":2:14: error: 3 lies behind the routine's end, which is 2");
+        .refused(":2:14: error: 3 is past the routine's end, which is 2");
 }
 
 /// The one thing that is wrong with a line, and where.

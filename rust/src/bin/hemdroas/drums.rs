@@ -193,7 +193,7 @@ impl DrumFile {
             let message = match last {
                 _ if end > top => format!("a landing is at most {top}"),
                 Some(last) if first <= last => {
-                    format!("{first} stands behind {last}: landings rise")
+                    format!("{first} comes after {last}, but landings must rise")
                 }
                 _ => {
                     last = Some(end);

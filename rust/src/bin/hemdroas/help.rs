@@ -19,7 +19,7 @@ pub fn overview() -> String {
     format!(
         "hemdroas: routines and policies for drums\n\n{}{}{}\n\
          'hemdroas help COMMAND' tells more of one. A file named - is standard input, or output\n\
-         behind -o. An option's value stands behind it or behind =.\n\
+         after -o. An option's value comes after it or after =.\n\
          Status: 0 well; 1 refused; 2 bad usage; 3 a file cannot be read or written;\n\
          4 the routine stopped or faulted; 5 it paused.\n",
         lines(COMMANDS.iter()),

@@ -5,7 +5,7 @@ use hemdroas::text::number;
 
 /// What help says.
 pub const HELP: &str = "\
-Enter, or a number  takes one instruction, or so many
+Enter, or a number  takes one instruction, or that many
 all                 goes on to the end or to a break
 until WHERE         goes on to a line, an event or a label, and shows what is recorded
 back [NUMBER]       goes back by one instruction, or by so many
@@ -99,7 +99,7 @@ fn count(word: &str) -> Result<u32, String> {
 /// The cells from one to another.
 fn cells(from: &str, to: &str) -> Result<Order, String> {
     match (number(from)?, number(to)?) {
-        (first, last) if first > last => Err(format!("cell {from} stands behind cell {to}")),
+        (first, last) if first > last => Err(format!("cell {from} comes after cell {to}")),
         (first, last) => Ok(Order::Cells(Some(first), Some(last))),
     }
 }

@@ -57,7 +57,7 @@ impl Whole {
         match names.is_empty() {
             true => String::new(),
             false => format!(
-                "never allowed, for the pairs run in a ring: {}\n",
+                "never allowed, since the pairs form a ring: {}\n",
                 names.join(", ")
             ),
         }

@@ -138,7 +138,7 @@ pub fn meaning(refusal: Refusal) -> &'static str {
         Refusal::Oversize => "more than 1023 instructions",
         Refusal::Trailing => "bytes after the last instruction",
         Refusal::BadLayout => "the layout is not right",
-        Refusal::BadLanding => "a jump behind the routine's end",
+        Refusal::BadLanding => "a jump past the routine's end",
         Refusal::SmallOutput => "the output is too short",
         Refusal::BadPolicy => "not the layout's S states (1 to 16), or a wrong start or arrow",
         Refusal::BadBundle => "a bundle has no allowed shape",

@@ -186,7 +186,7 @@ impl Routine {
                 said.take(source.place.length).collect()
             }
             None if at < self.words.len() => self.listed(false).instruction(at),
-            None => "HALT, behind the last".to_string(),
+            None => "HALT, after the last".to_string(),
         }
     }
 
