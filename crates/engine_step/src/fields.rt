@@ -5,19 +5,13 @@ use words::memory;
 ghost use mathlib.Core.Path.{_≡_};
 ghost use lib.ListN.{getD};
 ghost use Rattle.spec.specs.Layouts.{maskOf};
-ghost use Rattle.spec.specs.Words.{dOf, aOf, bOf, vOf};
+ghost use Rattle.spec.specs.Words.{dOf, aOf, bOf};
 ghost use Rattle.engine_step.specs.fetch.Fetched.{FetchedFields};
 
 pub fn d_field(w: u64) -> usize
     ensures { λ r. ⌜ r ≡ dOf w ⌝ }
 {
     field::d(w) as usize
-}
-
-pub fn v_field(w: u64) -> u32
-    ensures { λ r. ⌜ r ≡ vOf w ⌝ }
-{
-    field::v(w) as u32
 }
 
 pub fn a_value(w: u64, regs: &[u32; Engine::REGISTERS]) -> u32

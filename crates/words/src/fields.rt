@@ -5,7 +5,7 @@ use types::Fields;
 use types::Instr;
 use types::Machine;
 ghost use mathlib.Core.Path.{_≡_};
-ghost use Rattle.spec.specs.Words.{fieldsOf, packFields, instrOf};
+ghost use Rattle.spec.specs.Words.{vOf, fieldsOf, packFields, instrOf};
 ghost use Rattle.words.specs.fields.Truncation.{truncateFields, truncatedWord};
 ghost use Rattle.words.specs.fields.Guests.{onlyGuestRegisters};
 
@@ -23,6 +23,13 @@ pub fn fields(w: u64) -> Fields
         c: field::c(w),
         v: field::v(w),
     }
+}
+
+// The number of a word, in 32 bits.
+pub fn v_field(w: u64) -> u32
+    ensures { λ r. ⌜ r ≡ vOf w ⌝ }
+{
+    field::v(w) as u32
 }
 
 // Packs six fields into a word. Each is cut to its width.

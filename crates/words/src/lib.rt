@@ -3,6 +3,7 @@
 pub mod command;
 pub mod fields;
 pub mod guest;
+pub mod hidden;
 pub mod refusals;
 pub mod reserved;
 pub mod routine;
