@@ -1,12 +1,9 @@
 -- The premises of HostIsolation and HostNoninterference can be met, and the definitions compute.
 use Prim.Native.Nat.{ℕ}
-use mathlib.Core.Path.{_≡_, refl, sym, _∙_, ap}
-use mathlib.Core.Bool.{false, _||_}
-use mathlib.Core.List.{List}
+use mathlib.Core.Path.{_≡_, refl}
 use native.Mathlib.Omega.{arith}
 use lib.Count.{ones, leadingZeros}
-use lib.ListN.{set, replicate}
-use lib.Seq.{getD-set-other}
+use lib.ListN.{replicate}
 use Rattle.spec.specs.Layouts.{rightLayout, inBox, inTable, inLandings, protected}
 use Rattle.spec.specs.Policies.{rightPolicy}
 use Rattle.spec.specs.Landings.{rightLandings, bitsFrom, landingsOf}
@@ -16,16 +13,12 @@ use Rattle.spec.specs.Commands.{isCommand, commandOf, wordOf, fetchOf, plainOf}
 use Rattle.spec.specs.Bundles.{shapeOf, baseRoomAnswer, rewriteAnswer, valid, decodeBundle, bundleAt, isBundle, shapedAt, passesAt, checkFrom, checkAnswer}
 use Rattle.spec.specs.Machines.{installAnswer, installMemory, installMachine, effectOf, applyOf, runOf, loopFrom}
 use Rattle.sandbox_spec.specs.Loading.{translateAnswer, loadAnswer, loadCommands, loadMemory, loadMachine}
-use Rattle.spec.specs.Runs.{runOn, afterTaken, afterRun, LowEqual, eachRun}
-use Rattle.spec.proofs.Bools.{no}
+use Rattle.spec.specs.Runs.{runOn, afterTaken, afterRun, eachRun}
+use Rattle.spec.proofs.Noninterference.{free-set}
 use Rattle.capi_spec.specs.Numbers.{layoutFrom}
 use Rattle.capi_spec.specs.Hosts.{checkFor, installFor, loadFor, runFor}
 use Rattle.capi_spec.specs.Claims.{callsOf, installed, loaded}
 use Rattle.capi_spec.specs.Sample.{layout, bytes, firstLoad, left, SampleHolds}
-
--- storing to a free cell gives a low-equivalent memory
-pub free-set : (mem : List ℕ) (i x : ℕ) → (inBox (layoutFrom layout) i || protected (layoutFrom layout) i) ≡ false → LowEqual (layoutFrom layout) (set mem i x) mem
-free-set mem i x f j s = getD-set-other mem i j x 0 (λ e. no (sym f ∙ ap (λ (k : ℕ). inBox (layoutFrom layout) k || protected (layoutFrom layout) k) (sym e) ∙ s))
 
 pub sample-holds : SampleHolds
 unfolding ones leadingZeros layoutFrom rightLayout rightPolicy rightLandings inBox inTable inLandings protected bitsFrom landingsOf fieldsRefusal refusalAt
@@ -37,7 +30,7 @@ sample-holds =
     record {
       loaded = refl;
       ready = loaded bytes (replicate 40 0) refl;
-      preserved = λ x. (λ l. free-set (firstLoad .memory) 9 x refl, (λ l. absurd (let z : _≡_ {A = ℕ} 0 128 = l in omega arith), (λ l. free-set (left x) 8 x refl, tt)));
+      preserved = λ x. (λ l. free-set (layoutFrom layout) (firstLoad .memory) 9 x refl, (λ l. absurd (let z : _≡_ {A = ℕ} 0 128 = l in omega arith), (λ l. free-set (layoutFrom layout) (left x) 8 x refl, tt)));
       alike = λ x y. (
         record { readings = refl; budget = refl; log = refl; memory = refl },
         (record { readings = refl; budget = refl; log = refl; memory = refl }, (record { readings = refl; budget = refl; log = refl; memory = refl }, tt)),

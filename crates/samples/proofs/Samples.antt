@@ -1,12 +1,10 @@
 -- The premises of the claims can be met, and the definitions compute.
 use mathlib.Core.Path.{_≡_, refl, sym, _∙_, ap}
-use mathlib.Core.Bool.{false, _||_}
 use mathlib.Core.List.{List, [], _∷_}
 use Prim.Native.Nat.{ℕ}
 use native.Mathlib.Omega.{arith}
 use lib.Count.{ones, leadingZeros}
 use lib.ListN.{set, replicate}
-use lib.Seq.{getD-set-other}
 use Rattle.types.specs.declared.Status.the-variants.{Running, Stopped}
 use Rattle.types.specs.Names.{topGuest}
 use Rattle.spec.specs.Layouts.{rightLayout, inBox, inTable, inLandings, protected}
@@ -20,12 +18,8 @@ use Rattle.spec.specs.Guests.{pairOf, Guest, guestOf, execEvent, execInstr, gue
 use Rattle.spec.specs.Runs.{Pairwise, eachRun, afterAll, begins, runOn, afterTaken, afterRun, LowEqual, HostPremise, allRuns}
 use Rattle.spec.specs.Claims.{SameInputs, SameObservations}
 use Rattle.samples.specs.Sample.{layout, policy, code, commands, memory, left, runs, SampleHolds}
-use Rattle.spec.proofs.Bools.{no}
+use Rattle.spec.proofs.Noninterference.{free-set}
 use Rattle.spec.proofs.Isolation.{isolation}
-
--- storing to a free cell gives a low-equivalent memory
-pub free-set : (mem : List ℕ) (i x : ℕ) → (inBox layout i || protected layout i) ≡ false → LowEqual layout (set mem i x) mem
-free-set mem i x f j s = getD-set-other mem i j x 0 (λ e. no (sym f ∙ ap (λ (k : ℕ). inBox layout k || protected layout k) (sym e) ∙ s))
 
 passed : checkAnswer layout commands .number ≡ 0
 unfolding ones leadingZeros rightLayout instrOf routine bundlesFor wordOf shapeOf valid decodeBundle bundleAt isBundle shapedAt passesAt checkFrom checkAnswer
@@ -38,8 +32,8 @@ premise-with x =
       passed = passed;
       installed = refl;
       preserved = (
-        λ l. free-set (installMemory layout policy (memory x)) 650 x refl,
-        (λ l. absurd (let z : _≡_ {A = ℕ} 0 1024 = l in omega arith), (λ l. free-set (left x) 600 x refl, tt)),
+        λ l. free-set layout (installMemory layout policy (memory x)) 650 x refl,
+        (λ l. absurd (let z : _≡_ {A = ℕ} 0 1024 = l in omega arith), (λ l. free-set layout (left x) 600 x refl, tt)),
       );
     }
 
@@ -51,7 +45,7 @@ alike-in : (x y : ℕ) → LowEqual layout (installMemory layout policy (memory 
 unfolding inBox inTable inLandings protected
 alike-in x y =
     let mem = installMemory layout policy (memory 0) in
-    rw (installed-with x, installed-with y) (λ i s. free-set mem 700 x refl i s ∙ sym (free-set mem 700 y refl i s))
+    rw (installed-with x, installed-with y) (λ i s. free-set layout mem 700 x refl i s ∙ sym (free-set layout mem 700 y refl i s))
 
 given-alike : (x y : ℕ) → Pairwise SameInputs (runs x) (runs y)
 unfolding ones leadingZeros rightLayout rightPolicy rightLandings bitsFrom landingsOf instrOf routine bundlesFor wordOf shapeOf isCommand commandOf fetchOf

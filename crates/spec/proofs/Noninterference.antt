@@ -21,7 +21,7 @@ use Rattle.types.specs.declared.Layout.{Layout}
 use Rattle.types.specs.declared.Instr.{Instr}
 use Rattle.types.specs.declared.Instr.the-variants.{HALT, PLAIN, LOAD, STORE, GOIF, GOX, EVENT}
 use Rattle.types.specs.Names.{mostBundles, bundleLength, cellBits, events, hidden}
-use Rattle.spec.specs.Layouts.{inBox, rightLayout}
+use Rattle.spec.specs.Layouts.{inBox, notFree, rightLayout}
 use Rattle.spec.specs.Policies.{Policy}
 use Rattle.spec.specs.Landings.{marked}
 use Rattle.spec.specs.Commands.{fetchOf}
@@ -30,7 +30,7 @@ use Rattle.spec.specs.Bundles.{shapeOf}
 use Rattle.spec.specs.Guests.{Pair, Guest, guestReg, guestStart}
 use Rattle.spec.specs.Runs.{RunInput, pairsOf, Session, initialSession, runOn, afterTaken, begins, afterRun, LowEqual, MemoryPreserved, HostPremise, Pairwise, eachRun, Run, runAs, allRuns}
 use Rattle.spec.specs.Claims.{SameInputs, SameObservations}
-use Rattle.spec.proofs.Bools.{cases, both}
+use Rattle.spec.proofs.Bools.{no, cases, both}
 use Rattle.spec.proofs.Landings.{marked-same}
 use Rattle.spec.proofs.Facts.{Right, Valid, Bundled}
 use Rattle.spec.proofs.Loops.{Goes, Loop, stepIn, alikes, machineLoop}
@@ -49,6 +49,10 @@ pub record LowEqualState (lay : Layout) (s t : State) : Type 0 where
   pub size : length (s .mem) ≡ length (t .mem)
   pub long : length (s .log) ≡ length (t .log)
   pub logged : (i : ℕ) → i < 2 * s .pairs → getD (s .log) i 0 ≡ getD (t .log) i 0
+
+-- a store to a free cell gives a low-equivalent memory
+pub free-set : (lay : Layout) (mem : List ℕ) (i x : ℕ) → notFree lay i ≡ false → LowEqual lay (set mem i x) mem
+free-set lay mem i x f j s = getD-set-other mem i j x 0 (λ e. no (sym f ∙ ap (λ (k : ℕ). notFree lay k) (sym e) ∙ s))
 
 -- the same store into two lists of the same length
 pub set-alike : (l l′ : List ℕ) (a i v : ℕ) → length l ≡ length l′ → ((i ≡ a → ⊥) → getD l i 0 ≡ getD l′ i 0) → getD (set l a v) i 0 ≡ getD (set l′ a v) i 0

@@ -14,11 +14,11 @@ use Rattle.spec.specs.Bundles.{shapeOf, baseRoomAnswer, rewriteAnswer, valid, d
 use Rattle.spec.specs.Machines.{installAnswer, installMemory, installMachine, applyOf, loopFrom}
 use Rattle.spec.specs.Runs.{eachRun}
 use Rattle.sandbox_spec.specs.Loading.{translateAnswer, loadAnswer, loadCommands, loadMemory, loadMachine}
+use Rattle.spec.proofs.Noninterference.{free-set}
 use Rattle.capi_spec.specs.Numbers.{layoutFrom}
 use Rattle.capi_spec.specs.Hosts.{checkFor, installFor, loadFor}
 use Rattle.capi_spec.specs.Claims.{callsOf}
-use Rattle.capi_spec.specs.Sample.{bytes, firstLoad}
-use Rattle.capi_spec.proofs.Samples.{free-set}
+use Rattle.capi_spec.specs.Sample.{layout, bytes, firstLoad}
 use Rattle.engine_spec.specs.Engines.{checkedEvent, instrEffect, instrEffectAt, withState, applyEffect, refusalBy, runOf}
 use Rattle.engine_spec.specs.Claims.{runOn, afterTaken, afterRun}
 use Rattle.capi_spec.specs.engine.Records.{engineFor, continueFor}
@@ -37,12 +37,12 @@ sample-holds =
     record {
       installedMemory = loaded bytes (replicate 40 0) refl;
       taken = refl;
-      preserved = λ x. (λ l. free-set (firstLoad .memory) 9 x refl, (λ l. absurd (let z : _≡_ {A = ℕ} 0 128 = l in omega arith), (λ l. free-set (left x) 8 x refl, tt)));
+      preserved = λ x. (λ l. free-set (layoutFrom layout) (firstLoad .memory) 9 x refl, (λ l. absurd (let z : _≡_ {A = ℕ} 0 128 = l in omega arith), (λ l. free-set (layoutFrom layout) (left x) 8 x refl, tt)));
       alike = λ x y. (
         record { readings = refl; budget = refl; log = refl; memory = refl },
         (record { readings = refl; budget = refl; log = refl; memory = refl }, (record { readings = refl; budget = refl; log = refl; memory = refl }, tt)),
       );
       answers = λ x. refl;
-      unjudged = λ x. (λ l. free-set (firstLoad .memory) 9 x refl, tt);
+      unjudged = λ x. (λ l. free-set (layoutFrom layout) (firstLoad .memory) 9 x refl, tt);
       faulted = λ x. refl;
     }

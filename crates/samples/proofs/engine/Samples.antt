@@ -16,8 +16,9 @@ use Rattle.spec.specs.Bundles.{shapeOf, decodeBundle, bundleAt, rewriteAnswer, 
 use Rattle.spec.specs.Machines.{effectOf, installAnswer, installMemory, installMachine, applyOf, runOf as machineRunOf, loopFrom}
 use Rattle.spec.specs.Runs.{RunInput, eachRun, afterAll, MemoryPreserved, begins, runOn as machineOn, afterTaken as machineTaken, afterRun as machineRun, after as machineAfter}
 use Rattle.spec.specs.Claims.{AtBoundary, Waiting}
+use Rattle.spec.proofs.Noninterference.{free-set}
 use Rattle.samples.specs.Sample.{layout, policy, code, commands, memory, runs as machineRuns, pausedRun}
-use Rattle.samples.proofs.Samples.{free-set, sample-holds as machine-holds}
+use Rattle.samples.proofs.Samples.{sample-holds as machine-holds}
 use Rattle.engine_spec.specs.Engines.{checkedEvent, instrEffect, instrEffectAt, withState, applyEffect, refusalBy, runOf}
 use Rattle.engine_spec.specs.Claims.{runOn, afterTaken, afterRun, after, HostPremise, PairedRuns}
 use Rattle.engine_spec.specs.Continues.{reachedEffect, continueRefusal, continueOf, callOf, callRefusal, callOn, afterCall, eachCall}
@@ -31,8 +32,8 @@ premise-with x y =
       taken = refl;
       installed = refl;
       preserved = (
-        λ l i s. free-set (installMemory layout policy (memory y)) 650 y refl i s ∙ machine-holds .matches y x i s,
-        (λ l. absurd (let z : _≡_ {A = ℕ} 0 1024 = l in omega arith), (λ l. free-set (left y) 600 y refl, tt)),
+        λ l i s. free-set layout (installMemory layout policy (memory y)) 650 y refl i s ∙ machine-holds .matches y x i s,
+        (λ l. absurd (let z : _≡_ {A = ℕ} 0 1024 = l in omega arith), (λ l. free-set layout (left y) 600 y refl, tt)),
       );
     }
 
