@@ -17,13 +17,18 @@ use Rattle.spec.specs.Machines.{installAnswer, installMemory, installMachine, e
 use Rattle.spec.specs.Guests.{pairOf, Guest, guestOf, execEvent, execInstr, guestStep, guestAfter, guestStart}
 use Rattle.spec.specs.Runs.{Pairwise, eachRun, afterAll, begins, runOn, afterTaken, afterRun, LowEqual, HostPremise, allRuns}
 use Rattle.spec.specs.Claims.{SameInputs, SameObservations}
-use Rattle.samples.specs.Sample.{layout, policy, code, commands, memory, left, runs, SampleHolds}
+use Rattle.samples.specs.Sample.{layout, policy, code, commands, memory, firstMemory, left, runs, SampleHolds}
 use Rattle.spec.proofs.Noninterference.{free-set}
 use Rattle.spec.proofs.Isolation.{isolation}
 
 passed : checkAnswer layout commands .number ≡ 0
 unfolding ones leadingZeros rightLayout instrOf routine bundlesFor wordOf shapeOf valid decodeBundle bundleAt isBundle shapedAt passesAt checkFrom checkAnswer
 passed = refl
+
+-- the host wrote only to a free cell before a first run
+pub first-kept : (x : ℕ) → LowEqual layout (firstMemory x) (installMemory layout policy (memory x))
+unfolding inBox inTable inLandings protected
+first-kept x = free-set layout (installMemory layout policy (memory x)) 650 x refl
 
 premise-with : (x : ℕ) → HostPremise layout policy commands (memory x) (runs x)
 unfolding ones rightLayout rightPolicy rightLandings installAnswer inBox inTable inLandings protected afterRun eachRun
@@ -32,7 +37,7 @@ premise-with x =
       passed = passed;
       installed = refl;
       preserved = (
-        λ l. free-set layout (installMemory layout policy (memory x)) 650 x refl,
+        λ l. first-kept x,
         (λ l. absurd (let z : _≡_ {A = ℕ} 0 1024 = l in omega arith), (λ l. free-set layout (left x) 600 x refl, tt)),
       );
     }
@@ -89,10 +94,11 @@ sample-holds =
       begun = λ x. refl;
       guest = guest-with;
       paused = λ x. refl;
-      pausedPremise = λ x. record { passed = passed; installed = refl; preserved = (λ l i s. refl, tt) };
+      pausedPremise = λ x. record { passed = passed; installed = refl; preserved = (λ l. first-kept x, tt) };
       waiting = λ x. record { running = refl; event = 0; third = refl };
       waitingBegun = λ x. refl;
       late = λ x. refl;
+      latePremise = λ x. record { passed = passed; installed = refl; preserved = (λ l. first-kept x, tt) };
       pending = λ x. refl;
       behind = λ x. refl;
       reading = λ x. refl;

@@ -45,10 +45,14 @@ memory x = set (replicate 1024 0) 700 x
 abbrev pub runInput : List ℕ → ℕ → ℕ → RunInput
 runInput mem budget old = record { memory = mem; budget = budget; readings = 1800 ∷ 1950 ∷ 2100 ∷ []; log = replicate 64 old }
 
--- three runs. Before the first, of six steps, the host writes x to free cell 650. The second has a memory that is too short.
+-- the memory lent to a first run: before it the host wrote x to free cell 650 of the memory that installing left
+abbrev pub firstMemory : ℕ → List ℕ
+firstMemory x = set (installMemory layout policy (memory x)) 650 x
+
+-- three runs. The first has six steps. The second has a memory that is too short.
 -- Before the third, of a thousand steps, the host writes x to free cell 600
 abbrev pub firstRun : ℕ → RunInput
-firstRun x = runInput (set (installMemory layout policy (memory x)) 650 x) 6 x
+firstRun x = runInput (firstMemory x) 6 x
 
 abbrev pub left : ℕ → List ℕ
 left x = afterRun layout commands (initialSession layout policy (memory x)) (firstRun x) .memory
@@ -61,10 +65,10 @@ runs x = firstRun x ∷ runInput [] 6 x ∷ lastRun x ∷ []
 
 -- a run without a log; and one of eleven steps, which ends between EVENT and KEEP of the door's event
 abbrev pub pausedRun : ℕ → RunInput
-pausedRun x = record { memory = installMemory layout policy (memory x); budget = 1000; readings = []; log = [] }
+pausedRun x = record { memory = firstMemory x; budget = 1000; readings = []; log = [] }
 
 abbrev pub lateRun : ℕ → RunInput
-lateRun x = runInput (installMemory layout policy (memory x)) 11 x
+lateRun x = runInput (firstMemory x) 11 x
 
 abbrev pub answersIn : List (Run Outcome) → List RunAnswer
 answersIn rs = map (λ r. r .result .outcome .answer) rs
@@ -87,6 +91,7 @@ pub record SampleHolds : Type 0 where
   pub waiting : (x : ℕ) → Waiting layout commands (after layout policy commands (memory x) (pausedRun x ∷ []) .machine)
   pub waitingBegun : (x : ℕ) → after layout policy commands (memory x) (pausedRun x ∷ []) .begun ≡ 2
   pub late : (x : ℕ) → answersIn (allRuns layout policy commands (memory x) (lateRun x ∷ [])) ≡ runAnswer Spent 11 2 0 ∷ []
+  pub latePremise : (x : ℕ) → HostPremise layout policy commands (memory x) (lateRun x ∷ [])
   pub pending : (x : ℕ) → pendingAt layout commands (after layout policy commands (memory x) (lateRun x ∷ []) .machine) ≡ 2 ∷ []
   pub behind : (x : ℕ) → getD (after layout policy commands (memory x) (lateRun x ∷ []) .memory) (layout .cell) 0 ≡ 0
   pub reading : (x : ℕ) → recordedIn (allRuns layout policy probing (memory x) (firstRun x ∷ [])) ≡ pairOf 9 1800 ∷ []

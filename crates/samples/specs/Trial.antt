@@ -2,7 +2,7 @@
 use Prim.Native.Nat.{ℕ, zero, suc}
 use mathlib.Core.Path.{_≡_}
 use mathlib.Core.List.{List, [], _∷_}
-use lib.ListN.{getD, take, replicate}
+use lib.ListN.{getD, set, take, replicate}
 use Rattle.types.specs.Names.{mostBundles, mostCommands, answer, endingNumber}
 use Rattle.spec.specs.Policies.{Policy, policyOf}
 use Rattle.spec.specs.Machines.{RunResult}
@@ -35,24 +35,25 @@ abbrev pub commands : List ℕ
 commands =
     take (loadAnswer layout policy input mostCommands memory .place) (loadCommands layout policy input (replicate mostCommands 0) memory)
 
--- 'readings 1800, 1950, 2100; log 64 cells; budget 1,000'
-abbrev pub runInput : RunInput
-runInput =
+-- 'readings 1800, 1950, 2100; log 64 cells; budget 1,000'. Before the run the host writes x to free cell 650, which holds 0:
+-- `trial` writes nothing, so its run has x = 0
+abbrev pub runInput : ℕ → RunInput
+runInput x =
     record {
-      memory = loadMemory layout policy input mostCommands memory;
+      memory = set (loadMemory layout policy input mostCommands memory) 650 x;
       budget = 1000;
       readings = 1800 ∷ 1950 ∷ 2100 ∷ [];
       log = replicate 64 0;
     }
 
-abbrev pub runResult : RunResult
-runResult = runOn layout commands (loadedAt layout policy input mostCommands memory) runInput
+abbrev pub runResult : ℕ → RunResult
+runResult x = runOn layout commands (loadedAt layout policy input mostCommands memory) (runInput x)
 
 -- what `trial` prints: 'answer 0; event 0 70; event 2 70; end 21 steps 14 state 1'; the run satisfies the premises of Loads
 pub record TrialHolds : Type 0 where
   pub answers : loadAnswer layout policy input mostCommands memory ≡ answer 0 32
-  pub events : pairsOf (runResult .log) (runResult .outcome .answer .pairs) ≡ pairOf 0 70 ∷ pairOf 2 70 ∷ []
-  pub ending : endingNumber (runResult .outcome .answer .ending) ≡ 21
-  pub steps : runResult .outcome .answer .steps ≡ 14
-  pub state : getD (runResult .mem) (layout .cell) 0 ≡ 1
-  pub preserved : MemoriesPreserved layout commands (loadedAt layout policy input mostCommands memory) (runInput ∷ [])
+  pub events : (x : ℕ) → pairsOf (runResult x .log) (runResult x .outcome .answer .pairs) ≡ pairOf 0 70 ∷ pairOf 2 70 ∷ []
+  pub ending : (x : ℕ) → endingNumber (runResult x .outcome .answer .ending) ≡ 21
+  pub steps : (x : ℕ) → runResult x .outcome .answer .steps ≡ 14
+  pub state : (x : ℕ) → getD (runResult x .mem) (layout .cell) 0 ≡ 1
+  pub preserved : (x : ℕ) → MemoriesPreserved layout commands (loadedAt layout policy input mostCommands memory) (runInput x ∷ [])

@@ -18,7 +18,7 @@ use Rattle.spec.specs.Runs.{RunInput, eachRun, afterAll, MemoryPreserved, begin
 use Rattle.spec.specs.Claims.{AtBoundary, Waiting}
 use Rattle.spec.proofs.Noninterference.{free-set}
 use Rattle.samples.specs.Sample.{layout, policy, code, commands, memory, runs as machineRuns, pausedRun}
-use Rattle.samples.proofs.Samples.{sample-holds as machine-holds}
+use Rattle.samples.proofs.Samples.{first-kept, sample-holds as machine-holds}
 use Rattle.engine_spec.specs.Engines.{checkedEvent, instrEffect, instrEffectAt, withState, applyEffect, refusalBy, runOf}
 use Rattle.engine_spec.specs.Claims.{runOn, afterTaken, afterRun, after, HostPremise, PairedRuns}
 use Rattle.engine_spec.specs.Continues.{reachedEffect, continueRefusal, continueOf, callOf, callRefusal, callOn, afterCall, eachCall}
@@ -32,7 +32,7 @@ premise-with x y =
       taken = refl;
       installed = refl;
       preserved = (
-        λ l i s. free-set layout (installMemory layout policy (memory y)) 650 y refl i s ∙ machine-holds .matches y x i s,
+        λ l i s. first-kept y i s ∙ machine-holds .matches y x i s,
         (λ l. absurd (let z : _≡_ {A = ℕ} 0 1024 = l in omega arith), (λ l. free-set layout (left y) 600 y refl, tt)),
       );
     }
@@ -98,18 +98,18 @@ sample-holds =
       counted = λ x. refl;
       recorded = λ x. refl;
       state = λ x. refl;
-      waits = λ x. one-each x (pausedRun x) (pausedRun x) (λ l i s. refl) (λ l i s. refl) (unread x .0);
+      waits = λ x. one-each x (pausedRun x) (pausedRun x) (λ l. first-kept x) (λ l. first-kept x) (unread x .0);
       third = λ x. machine-waits x .0;
       behind = λ x. machine-waits x .1;
       paused = λ x. refl;
-      level = λ x. one-each x (machineOne x) (engineOne x) (λ l i s. refl) (λ l i s. refl) (unread x .1);
+      level = λ x. one-each x (machineOne x) (engineOne x) (λ l. first-kept x) (λ l. first-kept x) (unread x .1);
       boundary = λ x. machine-boundary x .0;
       running = λ x. machine-boundary x .1;
       even = λ x. machine-boundary x .2;
       pauses = λ x. inl refl;
-      mixed = λ x. record { taken = premise-with x x .taken; installed = premise-with x x .installed; preserved = (λ l i s. refl, tt) };
+      mixed = λ x. record { taken = premise-with x x .taken; installed = premise-with x x .installed; preserved = (λ l. first-kept x, tt) };
       stopped = λ x. refl;
-      unjudgedPremise = λ x. record { most = omega arith; installed = premise-with x x .installed; preserved = (λ l i s. refl, tt) };
+      unjudgedPremise = λ x. record { most = omega arith; installed = premise-with x x .installed; preserved = (λ l. first-kept x, tt) };
       faulted = λ x. refl;
       unknown = refl;
       landing = refl;

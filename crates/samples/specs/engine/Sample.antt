@@ -7,39 +7,42 @@ use Rattle.types.specs.declared.Answer.{Answer}
 use Rattle.types.specs.declared.Status.the-variants.{Running}
 use Rattle.types.specs.Names.{guest, answer}
 use Rattle.spec.specs.Words.{packOf}
-use Rattle.spec.specs.Machines.{installMemory}
 use Rattle.spec.specs.Guests.{pairOf}
 use Rattle.spec.specs.Runs.{RunInput, Run, recordedIn, after as machineAfter}
 use Rattle.spec.specs.Claims.{AtBoundary, Waiting, withBudget}
-use Rattle.samples.specs.Sample.{layout, policy, code, commands, memory, runInput, runs as machineRuns, pausedRun}
+use Rattle.samples.specs.Sample.{layout, policy, code, commands, memory, firstMemory, runInput, runs as machineRuns, pausedRun}
 use Rattle.engine_spec.specs.declared.EngineOutcome.{EngineOutcome}
 use Rattle.engine_spec.specs.Engines.{refusalOf}
 use Rattle.engine_spec.specs.Claims.{initialSession, runOn, afterRun, after, HostPremise, PairedRuns, PausedBy, allRuns}
 use Rattle.engine_spec.specs.Continues.{callAs, eachCall, CallPremise, reachedCalls, UnjudgedPremise}
 
--- three runs: two instructions after the host wrote x to free cell 650; a memory too short; a thousand after it wrote x to free cell 600
+-- three runs. The first has two instructions. The second has a memory that is too short.
+-- Before the third, of a thousand instructions, the host writes x to free cell 600
 abbrev pub firstRun : ℕ → RunInput
-firstRun x = runInput (set (installMemory layout policy (memory x)) 650 x) 2 x
+firstRun x = runInput (firstMemory x) 2 x
 
 abbrev pub left : ℕ → List ℕ
 left x = afterRun layout code (initialSession layout policy (memory x)) (firstRun x) .memory
 
+abbrev pub lastRun : ℕ → RunInput
+lastRun x = runInput (set (left x) 600 x) 1000 x
+
 abbrev pub runs : ℕ → List RunInput
-runs x = firstRun x ∷ runInput [] 2 x ∷ runInput (set (left x) 600 x) 1000 x ∷ []
+runs x = firstRun x ∷ runInput [] 2 x ∷ lastRun x ∷ []
 
 -- SET alone: four steps of the machine, one instruction of the engine
 abbrev pub machineOne : ℕ → RunInput
-machineOne x = runInput (installMemory layout policy (memory x)) 4 x
+machineOne x = runInput (firstMemory x) 4 x
 
 abbrev pub engineOne : ℕ → RunInput
-engineOne x = runInput (installMemory layout policy (memory x)) 1 x
+engineOne x = runInput (firstMemory x) 1 x
 
--- words that nobody judged: SET r0, 70, then a word of kind 13. One call of the second entry, in the memory that installing left
+-- words that nobody judged: SET r0, 70, then a word of kind 13. One call of the second entry
 abbrev pub unjudged : List ℕ
 unjudged = packOf (guest .set) 0 0 0 0 70 ∷ packOf 13 0 0 0 0 0 ∷ []
 
 abbrev pub oneRun : ℕ → RunInput
-oneRun x = runInput (installMemory layout policy (memory x)) 1000 x
+oneRun x = runInput (firstMemory x) 1000 x
 
 abbrev pub answersIn : List (Run EngineOutcome) → List Answer
 answersIn rs = map (λ r. r .result .outcome .answer) rs
