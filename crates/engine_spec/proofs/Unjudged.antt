@@ -28,7 +28,7 @@ use Rattle.engine_spec.specs.declared.Engine.{Engine}
 use Rattle.engine_spec.specs.Engines.{instrEffect, instrEffectAt, nextOf, withState, applyEffect, RunResult, endAnswer, resultIn, runFrom, startOf, refusalOf, runOf}
 use Rattle.engine_spec.specs.Claims.{Session, HostPremise, MemoriesPreserved, initialSession, runOn, afterTaken, afterRun, runAs}
 use Rattle.engine_spec.specs.Continues.{isInstructionAt, reachedEffect, reachedNext, continueFrom, repaired, SameButFault, UnjudgedWords}
-use Rattle.engine_spec.specs.Continues.{continueRefusal, continueOf, judgesReached, Call, callOf, callRefusal, callOn, afterCall, callAs, eachCall}
+use Rattle.engine_spec.specs.Continues.{continueRefusal, continueOf, judgesReached, Call, callBy, callOf, callRefusal, callOn, afterCall, callAs, eachCall}
 use Rattle.engine_spec.specs.Continues.{EntriesPreserved, reachedCalls, SameRunButFault, UnjudgedIsolation}
 use Rattle.engine_spec.proofs.Runs.{engineLoop}
 use Rattle.engine_spec.proofs.Continues.{zero-taken, continueLoop, same-refusal}
@@ -156,7 +156,7 @@ module _ (lay : Layout) (ws : List ℕ) (most : length ws ≤ mostInstructions) 
       (record { mem = refl; log = refl; regs = v .regs; at = v .at; status = inr e; answer = inr (ap answer-of f, ap answer-of h); steps = refl; pairs = refl; used = refl })) (v .status)
 
   abbrev call : RunInput → Call
-  call g = record { entry = judgesReached; input = g }
+  call g = callBy judgesReached g
 
   call-level : (c d : Session) (g : RunInput) → Level c d → SameButFault (callOn lay ws c (call g)) (runOn lay (repaired ws) d g)
   unfolding callOn callOf runOn continueOf runOf

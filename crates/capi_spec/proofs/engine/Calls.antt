@@ -28,7 +28,7 @@ use Rattle.engine_spec.specs.declared.EngineOutcome.{EngineOutcome}
 use Rattle.engine_spec.specs.Engines.{RunResult, engineOf, initialEngine, applyEffect, withMemory, withState, startOf, refusalOf, refusalBy, runOf}
 use Rattle.engine_spec.specs.Claims.{Session, sessionOf, initialSession, runOn, afterTaken, afterRun, runAs, MemoriesPreserved, HostPremise}
 use Rattle.engine_spec.proofs.Runs.{engineLoop, taken-size}
-use Rattle.engine_spec.specs.Continues.{continueRefusal, continueOf, Entry, judgesAll, judgesReached, Call, callOf, callRefusal, callOn, afterCall, callAs}
+use Rattle.engine_spec.specs.Continues.{continueRefusal, continueOf, Entry, judgesAll, judgesReached, Call, callBy, callOf, callRefusal, callOn, afterCall, callAs}
 use Rattle.engine_spec.specs.Continues.{eachCall, EntriesPreserved, inputsOf, reachedCalls, UnjudgedPremise}
 use Rattle.engine_spec.proofs.Isolation.{engine-isolation}
 use Rattle.capi_spec.specs.engine.Records.{engineTo, answerTo, resultTo, engineFor, engineFrom, continueFor}
@@ -152,7 +152,7 @@ host-entries-mix lay pol mem ws left xs laid take lends =
 
 -- ---- words that nobody judged
 abbrev reached : RunInput → Call
-reached g = record { entry = judgesReached; input = g }
+reached g = callBy judgesReached g
 
 reached-carries : (lay : Layout) (ws : List ℕ) (c : Session) (g : RunInput) (t : Bool) → eqb (continueRefusal lay ws (length (g .memory)) .number) 0 ≡ t
     → (callOn lay ws c (reached g) .outcome .engine ≡ afterCall lay ws c (reached g) .engine) × (length (afterCall lay ws c (reached g) .engine .regs) ≡ length (c .engine .regs))

@@ -21,8 +21,8 @@ use Rattle.samples.specs.Sample.{layout, policy, code, commands, memory,
 use Rattle.samples.proofs.Samples.{first-kept, sample-holds as machine-holds}
 use Rattle.engine_spec.specs.Engines.{checkedEvent, instrEffect, instrEffectAt, withState, applyEffect, refusalBy, runOf}
 use Rattle.engine_spec.specs.Claims.{runOn, afterTaken, afterRun, after, HostPremise, PairedRuns}
-use Rattle.engine_spec.specs.Continues.{reachedEffect, continueRefusal, continueOf, callOf, callRefusal, callOn, afterCall, eachCall}
-use Rattle.samples.specs.engine.Sample.{left, runs, machineOne, engineOne, SampleHolds}
+use Rattle.engine_spec.specs.Continues.{reachedEffect, continueRefusal, continueOf, callOf, callRefusal, callOn, afterCall, eachCall, CallPremise}
+use Rattle.samples.specs.engine.Sample.{left, runs, mixedCalls, machineOne, engineOne, SampleHolds}
 
 premise-with : (x y : ℕ) → HostPremise layout policy code (memory x) (runs y)
 unfolding ones rightLayout rightPolicy rightLandings installAnswer inBox inTable inLandings protected installMemory landingsOf runOn afterTaken afterRun
@@ -36,6 +36,12 @@ premise-with x y =
         (λ l. absurd (let z : _≡_ {A = ℕ} 0 1024 = l in omega arith), (λ l. free-set layout (left y) 600 y refl, tt)),
       );
     }
+
+-- both entries
+mixed-with : (x : ℕ) → CallPremise layout policy code (memory x) (mixedCalls x)
+unfolding ones rightLayout runOn afterTaken afterRun fieldsRefusal refusalAt firstRefused refusalBy continueRefusal callOf callRefusal callOn afterCall eachCall
+    eachRun
+mixed-with x = let p = premise-with x x in record { taken = p .taken; installed = p .installed; preserved = p .preserved }
 
 nothing-used : (x y : ℕ) → after layout policy code (memory x) (runs y) .consumed ≡ []
 unfolding ones leadingZeros rightLayout rightPolicy rightLandings bitsFrom landingsOf fieldsRefusal refusalAt firstRefused instrOf routine bundlesFor plainOf
@@ -107,8 +113,8 @@ sample-holds =
       running = λ x. machine-boundary x .1;
       even = λ x. machine-boundary x .2;
       pauses = λ x. inl refl;
-      mixed = λ x. record { taken = premise-with x x .taken; installed = premise-with x x .installed; preserved = (λ l. first-kept x, tt) };
-      stopped = λ x. refl;
+      mixed = mixed-with;
+      mixedAnswers = λ x. refl;
       unjudgedPremise = λ x. record { most = omega arith; installed = premise-with x x .installed; preserved = (λ l. first-kept x, tt) };
       faulted = λ x. refl;
       unknown = refl;

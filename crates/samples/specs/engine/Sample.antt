@@ -14,7 +14,7 @@ use Rattle.samples.specs.Sample.{layout, policy, code, commands, memory,
 use Rattle.engine_spec.specs.declared.EngineOutcome.{EngineOutcome}
 use Rattle.engine_spec.specs.Engines.{refusalOf}
 use Rattle.engine_spec.specs.Claims.{initialSession, runOn, afterRun, after, HostPremise, PairedRuns, PausedBy, allRuns}
-use Rattle.engine_spec.specs.Continues.{callAs, eachCall, CallPremise, reachedCalls, UnjudgedPremise}
+use Rattle.engine_spec.specs.Continues.{judgesAll, judgesReached, Call, callBy, callAs, eachCall, CallPremise, reachedCalls, UnjudgedPremise}
 
 -- three runs. The first has two instructions. The second has a memory that is too short.
 -- Before the third, of a thousand instructions, the host writes x to free cell 600
@@ -30,6 +30,14 @@ lastRun x = runInput (set (left x) 600 x) 1000 x
 abbrev pub runs : ℕ → List RunInput
 runs x = firstRun x ∷ runInput [] 2 x ∷ lastRun x ∷ []
 
+-- the same by both entries: the second continues what the first began
+abbrev pub mixedCalls : ℕ → List Call
+mixedCalls x = callBy judgesAll (firstRun x) ∷ callBy judgesReached (runInput [] 2 x) ∷ callBy judgesReached (lastRun x) ∷ []
+
+-- spent (25), bad layout (7), no arrow (21)
+abbrev pub threeAnswers : List Answer
+threeAnswers = answer 25 0 ∷ answer 7 0 ∷ answer 21 0 ∷ []
+
 -- SET alone: four steps of the machine, one instruction of the engine
 abbrev pub machineOne : ℕ → RunInput
 machineOne x = runInput (firstMemory x) 4 x
@@ -37,7 +45,7 @@ machineOne x = runInput (firstMemory x) 4 x
 abbrev pub engineOne : ℕ → RunInput
 engineOne x = runInput (firstMemory x) 1 x
 
--- words that nobody judged: SET r0, 70, then a word of kind 13. One call of the second entry
+-- words that nobody judged: SET r0, 70, then a word of kind 13. A run of them
 abbrev pub unjudged : List ℕ
 unjudged = packOf (guest .set) 0 0 0 0 70 ∷ packOf 13 0 0 0 0 0 ∷ []
 
@@ -55,7 +63,7 @@ countsIn rs = map (λ r. r .result .outcome .steps) rs
 pub record SampleHolds : Type 0 where
   pub premise : (x : ℕ) → HostPremise layout policy code (memory x) (runs x)
   pub paired : (x y : ℕ) → PairedRuns layout policy code (memory x) 32 (machineRuns x) (runs y)
-  pub answers : (x : ℕ) → answersIn (allRuns layout policy code (memory x) (runs x)) ≡ answer 25 0 ∷ answer 7 0 ∷ answer 21 0 ∷ []
+  pub answers : (x : ℕ) → answersIn (allRuns layout policy code (memory x) (runs x)) ≡ threeAnswers
   pub counted : (x : ℕ) → countsIn (allRuns layout policy code (memory x) (runs x)) ≡ 2 ∷ 0 ∷ 2 ∷ []
   pub recorded : (x : ℕ) → recordedIn (allRuns layout policy code (memory x) (runs x)) ≡ pairOf 0 70 ∷ pairOf 2 70 ∷ []
   pub state : (x : ℕ) → getD (after layout policy code (memory x) (runs x) .memory) (layout .cell) 0 ≡ 1
@@ -70,9 +78,9 @@ pub record SampleHolds : Type 0 where
   pub running : (x : ℕ) → machineAfter layout policy commands (memory x) (machineOne x ∷ []) .machine .status ≡ Running
   pub even : (x : ℕ) → machineAfter layout policy commands (memory x) (machineOne x ∷ []) .begun ≡ after layout policy code (memory x) (engineOne x ∷ []) .counted
   pub pauses : (x : ℕ) → PausedBy (runOn layout code (after layout policy code (memory x) (engineOne x ∷ [])) (withBudget (pausedRun x) 1) .outcome .answer .number)
-  -- the second entry runs the routine to its stop, and unjudged words to the fault at the second
-  pub mixed : (x : ℕ) → CallPremise layout policy code (memory x) (reachedCalls (oneRun x ∷ []))
-  pub stopped : (x : ℕ) → answersIn (eachCall (callAs layout code) layout code (initialSession layout policy (memory x)) (reachedCalls (oneRun x ∷ []))) ≡ answer 21 0 ∷ []
+  -- mixed calls stop there too. The second entry runs unjudged words to the fault at the second
+  pub mixed : (x : ℕ) → CallPremise layout policy code (memory x) (mixedCalls x)
+  pub mixedAnswers : (x : ℕ) → answersIn (eachCall (callAs layout code) layout code (initialSession layout policy (memory x)) (mixedCalls x)) ≡ threeAnswers
   pub unjudgedPremise : (x : ℕ) → UnjudgedPremise layout policy unjudged (memory x) (oneRun x ∷ [])
   pub faulted : (x : ℕ) → answersIn (eachCall (callAs layout unjudged) layout unjudged (initialSession layout policy (memory x)) (reachedCalls (oneRun x ∷ []))) ≡ answer 22 0 ∷ []
   -- refused: a kind above 12 in the second word, and a GOIF past the end
