@@ -1,4 +1,4 @@
--- The premises of HostEngineIsolation and HostEngineNoninterference can be met, and the definitions compute.
+-- The premises of the claims about calls of the engine can be met, and the definitions compute.
 use Prim.Native.Nat.{ℕ}
 use mathlib.Core.Path.{_≡_, refl}
 use native.Mathlib.Omega.{arith}
@@ -22,9 +22,9 @@ use Rattle.capi_spec.specs.Sample.{layout, bytes, firstLoad}
 use Rattle.engine_spec.specs.Engines.{checkedEvent, instrEffect, instrEffectAt, withState, applyEffect, refusalBy, runOf}
 use Rattle.engine_spec.specs.Claims.{runOn, afterTaken, afterRun}
 use Rattle.capi_spec.specs.engine.Records.{engineFor, continueFor}
-use Rattle.engine_spec.specs.Continues.{reachedEffect, continueRefusal, continueOf, eachCall}
-use Rattle.capi_spec.specs.engine.Claims.{loaded}
-use Rattle.capi_spec.specs.engine.Sample.{left, SampleHolds}
+use Rattle.engine_spec.specs.Continues.{reachedEffect, continueRefusal, continueOf, callOf, callRefusal, callOn, afterCall, eachCall}
+use Rattle.capi_spec.specs.engine.Claims.{loaded, CallsPreserved, entryFor}
+use Rattle.capi_spec.specs.engine.Sample.{words, left, calls, SampleHolds}
 
 pub sample-holds : SampleHolds
 unfolding ones leadingZeros layoutFrom rightLayout rightPolicy rightLandings inBox inTable inLandings protected bitsFrom landingsOf fieldsRefusal refusalAt
@@ -32,17 +32,22 @@ unfolding ones leadingZeros layoutFrom rightLayout rightPolicy rightLandings inB
     rewriteAnswer valid decodeBundle bundleAt isBundle shapedAt passesAt checkFrom checkAnswer isCommand commandOf fetchOf plainOf installAnswer installMemory
     installMachine translateAnswer loadAnswer loadCommands loadMemory loadMachine applyOf loopFrom checkFor installFor loadFor checkedEvent instrEffect
     instrEffectAt withState applyEffect refusalBy runOf runOn afterTaken afterRun engineFor callsOf eachRun reachedEffect continueRefusal continueOf eachCall
-    continueFor
+    continueFor entryFor callOf callRefusal callOn afterCall
 sample-holds =
+    let l = layoutFrom layout in
+    let kept : (x : ℕ) → CallsPreserved layout words (firstLoad .memory) (calls x) =
+    λ x. (λ _. free-set l (firstLoad .memory) 9 x refl, (λ e. absurd (let z : _≡_ {A = ℕ} 0 128 = e in omega arith), (λ _. free-set l (left x) 8 x refl, tt))) in
     record {
       installedMemory = loaded bytes (replicate 40 0) refl;
       taken = refl;
-      preserved = λ x. (λ l. free-set (layoutFrom layout) (firstLoad .memory) 9 x refl, (λ l. absurd (let z : _≡_ {A = ℕ} 0 128 = l in omega arith), (λ l. free-set (layoutFrom layout) (left x) 8 x refl, tt)));
+      preserved = kept;
       alike = λ x y. (
         record { readings = refl; budget = refl; log = refl; memory = refl },
         (record { readings = refl; budget = refl; log = refl; memory = refl }, (record { readings = refl; budget = refl; log = refl; memory = refl }, tt)),
       );
       answers = λ x. refl;
-      unjudged = λ x. (λ l. free-set (layoutFrom layout) (firstLoad .memory) 9 x refl, tt);
+      mixed = kept;
+      mixedAnswers = λ x. refl;
+      unjudged = λ x. (λ _. free-set l (firstLoad .memory) 9 x refl, tt);
       faulted = λ x. refl;
     }

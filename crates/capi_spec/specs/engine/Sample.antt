@@ -1,4 +1,4 @@
--- Shows that the premises of HostEngineIsolation, HostEngineNoninterference and HostUnjudgedIsolation can be met.
+-- Shows that the premises of HostEngineIsolation, HostEngineNoninterference, HostEntriesMix and HostUnjudgedIsolation can be met.
 -- The engine runs the routine of this crate's other sample, on its drum, in two calls with a refused one between.
 use Prim.Native.Nat.{ℕ}
 use mathlib.Core.Path.{_≡_}
@@ -14,8 +14,8 @@ use Rattle.capi_spec.specs.Claims.{callsOf}
 use Rattle.capi_spec.specs.Sample.{layout, policy, bytes, firstLoad, runInput}
 use Rattle.engine_spec.specs.Engines.{initialEngine, refusalOf}
 use Rattle.engine_spec.specs.Claims.{Session, sessionOf, afterRun}
-use Rattle.capi_spec.specs.engine.Claims.{zeros, engineCall, InstalledMemory, CallsPreserved, continueCall}
-use Rattle.engine_spec.specs.Continues.{EntriesPreserved, reachedCalls}
+use Rattle.capi_spec.specs.engine.Claims.{zeros, engineCall, InstalledMemory, CallsPreserved, entryCall, continueCall}
+use Rattle.engine_spec.specs.Continues.{judgesAll, judgesReached, Call, callBy, EntriesPreserved, reachedCalls}
 
 -- SET r0, 70; EVENT 0; EVENT 2; EVENT 0
 abbrev pub words : List ℕ
@@ -32,8 +32,19 @@ firstCall x = runInput (set (firstLoad .memory) 9 x) 2
 abbrev pub left : ℕ → List ℕ
 left x = afterRun (layoutFrom layout) words firstSession (firstCall x) .memory
 
+abbrev pub lastCall : ℕ → RunInput
+lastCall x = runInput (set (left x) 8 x) 1000
+
 abbrev pub calls : ℕ → List RunInput
-calls x = firstCall x ∷ runInput [] 2 ∷ runInput (set (left x) 8 x) 1000 ∷ []
+calls x = firstCall x ∷ runInput [] 2 ∷ lastCall x ∷ []
+
+-- the same by both functions: hemdroas_engine_continue continues what hemdroas_engine_run began
+abbrev pub mixedCalls : ℕ → List Call
+mixedCalls x = callBy judgesAll (firstCall x) ∷ callBy judgesReached (runInput [] 2) ∷ callBy judgesReached (lastCall x) ∷ []
+
+-- spent (25), bad layout (7), no arrow (21)
+abbrev pub threeAnswers : List (List ℕ)
+threeAnswers = (25 ∷ 0 ∷ 2 ∷ 1 ∷ 0 ∷ []) ∷ (7 ∷ 0 ∷ 0 ∷ 0 ∷ 0 ∷ []) ∷ (21 ∷ 0 ∷ 2 ∷ 1 ∷ 0 ∷ []) ∷ []
 
 -- SET r0, 70; then a word of kind 13
 abbrev pub unknownWords : List ℕ
@@ -45,7 +56,10 @@ pub record SampleHolds : Type 0 where
   pub taken : refusalOf (layoutFrom layout) words (firstLoad .memory) .number ≡ 0
   pub preserved : (x : ℕ) → CallsPreserved layout words (firstLoad .memory) (calls x)
   pub alike : (x y : ℕ) → Pairwise SameInputs (calls x) (calls y)
-  pub answers : (x : ℕ) → map (λ r. r .answer) (callsOf (engineCall layout words) zeros (calls x)) ≡ (25 ∷ 0 ∷ 2 ∷ 1 ∷ 0 ∷ []) ∷ (7 ∷ 0 ∷ 0 ∷ 0 ∷ 0 ∷ []) ∷ (21 ∷ 0 ∷ 2 ∷ 1 ∷ 0 ∷ []) ∷ []
+  pub answers : (x : ℕ) → map (λ r. r .answer) (callsOf (engineCall layout words) zeros (calls x)) ≡ threeAnswers
+  -- the premise of HostEntriesMix
+  pub mixed : (x : ℕ) → EntriesPreserved (layoutFrom layout) words firstSession (mixedCalls x)
+  pub mixedAnswers : (x : ℕ) → map (λ r. r .answer) (callsOf (entryCall layout words) zeros (mixedCalls x)) ≡ threeAnswers
   -- the premise of HostUnjudgedIsolation: a call of hemdroas_engine_continue with words of which the second is no instruction
   pub unjudged : (x : ℕ) → EntriesPreserved (layoutFrom layout) unknownWords firstSession (reachedCalls (firstCall x ∷ []))
   pub faulted : (x : ℕ) → map (λ r. r .answer) (callsOf (continueCall layout unknownWords) zeros (firstCall x ∷ [])) ≡ (22 ∷ 0 ∷ 2 ∷ 0 ∷ 0 ∷ []) ∷ []
