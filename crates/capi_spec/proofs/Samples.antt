@@ -18,7 +18,7 @@ use Rattle.spec.proofs.Noninterference.{free-set}
 use Rattle.capi_spec.specs.Numbers.{layoutFrom}
 use Rattle.capi_spec.specs.Hosts.{checkFor, installFor, loadFor, runFor}
 use Rattle.capi_spec.specs.Claims.{callsOf, installed, loaded}
-use Rattle.capi_spec.specs.Sample.{layout, bytes, firstLoad, left, SampleHolds}
+use Rattle.capi_spec.specs.Sample.{layout, bytes, firstLoad, left, next, SampleHolds}
 
 pub sample-holds : SampleHolds
 unfolding ones leadingZeros layoutFrom rightLayout rightPolicy rightLandings inBox inTable inLandings protected bitsFrom landingsOf fieldsRefusal refusalAt
@@ -37,5 +37,6 @@ sample-holds =
       );
       answers = λ x. refl;
       again = λ x. installed _ refl refl;
+      againPreserved = λ x. (λ l. free-set (layoutFrom layout) (next x .memory) 8 x refl, tt);
       ended = λ x. refl;
     }

@@ -51,6 +51,10 @@ calls x = firstCall x ∷ runInput [] 6 ∷ runInput (set (left x) 8 x) 1000 ∷
 abbrev pub next : ℕ → HostInstalled
 next x = installFor layout other (left x)
 
+-- a call after it, of a thousand steps. Before it the host writes x to free cell 8
+abbrev pub nextCall : ℕ → RunInput
+nextCall x = runInput (set (next x .memory) 8 x) 1000
+
 -- for every x; so two lists with x and y satisfy the premise of HostNoninterference
 pub record SampleHolds : Type 0 where
   pub loaded : firstLoad .answer ≡ 0 ∷ 32 ∷ []
@@ -59,4 +63,5 @@ pub record SampleHolds : Type 0 where
   pub alike : (x y : ℕ) → Pairwise SameInputs (calls x) (calls y)
   pub answers : (x : ℕ) → map (λ r. r .answer) (callsOf (runCall layout (counted firstLoad)) (firstLoad .machine) (calls x)) ≡ (25 ∷ 6 ∷ 0 ∷ 0 ∷ []) ∷ (7 ∷ 0 ∷ 0 ∷ 0 ∷ []) ∷ (21 ∷ 8 ∷ 2 ∷ 0 ∷ []) ∷ []
   pub again : (x : ℕ) → Prepared layout other (left x) (counted firstLoad) (next x .machine) (next x .memory)
-  pub ended : (x : ℕ) → map (λ r. r .answer) (callsOf (runCall layout (counted firstLoad)) (next x .machine) (runInput (next x .memory) 1000 ∷ [])) ≡ (20 ∷ 17 ∷ 3 ∷ 0 ∷ []) ∷ []
+  pub againPreserved : (x : ℕ) → CallsPreserved layout (counted firstLoad) (next x .machine) (next x .memory) (nextCall x ∷ [])
+  pub ended : (x : ℕ) → map (λ r. r .answer) (callsOf (runCall layout (counted firstLoad)) (next x .machine) (nextCall x ∷ [])) ≡ (20 ∷ 17 ∷ 3 ∷ 0 ∷ []) ∷ []
