@@ -1,20 +1,22 @@
 -- The samples hold, by computation.
+use Prim.Native.Nat.{ℕ}
 use mathlib.Core.Path.{_≡_, refl}
 use mathlib.Core.Bool.{Bool}
 use mathlib.Core.List.{List, [], _∷_}
 use lib.Count.{ones, leadingZeros}
 use lib.Dec.{lit≤}
-use Rattle.spec.specs.Layouts.{rightLayout}
+use Rattle.spec.specs.Layouts.{rightLayout, inBox, inTable, inLandings, protected}
 use Rattle.spec.specs.Policies.{rightPolicy}
 use Rattle.spec.specs.Landings.{rightLandings, landingsOf}
 use Rattle.spec.specs.Words.{fieldsRefusal, refusalAt, firstRefused, instrOf, routine, bundlesFor}
 use Rattle.spec.specs.Commands.{isCommand, commandOf, wordOf, fetchOf, plainOf}
 use Rattle.spec.specs.Bundles.{shapeOf, valid, decodeBundle, bundleAt, isBundle, shapedAt, passesAt, checkFrom, checkAnswer, baseRoomAnswer, rewriteAnswer}
 use Rattle.spec.specs.Machines.{installAnswer, installMemory, installMachine, effectOf, applyOf, runOf, loopFrom}
-use Rattle.spec.specs.Runs.{Session, initialSession, runOn, afterTaken, afterRun, MemoriesPreserved, HostPremise, eachRun}
+use Rattle.spec.specs.Runs.{Session, initialSession, runOn, afterTaken, afterRun, LowEqual, MemoriesPreserved, HostPremise, eachRun}
 use Rattle.spec.proofs.Bools.{no}
+use Rattle.spec.proofs.Noninterference.{free-set}
 use Rattle.forward_spec.specs.Forward.{forwardAt, forwardFrom, forwardAnswer, checkForwardAnswer}
-use Rattle.forward_spec.specs.Sample.{layout, policy, commands, memory, runs, Answers, SampleReaches, shortCommands, oneStep, oneStepEach, fourthAlone, stepwise, Stepwise}
+use Rattle.forward_spec.specs.Sample.{layout, policy, commands, memory, written, left, runs, Answers, SampleReaches, shortCommands, oneStep, oneStepEach, fourthAlone, stepwise, Stepwise}
 
 pub answers : Answers
 unfolding ones leadingZeros rightLayout fieldsRefusal refusalAt firstRefused instrOf routine bundlesFor wordOf shapeOf valid decodeBundle bundleAt isBundle
@@ -43,9 +45,14 @@ passed : checkAnswer layout commands .number ≡ 0
 unfolding ones leadingZeros rightLayout instrOf routine bundlesFor wordOf shapeOf valid decodeBundle bundleAt isBundle shapedAt passesAt checkFrom checkAnswer
 passed = refl
 
-premise : HostPremise layout policy commands memory runs
+-- the host writes only to a free cell
+kept : (x : ℕ) (mem : List ℕ) → LowEqual layout (written x mem) mem
+unfolding inBox inTable inLandings protected
+kept x mem = free-set layout mem 5 x refl
+
+premise : (x : ℕ) → HostPremise layout policy commands memory (runs x)
 unfolding ones rightLayout rightPolicy rightLandings installAnswer eachRun
-premise = record { passed = passed; installed = refl; preserved = (λ l i s. refl, (λ l i s. refl, tt)) }
+premise x = record { passed = passed; installed = refl; preserved = (λ l. kept x (installMemory layout policy memory), (λ l. kept x (left x), tt)) }
 
 pub reaches : SampleReaches
 unfolding ones leadingZeros rightLayout rightPolicy rightLandings landingsOf fieldsRefusal refusalAt firstRefused instrOf routine bundlesFor wordOf shapeOf
@@ -56,24 +63,24 @@ reaches =
       rewritten = refl;
       forward = refl;
       premise = premise;
-      resumed = (record { memory = refl; log = lit≤ tt; readings = lit≤ tt }, (record { memory = refl; log = lit≤ tt; readings = lit≤ tt }, tt));
-      charged = lit≤ tt;
-      answers = refl;
-      reached = refl;
+      resumed = λ x. (record { memory = refl; log = lit≤ tt; readings = lit≤ tt }, (record { memory = refl; log = lit≤ tt; readings = lit≤ tt }, tt));
+      charged = λ x. lit≤ tt;
+      answers = λ x. refl;
+      reached = λ x. refl;
     }
 
--- each run of one step is lent the memory that the last one left
-lends : (c : Session) (bs : List Bool) → MemoriesPreserved layout shortCommands c (oneStepEach c bs)
+-- each run of one step is lent the memory that the last one left, except in the free cell that the host wrote
+lends : (x : ℕ) (c : Session) (bs : List Bool) → MemoriesPreserved layout shortCommands c (oneStepEach x c bs)
 unfolding eachRun
-lends c [] = tt
-lends c (b ∷ bs) = (λ l i s. refl, lends (afterRun layout shortCommands c (oneStep (c .memory) b)) bs)
+lends x c [] = tt
+lends x c (b ∷ bs) = (λ l. kept x (c .memory), lends x (afterRun layout shortCommands c (oneStep x (c .memory) b)) bs)
 
 short-passed : checkAnswer layout shortCommands .number ≡ 0
 unfolding ones leadingZeros rightLayout instrOf routine bundlesFor wordOf shapeOf valid decodeBundle bundleAt isBundle shapedAt passesAt checkFrom checkAnswer
 short-passed = refl
 
-short-premise : HostPremise layout policy shortCommands memory stepwise
-short-premise = record { passed = short-passed; installed = premise .installed; preserved = lends (initialSession layout policy memory) fourthAlone }
+short-premise : (x : ℕ) → HostPremise layout policy shortCommands memory (stepwise x)
+short-premise x = record { passed = short-passed; installed = premise x .installed; preserved = lends x (initialSession layout policy memory) fourthAlone }
 
 pub stepwise-holds : Stepwise
 unfolding ones leadingZeros rightLayout rightPolicy rightLandings landingsOf fieldsRefusal refusalAt firstRefused instrOf routine bundlesFor wordOf shapeOf
@@ -84,7 +91,7 @@ stepwise-holds =
       premise = short-premise;
       rewritten = refl;
       forward = refl;
-      resumed = (
+      resumed = λ x. (
         λ e. no e,
         (
           λ e. no e,
@@ -97,8 +104,8 @@ stepwise-holds =
           ),
         ),
       );
-      memories = (refl, (refl, (refl, (refl, (refl, (refl, (refl, (refl, (refl, (refl, tt))))))))));
-      budgets = (lit≤ tt, (lit≤ tt, (lit≤ tt, (lit≤ tt, (lit≤ tt, (lit≤ tt, (lit≤ tt, (lit≤ tt, (lit≤ tt, (lit≤ tt, tt))))))))));
-      enough = lit≤ tt;
-      answers = refl;
+      memories = λ x. (refl, (refl, (refl, (refl, (refl, (refl, (refl, (refl, (refl, (refl, tt))))))))));
+      budgets = λ x. (lit≤ tt, (lit≤ tt, (lit≤ tt, (lit≤ tt, (lit≤ tt, (lit≤ tt, (lit≤ tt, (lit≤ tt, (lit≤ tt, (lit≤ tt, tt))))))))));
+      enough = λ x. lit≤ tt;
+      answers = λ x. refl;
     }

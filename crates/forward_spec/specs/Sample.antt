@@ -71,23 +71,29 @@ memory = replicate 64 0
 abbrev pub runInput : List ℕ → RunInput
 runInput mem = record { memory = mem; budget = 100; readings = 1800 ∷ []; log = 0 ∷ 0 ∷ [] }
 
-abbrev pub firstRun : RunInput
-firstRun = runInput (installMemory layout policy memory)
+-- a memory after the host wrote x to free cell 5
+abbrev pub written : ℕ → List ℕ → List ℕ
+written x mem = set mem 5 x
 
-abbrev pub secondRun : RunInput
-secondRun = runInput (afterRun layout commands (initialSession layout policy memory) firstRun .memory)
+-- two runs. Before each the host writes x
+abbrev pub firstRun : ℕ → RunInput
+firstRun x = runInput (written x (installMemory layout policy memory))
 
-abbrev pub runs : List RunInput
-runs = firstRun ∷ secondRun ∷ []
+abbrev pub left : ℕ → List ℕ
+left x = afterRun layout commands (initialSession layout policy memory) (firstRun x) .memory
 
+abbrev pub runs : ℕ → List RunInput
+runs x = firstRun x ∷ runInput (written x (left x)) ∷ []
+
+-- for every x that the host writes
 pub record SampleReaches : Type 0 where
   pub rewritten : rewriteAnswer layout code 16 ≡ answer 0 16
   pub forward : forwardAnswer code ≡ answer 0 0
-  pub premise : HostPremise layout policy commands memory runs
-  pub resumed : Every (Resumable layout) runs
-  pub charged : mostSteps 4 ≤ stepsCharged (allRuns layout policy commands memory runs)
-  pub answers : map (λ r. r .result .outcome .answer) (allRuns layout policy commands memory runs) ≡ runAnswer LogFull 6 1 0 ∷ runAnswer Done 7 1 0 ∷ []
-  pub reached : stepsIn (allRuns layout policy commands memory runs) ≡ mostSteps 4
+  pub premise : (x : ℕ) → HostPremise layout policy commands memory (runs x)
+  pub resumed : (x : ℕ) → Every (Resumable layout) (runs x)
+  pub charged : (x : ℕ) → mostSteps 4 ≤ stepsCharged (allRuns layout policy commands memory (runs x))
+  pub answers : (x : ℕ) → map (λ r. r .result .outcome .answer) (allRuns layout policy commands memory (runs x)) ≡ runAnswer LogFull 6 1 0 ∷ runAnswer Done 7 1 0 ∷ []
+  pub reached : (x : ℕ) → stepsIn (allRuns layout policy commands memory (runs x)) ≡ mostSteps 4
 
 -- one order, so N is 2, and it takes at most five steps
 abbrev pub short : List ℕ
@@ -96,30 +102,31 @@ short = order 0 ∷ []
 abbrev pub shortCommands : List ℕ
 shortCommands = commandsOf layout short
 
--- a run with budget 1 in the memory that the last run left; `true` gives it a free pair and a reading, `false` none
-abbrev pub oneStep : List ℕ → Bool → RunInput
-oneStep mem b = record { memory = mem; budget = 1; readings = cond b (1800 ∷ []) []; log = cond b (0 ∷ 0 ∷ []) [] }
+-- a run with budget 1 in the memory that the last run left, after the host wrote x; `true` gives it a free pair and a reading, `false` none
+abbrev pub oneStep : ℕ → List ℕ → Bool → RunInput
+oneStep x mem b = record { memory = written x mem; budget = 1; readings = cond b (1800 ∷ []) []; log = cond b (0 ∷ 0 ∷ []) [] }
 
-abbrev pub oneStepEach : Session → List Bool → List RunInput
-oneStepEach c [] = []
-oneStepEach c (b ∷ bs) = oneStep (c .memory) b ∷ oneStepEach (afterRun layout shortCommands c (oneStep (c .memory) b)) bs
+abbrev pub oneStepEach : ℕ → Session → List Bool → List RunInput
+oneStepEach x c [] = []
+oneStepEach x c (b ∷ bs) = oneStep x (c .memory) b ∷ oneStepEach x (afterRun layout shortCommands c (oneStep x (c .memory) b)) bs
 
 -- the third run pauses and the fourth resumes it; the sixth ends, and four more follow
 abbrev pub fourthAlone : List Bool
 fourthAlone = false ∷ false ∷ false ∷ true ∷ replicate 6 false
 
-abbrev pub stepwise : List RunInput
-stepwise = oneStepEach (initialSession layout policy memory) fourthAlone
+abbrev pub stepwise : ℕ → List RunInput
+stepwise x = oneStepEach x (initialSession layout policy memory) fourthAlone
 
--- these runs satisfy the premises of FinishesResumed
+-- for every x these runs satisfy the premises of FinishesResumed
 pub record Stepwise : Type 0 where
-  pub premise : HostPremise layout policy shortCommands memory stepwise
+  pub premise : (x : ℕ) → HostPremise layout policy shortCommands memory (stepwise x)
   pub rewritten : rewriteAnswer layout short 8 ≡ answer 0 8
   pub forward : forwardAnswer short ≡ answer 0 0
-  pub resumed : ResumedAfter layout false (allRuns layout policy shortCommands memory stepwise)
-  pub memories : Every (λ (g : RunInput). length (g .memory) ≡ layout .size) stepwise
-  pub budgets : Every (λ (g : RunInput). 1 ≤ g .budget) stepwise
-  pub enough : 2 * mostSteps (bundlesFor (length short)) ≤ length stepwise
+  pub resumed : (x : ℕ) → ResumedAfter layout false (allRuns layout policy shortCommands memory (stepwise x))
+  pub memories : (x : ℕ) → Every (λ (g : RunInput). length (g .memory) ≡ layout .size) (stepwise x)
+  pub budgets : (x : ℕ) → Every (λ (g : RunInput). 1 ≤ g .budget) (stepwise x)
+  pub enough : (x : ℕ) → 2 * mostSteps (bundlesFor (length short)) ≤ length (stepwise x)
   pub answers :
-      map (λ r. r .result .outcome .answer) (allRuns layout policy shortCommands memory stepwise)
+      (x : ℕ) →
+      map (λ r. r .result .outcome .answer) (allRuns layout policy shortCommands memory (stepwise x))
       ≡ runAnswer Spent 1 0 0 ∷ runAnswer Spent 1 0 0 ∷ runAnswer LogFull 0 0 0 ∷ runAnswer Spent 1 1 0 ∷ runAnswer Spent 1 0 0 ∷ runAnswer Done 1 0 0 ∷ replicate 4 (runAnswer Done 0 0 0)
