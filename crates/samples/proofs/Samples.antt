@@ -17,7 +17,7 @@ use Rattle.spec.specs.Machines.{installAnswer, installMemory, installMachine, e
 use Rattle.spec.specs.Guests.{pairOf, Guest, guestOf, execEvent, execInstr, guestStep, guestAfter, guestStart}
 use Rattle.spec.specs.Runs.{Pairwise, eachRun, afterAll, begins, runOn, afterTaken, afterRun, LowEqual, HostPremise, allRuns}
 use Rattle.spec.specs.Claims.{SameInputs, SameObservations}
-use Rattle.samples.specs.Sample.{layout, policy, code, commands, memory, firstMemory, left, runs, SampleHolds}
+use Rattle.samples.specs.Sample.{layout, policy, code, commands, memory, written, firstMemory, left, runs, SampleHolds}
 use Rattle.spec.proofs.Noninterference.{free-set}
 use Rattle.spec.proofs.Isolation.{isolation}
 
@@ -25,10 +25,13 @@ passed : checkAnswer layout commands .number ≡ 0
 unfolding ones leadingZeros rightLayout instrOf routine bundlesFor wordOf shapeOf valid decodeBundle bundleAt isBundle shapedAt passesAt checkFrom checkAnswer
 passed = refl
 
--- the host wrote only to a free cell before a first run
-pub first-kept : (x : ℕ) → LowEqual layout (firstMemory x) (installMemory layout policy (memory x))
+-- the host writes only to a free cell
+pub written-kept : (x : ℕ) (mem : List ℕ) → LowEqual layout (written x mem) mem
 unfolding inBox inTable inLandings protected
-first-kept x = free-set layout (installMemory layout policy (memory x)) 650 x refl
+written-kept x mem = free-set layout mem 650 x refl
+
+pub first-kept : (x : ℕ) → LowEqual layout (firstMemory x) (installMemory layout policy (memory x))
+first-kept x = written-kept x (installMemory layout policy (memory x))
 
 premise-with : (x : ℕ) → HostPremise layout policy commands (memory x) (runs x)
 unfolding ones rightLayout rightPolicy rightLandings installAnswer inBox inTable inLandings protected afterRun eachRun

@@ -45,9 +45,13 @@ memory x = set (replicate 1024 0) 700 x
 abbrev pub runInput : List ℕ → ℕ → ℕ → RunInput
 runInput mem budget old = record { memory = mem; budget = budget; readings = 1800 ∷ 1950 ∷ 2100 ∷ []; log = replicate 64 old }
 
--- the memory lent to a first run: before it the host wrote x to free cell 650 of the memory that installing left
+-- a memory after the host wrote x to free cell 650
+abbrev pub written : ℕ → List ℕ → List ℕ
+written x mem = set mem 650 x
+
+-- the memory lent to a first run
 abbrev pub firstMemory : ℕ → List ℕ
-firstMemory x = set (installMemory layout policy (memory x)) 650 x
+firstMemory x = written x (installMemory layout policy (memory x))
 
 -- three runs. The first has six steps. The second has a memory that is too short.
 -- Before the third, of a thousand steps, the host writes x to free cell 600

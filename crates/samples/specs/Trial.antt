@@ -2,7 +2,7 @@
 use Prim.Native.Nat.{ℕ, zero, suc}
 use mathlib.Core.Path.{_≡_}
 use mathlib.Core.List.{List, [], _∷_}
-use lib.ListN.{getD, set, take, replicate}
+use lib.ListN.{getD, take, replicate}
 use Rattle.types.specs.Names.{mostBundles, mostCommands, answer, endingNumber}
 use Rattle.spec.specs.Policies.{Policy, policyOf}
 use Rattle.spec.specs.Machines.{RunResult}
@@ -10,7 +10,7 @@ use Rattle.spec.specs.Guests.{pairOf}
 use Rattle.spec.specs.Runs.{RunInput, pairsOf, MemoriesPreserved, runOn}
 use Rattle.sandbox_spec.specs.Loading.{loadAnswer, loadCommands, loadMemory}
 use Rattle.sandbox_spec.specs.Claims.{loadedAt}
-use Rattle.samples.specs.Sample.{layout, policy as samplePolicy}
+use Rattle.samples.specs.Sample.{layout, policy as samplePolicy, written}
 
 -- n numbers from x on
 abbrev pub upFrom : ℕ → ℕ → List ℕ
@@ -35,12 +35,12 @@ abbrev pub commands : List ℕ
 commands =
     take (loadAnswer layout policy input mostCommands memory .place) (loadCommands layout policy input (replicate mostCommands 0) memory)
 
--- 'readings 1800, 1950, 2100; log 64 cells; budget 1,000'. Before the run the host writes x to free cell 650, which holds 0:
+-- 'readings 1800, 1950, 2100; log 64 cells; budget 1,000'. Before the run the host writes x to a free cell, which holds 0:
 -- `trial` writes nothing, so its run has x = 0
 abbrev pub runInput : ℕ → RunInput
 runInput x =
     record {
-      memory = set (loadMemory layout policy input mostCommands memory) 650 x;
+      memory = written x (loadMemory layout policy input mostCommands memory);
       budget = 1000;
       readings = 1800 ∷ 1950 ∷ 2100 ∷ [];
       log = replicate 64 0;

@@ -1,11 +1,10 @@
 -- The premises can be met, and the definitions compute.
 use Prim.Native.Nat.{ℕ, zero, suc, _<_, _≤_}
-use mathlib.Core.Path.{_≡_, refl, ap}
+use mathlib.Core.Path.{_≡_, refl}
 use mathlib.Core.List.{List, [], _∷_}
 use native.Mathlib.Omega.{arith}
 use lib.Count.{ones, leadingZeros}
 use lib.Dec.{lit<, lit≤}
-use lib.ListN.{getD}
 use Rattle.types.specs.declared.Status.the-variants.{Running, Ended}
 use Rattle.spec.specs.Layouts.{rightLayout, inBox}
 use Rattle.spec.specs.Policies.{rightPolicy}
@@ -14,9 +13,10 @@ use Rattle.spec.specs.Words.{fieldsRefusal, refusalAt, firstRefused, instrOf, r
 use Rattle.spec.specs.Commands.{isCommand, commandOf, wordOf, fetchOf, plainOf}
 use Rattle.spec.specs.Bundles.{shapeOf, valid, decodeBundle, bundleAt, isBundle, shapedAt, passesAt, checkFrom, checkAnswer, baseRoomAnswer, rewriteAnswer}
 use Rattle.spec.specs.Machines.{isLanding, installAnswer, installMemory, installMachine, effectOf, applyOf, runOf, loopFrom}
-use Rattle.spec.specs.Runs.{RunInput, begins, runOn, afterTaken, afterRun, after, HostPremise, eachRun, afterAll}
+use Rattle.spec.specs.Runs.{RunInput, begins, runOn, afterTaken, afterRun, after, LowEqual, MemoryPreserved, HostPremise, eachRun, afterAll}
 use Rattle.spec.specs.Claims.{Waiting}
-use Rattle.samples.specs.Sample.{layout}
+use Rattle.samples.specs.Sample.{layout, written}
+use Rattle.samples.proofs.Samples.{written-kept}
 use Rattle.engine_spec.specs.Engines.{checkedEvent, instrEffect, instrEffectAt, withState, applyEffect, refusalOf, refusalBy, runOf as engineRunOf}
 use Rattle.engine_spec.specs.Claims.{runOn as engineOn, afterTaken as engineTaken, afterRun as engineRun, after as engineAfter}
 use Rattle.transparency.specs.Raw.{rawEvent, rawExec, rawStep, rawAfter, Behaves}
@@ -31,9 +31,13 @@ installed : installAnswer layout policy memory .number ≡ 0
 unfolding ones rightLayout rightPolicy rightLandings installAnswer
 installed = refl
 
-premise : (g : RunInput) → g .memory ≡ installMemory layout policy memory → HostPremise layout policy commands memory (g ∷ [])
+-- before a first run the host writes only to a free cell
+kept : (x : ℕ) → LowEqual layout (written x (installMemory layout policy memory)) (installMemory layout policy memory)
+kept x = written-kept x (installMemory layout policy memory)
+
+premise : (g : RunInput) → MemoryPreserved layout (installMemory layout policy memory) g → HostPremise layout policy commands memory (g ∷ [])
 unfolding eachRun
-premise g e = record { passed = passed; installed = installed; preserved = (λ l i s. ap (λ (m : List ℕ). getD m i 0) e, tt) }
+premise g e = record { passed = passed; installed = installed; preserved = (e, tt) }
 
 behaves : (j : ℕ) → j < 8 → rawAt j .status ≡ Running → Behaves layout policy 16 (routine code (rawAt j .at)) (rawAt j)
 unfolding instrOf routine plainOf rawEvent rawExec rawStep rawAfter inBox
@@ -57,20 +61,20 @@ unfolding ones leadingZeros rightLayout fieldsRefusal refusalAt firstRefused bun
 rewritten = refl
 
 -- the machine, to its end and to the pause
-record MachineHolds : Type 0 where
-  begun : after layout policy commands memory (run ∷ []) .begun ≡ 8
-  over : after layout policy commands memory (run ∷ []) .machine .status ≡ Ended
-  used : IsPrefix (after layout policy commands memory (run ∷ []) .consumed) readings
-  pausedBegun : after layout policy commands memory (pausedRun ∷ []) .begun ≡ 7
-  waiting : Waiting layout commands (after layout policy commands memory (pausedRun ∷ []) .machine)
-  pausedUsed : IsPrefix (after layout policy commands memory (pausedRun ∷ []) .consumed) readings
-  resumable : let c = after layout policy commands memory (pausedRun ∷ []) in ResumableAsRaw layout (c .memory) (c .consumed) readings resumedRun
+record MachineHolds (x : ℕ) : Type 0 where
+  begun : after layout policy commands memory (run x ∷ []) .begun ≡ 8
+  over : after layout policy commands memory (run x ∷ []) .machine .status ≡ Ended
+  used : IsPrefix (after layout policy commands memory (run x ∷ []) .consumed) readings
+  pausedBegun : after layout policy commands memory (pausedRun x ∷ []) .begun ≡ 7
+  waiting : Waiting layout commands (after layout policy commands memory (pausedRun x ∷ []) .machine)
+  pausedUsed : IsPrefix (after layout policy commands memory (pausedRun x ∷ []) .consumed) readings
+  resumable : let c = after layout policy commands memory (pausedRun x ∷ []) in ResumableAsRaw layout (c .memory) (c .consumed) readings (resumedRun x)
 
-machine-holds : MachineHolds
+machine-holds : (x : ℕ) → MachineHolds x
 unfolding ones leadingZeros rightLayout rightPolicy rightLandings bitsFrom landingsOf marked instrOf routine bundlesFor wordOf shapeOf decodeBundle bundleAt
     isCommand commandOf fetchOf plainOf isLanding installAnswer installMemory installMachine effectOf applyOf loopFrom runOf begins runOn afterTaken afterRun
     afterAll
-machine-holds =
+machine-holds x =
     record {
       begun = refl;
       over = refl;
@@ -78,24 +82,24 @@ machine-holds =
       pausedBegun = refl;
       waiting = record { running = refl; event = 8; third = refl };
       pausedUsed = λ i h. absurd (omega (arith, h));
-      resumable = record { preserved = λ l i s. refl; resumable = record { memory = refl; log = lit≤ tt; readings = lit≤ tt }; reading = refl };
+      resumable = record { preserved = λ l. written-kept x (after layout policy commands memory (pausedRun x ∷ []) .memory); resumable = record { memory = refl; log = lit≤ tt; readings = lit≤ tt }; reading = refl };
     }
 
 -- and the engine
-record EngineHolds : Type 0 where
+record EngineHolds (x : ℕ) : Type 0 where
   taken : refusalOf layout code memory .number ≡ 0
-  counted : engineAfter layout policy code memory (run ∷ []) .counted ≡ 8
-  over : engineAfter layout policy code memory (run ∷ []) .engine .status ≡ Ended
-  used : IsPrefix (engineAfter layout policy code memory (run ∷ []) .consumed) readings
-  pausedCounted : engineAfter layout policy code memory (pausedRun ∷ []) .counted ≡ 6
-  pausedUsed : IsPrefix (engineAfter layout policy code memory (pausedRun ∷ []) .consumed) readings
-  resumable : let c = engineAfter layout policy code memory (pausedRun ∷ []) in ResumableAsRaw layout (c .memory) (c .consumed) readings engineResumedRun
+  counted : engineAfter layout policy code memory (run x ∷ []) .counted ≡ 8
+  over : engineAfter layout policy code memory (run x ∷ []) .engine .status ≡ Ended
+  used : IsPrefix (engineAfter layout policy code memory (run x ∷ []) .consumed) readings
+  pausedCounted : engineAfter layout policy code memory (pausedRun x ∷ []) .counted ≡ 6
+  pausedUsed : IsPrefix (engineAfter layout policy code memory (pausedRun x ∷ []) .consumed) readings
+  resumable : let c = engineAfter layout policy code memory (pausedRun x ∷ []) in ResumableAsRaw layout (c .memory) (c .consumed) readings (engineResumedRun x)
 
-engine-holds : EngineHolds
+engine-holds : (x : ℕ) → EngineHolds x
 unfolding ones leadingZeros rightLayout rightPolicy rightLandings bitsFrom landingsOf marked fieldsRefusal refusalAt firstRefused instrOf routine bundlesFor
     plainOf installAnswer installMemory applyOf checkedEvent instrEffect instrEffectAt withState applyEffect loopFrom refusalBy engineRunOf engineOn
     engineTaken engineRun afterAll
-engine-holds =
+engine-holds x =
     record {
       taken = refl;
       counted = refl;
@@ -103,7 +107,7 @@ engine-holds =
       used = λ i h. refl;
       pausedCounted = refl;
       pausedUsed = λ i h. absurd (omega (arith, h));
-      resumable = record { preserved = λ l i s. refl; resumable = record { memory = refl; log = lit≤ tt; readings = lit≤ tt }; reading = refl };
+      resumable = record { preserved = λ l. written-kept x (engineAfter layout policy code memory (pausedRun x ∷ []) .memory); resumable = record { memory = refl; log = lit≤ tt; readings = lit≤ tt }; reading = refl };
     }
 
 pub sample-holds : SampleHolds
@@ -112,23 +116,23 @@ sample-holds =
     let m = machine-holds in
     let e = engine-holds in
     record {
-      sandboxed = record { taken = rewritten; premise = premise run refl; behaved = behaved _ 8 (lit≤ tt) (m .used) };
-      begun = m .begun;
-      over = m .over;
+      sandboxed = λ x. record { taken = rewritten; premise = premise (run x) (λ l. kept x); behaved = behaved _ 8 (lit≤ tt) (m x .used) };
+      begun = λ x. m x .begun;
+      over = λ x. m x .over;
       recorded = refl;
       ended = refl;
-      pausedSandboxed = record { taken = rewritten; premise = premise pausedRun refl; behaved = behaved _ 6 (lit≤ tt) (m .pausedUsed) };
-      pausedBegun = m .pausedBegun;
-      waiting = m .waiting;
-      resumedSandboxed = record { taken = rewritten; premise = premise pausedRun refl; behaved = behaved _ 7 (lit≤ tt) (m .pausedUsed) };
-      resumable = m .resumable;
-      enginePremise = record { taken = e .taken; installed = installed; preserved = (λ l i s. refl, tt) };
-      engineBehaved = behaved _ 8 (lit≤ tt) (e .used);
-      counted = e .counted;
-      engineOver = e .over;
-      enginePausedPremise = record { taken = e .taken; installed = installed; preserved = (λ l i s. refl, tt) };
-      enginePausedCounted = e .pausedCounted;
-      enginePausedBehaved = behaved _ 7 (lit≤ tt) (e .pausedUsed);
+      pausedSandboxed = λ x. record { taken = rewritten; premise = premise (pausedRun x) (λ l. kept x); behaved = behaved _ 6 (lit≤ tt) (m x .pausedUsed) };
+      pausedBegun = λ x. m x .pausedBegun;
+      waiting = λ x. m x .waiting;
+      resumedSandboxed = λ x. record { taken = rewritten; premise = premise (pausedRun x) (λ l. kept x); behaved = behaved _ 7 (lit≤ tt) (m x .pausedUsed) };
+      resumable = λ x. m x .resumable;
+      enginePremise = λ x. record { taken = e x .taken; installed = installed; preserved = (λ l. kept x, tt) };
+      engineBehaved = λ x. behaved _ 8 (lit≤ tt) (e x .used);
+      counted = λ x. e x .counted;
+      engineOver = λ x. e x .over;
+      enginePausedPremise = λ x. record { taken = e x .taken; installed = installed; preserved = (λ l. kept x, tt) };
+      enginePausedCounted = λ x. e x .pausedCounted;
+      enginePausedBehaved = λ x. behaved _ 7 (lit≤ tt) (e x .pausedUsed);
       rawGoesOn = refl;
-      engineResumable = e .resumable;
+      engineResumable = λ x. e x .resumable;
     }

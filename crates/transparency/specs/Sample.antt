@@ -11,7 +11,7 @@ use Rattle.spec.specs.Machines.{installMemory}
 use Rattle.spec.specs.Guests.{pairOf}
 use Rattle.spec.specs.Runs.{RunInput, after}
 use Rattle.spec.specs.Claims.{Waiting}
-use Rattle.samples.specs.Sample.{layout}
+use Rattle.samples.specs.Sample.{layout, written}
 use Rattle.engine_spec.specs.Claims.{HostPremise as EnginePremise, after as engineAfter}
 use Rattle.transparency.specs.Raw.{Raw, rawRun}
 use Rattle.transparency.specs.Claims.{Behaved, Sandboxed, ResumableAsRaw}
@@ -35,45 +35,46 @@ memory = replicate 1024 0
 abbrev pub readings : List ℕ
 readings = 1800 ∷ []
 
-abbrev pub run : RunInput
-run = record { memory = installMemory layout policy memory; budget = 1000; readings = readings; log = replicate 4 0 }
+-- before each run the host writes x to a free cell
+abbrev pub run : ℕ → RunInput
+run x = record { memory = written x (installMemory layout policy memory); budget = 1000; readings = readings; log = replicate 4 0 }
 
 -- the raw run after k instructions
 abbrev pub rawAt : ℕ → Raw
 rawAt k = rawRun layout code memory readings k
 
 -- with a log of one pair the machine waits at the second event
-abbrev pub pausedRun : RunInput
-pausedRun = record { memory = installMemory layout policy memory; budget = 1000; readings = readings; log = replicate 2 0 }
+abbrev pub pausedRun : ℕ → RunInput
+pausedRun x = record { memory = written x (installMemory layout policy memory); budget = 1000; readings = readings; log = replicate 2 0 }
 
 -- and this run resumes it
-abbrev pub resumedRun : RunInput
-resumedRun = record { memory = after layout policy commands memory (pausedRun ∷ []) .memory; budget = 1000; readings = readings; log = replicate 2 0 }
+abbrev pub resumedRun : ℕ → RunInput
+resumedRun x = record { memory = written x (after layout policy commands memory (pausedRun x ∷ []) .memory); budget = 1000; readings = readings; log = replicate 2 0 }
 
 -- the engine waits there too, and this run resumes it
-abbrev pub engineResumedRun : RunInput
-engineResumedRun = record { memory = engineAfter layout policy code memory (pausedRun ∷ []) .memory; budget = 1000; readings = readings; log = replicate 2 0 }
+abbrev pub engineResumedRun : ℕ → RunInput
+engineResumedRun x = record { memory = written x (engineAfter layout policy code memory (pausedRun x ∷ []) .memory); budget = 1000; readings = readings; log = replicate 2 0 }
 
--- the premises of Transparent are met: the sandboxed run ends after eight bundles, the raw run after eight instructions.
+-- for every x that the host writes, the premises of Transparent are met: the sandboxed run ends after eight bundles, the raw run after eight instructions.
 -- The premises of TransparentPaused and TransparentResumed are met with seven bundles begun. Those of EngineTransparent are met too, and at the pause
 -- those of EngineTransparentStep
 pub record SampleHolds : Type 0 where
-  pub sandboxed : Sandboxed layout policy code memory memory readings 64 (run ∷ []) 8
-  pub begun : after layout policy commands memory (run ∷ []) .begun ≡ 8
-  pub over : after layout policy commands memory (run ∷ []) .machine .status ≡ Ended
+  pub sandboxed : (x : ℕ) → Sandboxed layout policy code memory memory readings 64 (run x ∷ []) 8
+  pub begun : (x : ℕ) → after layout policy commands memory (run x ∷ []) .begun ≡ 8
+  pub over : (x : ℕ) → after layout policy commands memory (run x ∷ []) .machine .status ≡ Ended
   pub recorded : rawAt 8 .records ≡ pairOf 0 6 ∷ pairOf 8 1800 ∷ []
   pub ended : rawAt 8 .status ≡ Ended
-  pub pausedSandboxed : Sandboxed layout policy code memory memory readings 64 (pausedRun ∷ []) 6
-  pub pausedBegun : after layout policy commands memory (pausedRun ∷ []) .begun ≡ 7
-  pub waiting : Waiting layout commands (after layout policy commands memory (pausedRun ∷ []) .machine)
-  pub resumedSandboxed : Sandboxed layout policy code memory memory readings 64 (pausedRun ∷ []) 7
-  pub resumable : let c = after layout policy commands memory (pausedRun ∷ []) in ResumableAsRaw layout (c .memory) (c .consumed) readings resumedRun
-  pub enginePremise : EnginePremise layout policy code memory (run ∷ [])
-  pub engineBehaved : Behaved layout policy code memory memory (engineAfter layout policy code memory (run ∷ []) .consumed) readings 8
-  pub counted : engineAfter layout policy code memory (run ∷ []) .counted ≡ 8
-  pub engineOver : engineAfter layout policy code memory (run ∷ []) .engine .status ≡ Ended
-  pub enginePausedPremise : EnginePremise layout policy code memory (pausedRun ∷ [])
-  pub enginePausedCounted : engineAfter layout policy code memory (pausedRun ∷ []) .counted ≡ 6
-  pub enginePausedBehaved : Behaved layout policy code memory memory (engineAfter layout policy code memory (pausedRun ∷ []) .consumed) readings 7
+  pub pausedSandboxed : (x : ℕ) → Sandboxed layout policy code memory memory readings 64 (pausedRun x ∷ []) 6
+  pub pausedBegun : (x : ℕ) → after layout policy commands memory (pausedRun x ∷ []) .begun ≡ 7
+  pub waiting : (x : ℕ) → Waiting layout commands (after layout policy commands memory (pausedRun x ∷ []) .machine)
+  pub resumedSandboxed : (x : ℕ) → Sandboxed layout policy code memory memory readings 64 (pausedRun x ∷ []) 7
+  pub resumable : (x : ℕ) → let c = after layout policy commands memory (pausedRun x ∷ []) in ResumableAsRaw layout (c .memory) (c .consumed) readings (resumedRun x)
+  pub enginePremise : (x : ℕ) → EnginePremise layout policy code memory (run x ∷ [])
+  pub engineBehaved : (x : ℕ) → Behaved layout policy code memory memory (engineAfter layout policy code memory (run x ∷ []) .consumed) readings 8
+  pub counted : (x : ℕ) → engineAfter layout policy code memory (run x ∷ []) .counted ≡ 8
+  pub engineOver : (x : ℕ) → engineAfter layout policy code memory (run x ∷ []) .engine .status ≡ Ended
+  pub enginePausedPremise : (x : ℕ) → EnginePremise layout policy code memory (pausedRun x ∷ [])
+  pub enginePausedCounted : (x : ℕ) → engineAfter layout policy code memory (pausedRun x ∷ []) .counted ≡ 6
+  pub enginePausedBehaved : (x : ℕ) → Behaved layout policy code memory memory (engineAfter layout policy code memory (pausedRun x ∷ []) .consumed) readings 7
   pub rawGoesOn : rawAt 6 .status ≡ Running
-  pub engineResumable : let c = engineAfter layout policy code memory (pausedRun ∷ []) in ResumableAsRaw layout (c .memory) (c .consumed) readings engineResumedRun
+  pub engineResumable : (x : ℕ) → let c = engineAfter layout policy code memory (pausedRun x ∷ []) in ResumableAsRaw layout (c .memory) (c .consumed) readings (engineResumedRun x)
