@@ -28,5 +28,6 @@ trial-holds =
       ending = λ x. refl;
       steps = λ x. refl;
       state = λ x. refl;
+      unwritten = refl;
       preserved = λ x. (λ l. written-kept x (loadMemory layout policy input mostCommands memory), tt);
     }

@@ -35,8 +35,8 @@ abbrev pub commands : List ℕ
 commands =
     take (loadAnswer layout policy input mostCommands memory .place) (loadCommands layout policy input (replicate mostCommands 0) memory)
 
--- 'readings 1800, 1950, 2100; log 64 cells; budget 1,000'. Before the run the host writes x to a free cell, which holds 0:
--- `trial` writes nothing, so its run has x = 0
+-- 'readings 1800, 1950, 2100; log 64 cells; budget 1,000'. Before the run the host writes x to a free cell.
+-- `trial` writes nothing there. The cell holds 0, so its run has x = 0
 abbrev pub runInput : ℕ → RunInput
 runInput x =
     record {
@@ -56,4 +56,5 @@ pub record TrialHolds : Type 0 where
   pub ending : (x : ℕ) → endingNumber (runResult x .outcome .answer .ending) ≡ 21
   pub steps : (x : ℕ) → runResult x .outcome .answer .steps ≡ 14
   pub state : (x : ℕ) → getD (runResult x .mem) (layout .cell) 0 ≡ 1
+  pub unwritten : runInput 0 .memory ≡ loadMemory layout policy input mostCommands memory
   pub preserved : (x : ℕ) → MemoriesPreserved layout commands (loadedAt layout policy input mostCommands memory) (runInput x ∷ [])
