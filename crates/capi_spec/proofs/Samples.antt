@@ -27,16 +27,17 @@ unfolding ones leadingZeros layoutFrom rightLayout rightPolicy rightLandings inB
     installMachine translateAnswer loadAnswer loadCommands loadMemory loadMachine effectOf applyOf loopFrom runOf runOn afterTaken afterRun checkFor installFor
     loadFor runFor callsOf eachRun
 sample-holds =
+    let l = layoutFrom layout in
     record {
       loaded = refl;
       ready = loaded bytes (replicate 40 0) refl;
-      preserved = λ x. (λ l. free-set (layoutFrom layout) (firstLoad .memory) 9 x refl, (λ l. absurd (let z : _≡_ {A = ℕ} 0 128 = l in omega arith), (λ l. free-set (layoutFrom layout) (left x) 8 x refl, tt)));
+      preserved = λ x. (λ _. free-set l (firstLoad .memory) 9 x refl, (λ e. absurd (let z : _≡_ {A = ℕ} 0 128 = e in omega arith), (λ _. free-set l (left x) 8 x refl, tt)));
       alike = λ x y. (
         record { readings = refl; budget = refl; log = refl; memory = refl },
         (record { readings = refl; budget = refl; log = refl; memory = refl }, (record { readings = refl; budget = refl; log = refl; memory = refl }, tt)),
       );
       answers = λ x. refl;
       again = λ x. installed _ refl refl;
-      againPreserved = λ x. (λ l. free-set (layoutFrom layout) (next x .memory) 8 x refl, tt);
+      againPreserved = λ x. (λ _. free-set l (next x .memory) 8 x refl, tt);
       ended = λ x. refl;
     }

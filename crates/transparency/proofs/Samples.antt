@@ -82,7 +82,12 @@ machine-holds x =
       pausedBegun = refl;
       waiting = record { running = refl; event = 8; third = refl };
       pausedUsed = λ i h. absurd (omega (arith, h));
-      resumable = record { preserved = λ l. written-kept x (after layout policy commands memory (pausedRun x ∷ []) .memory); resumable = record { memory = refl; log = lit≤ tt; readings = lit≤ tt }; reading = refl };
+      resumable =
+          record {
+            preserved = λ l. written-kept x (after layout policy commands memory (pausedRun x ∷ []) .memory);
+            resumable = record { memory = refl; log = lit≤ tt; readings = lit≤ tt };
+            reading = refl;
+          };
     }
 
 -- and the engine
@@ -107,7 +112,12 @@ engine-holds x =
       used = λ i h. refl;
       pausedCounted = refl;
       pausedUsed = λ i h. absurd (omega (arith, h));
-      resumable = record { preserved = λ l. written-kept x (engineAfter layout policy code memory (pausedRun x ∷ []) .memory); resumable = record { memory = refl; log = lit≤ tt; readings = lit≤ tt }; reading = refl };
+      resumable =
+          record {
+            preserved = λ l. written-kept x (engineAfter layout policy code memory (pausedRun x ∷ []) .memory);
+            resumable = record { memory = refl; log = lit≤ tt; readings = lit≤ tt };
+            reading = refl;
+          };
     }
 
 pub sample-holds : SampleHolds
