@@ -36,9 +36,10 @@ module _ (s q : ℕ) (t : List ℕ) (known : Bool) (e : known ≡ statesRight s)
   abbrev numbers : Bool
   numbers = known && eqb (length t) (events * s) && ltb q s
 
-  pub entries-ready : numbers ≡ true → (1 ≤ s) × (s ≤ mostStates) × (length t ≡ events * s)
-  entries-ready h =
-      let sized = both known (eqb (length t) (events * s)) (both (known && eqb (length t) (events * s)) (ltb q s) h .0) in
+  -- without the test of the start
+  pub entries-ready : (start : Bool) → (known && eqb (length t) (events * s) && start) ≡ true → (1 ≤ s) × (s ≤ mostStates) × (length t ≡ events * s)
+  entries-ready start h =
+      let sized = both known (eqb (length t) (events * s)) (both (known && eqb (length t) (events * s)) start h .0) in
       let range = both (leb 1 s) (leb s mostStates) (sym e ∙ sized .0) in
       (leb-true 1 s (range .0), leb-true s mostStates (range .1), eqb-true (length t) (events * s) (sized .1))
 

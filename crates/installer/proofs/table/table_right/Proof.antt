@@ -8,7 +8,7 @@ entries-right-requires : tie.Need-entries-right-requires
 entries-right-requires c κs =
     let known = c .before .before in
     let start = known .before .before in
-    entries-ready _ (start .args .policy .start) (now (start .args .table)) _ (known .states-right .ensures) (c .if1 .taken)
+    entries-ready _ (start .args .policy .start) (now (start .args .table)) _ (known .states-right .ensures) _ (c .if1 .taken)
 
 returns : tie.Need-returns
 returns c = search (entries-decide, needs)
