@@ -23,7 +23,7 @@ use words::fields::v_field;
 ghost use mathlib.Core.Path.{_≡_};
 ghost use mathlib.Core.Bool.{true};
 ghost use Prim.Native.Nat.{_+_};
-ghost use lib.ListN.{length};
+ghost use lib.ListN.{length, getD};
 ghost use Rattle.spec.specs.Machines.{viewOf};
 ghost use Rattle.engine_step.specs.fetch.Fetched.{IndexedWords, LastIndex, FetchedFields, fetchedEffect};
 ghost use Rattle.engine_spec.specs.Engines.{Holds};
@@ -40,7 +40,8 @@ fn instruction_effect(
     memory: &[u32],
     supplies: Supplies,
 ) -> Effect
-    requires { ⌜ FetchedFields w × LastIndex top × Holds layout (length (now memory)) ⌝ }
+    requires { ⌜ FetchedFields w × LastIndex top × Holds layout (length (now memory))
+        × (supplies .state ≡ getD (now memory) (layout .cell) 0) ⌝ }
     ensures { λ r. ⌜ r ≡ fetchedEffect layout (top + 1) w (viewOf (now (regs .entry)) at (now (memory .entry)) (layout .cell) (layout .table)
         (layout .base) (layout .landings) (supplies .free) (supplies .left)) ⌝ }
 {
@@ -96,7 +97,8 @@ pub fn next_effect(
     memory: &[u32],
     supplies: Supplies,
 ) -> Effect
-    requires { ⌜ IndexedWords (now words) top × (isInstructionAt (now words) at ≡ true) × Holds layout (length (now memory)) ⌝ }
+    requires { ⌜ IndexedWords (now words) top × (isInstructionAt (now words) at ≡ true) × Holds layout (length (now memory))
+        × (supplies .state ≡ getD (now memory) (layout .cell) 0) ⌝ }
     ensures { λ r. ⌜ r ≡ reachedEffect layout (now (words .entry)) (viewOf (now (regs .entry)) at (now (memory .entry)) (layout .cell)
         (layout .table) (layout .base) (layout .landings) (supplies .free) (supplies .left)) ⌝ }
 {

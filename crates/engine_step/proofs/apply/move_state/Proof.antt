@@ -1,5 +1,5 @@
 use borrow.Author.Needs.{needs}
-use Rattle.engine_step.proofs.apply.Laws.{kept}
+use Rattle.engine_step.proofs.apply.Laws.{entry-in, kept, mirrors}
 use Rattle.engine_step.proofs.apply.move_state.Statement.{statement}
 use Rattle.engine_step.proofs.apply.move_state.Tie as tie
 
@@ -12,4 +12,4 @@ move-state-spec =
     (λ c. search needs)
     (λ c κs. search needs)
     (λ c. search needs)
-    (λ c. search (kept, needs)))
+    (λ c. search (entry-in, kept, mirrors, needs)))

@@ -1,4 +1,5 @@
 use borrow.Author.Needs.{needs}
+use Rattle.engine_step.proofs.apply.Laws.{reads-register, reads-pair}
 use Rattle.engine_step.proofs.apply.probe.Statement.{statement}
 use Rattle.engine_step.proofs.apply.probe.Tie as tie
 
@@ -8,5 +9,6 @@ probe-spec =
     (tie.spec
     (λ c κs. search needs)
     (λ c κs. search needs)
+    (λ c κs. search needs)
     (λ c. search needs)
-    (λ c. let r = c .before .before .before .before .read .ensures in (simp (c .set-register .ensures, r .0), r .1)))
+    (λ c. search (reads-register, reads-pair, needs)))
