@@ -2,7 +2,7 @@
  * Times the proved machine beside machine.c: ns a step, medians of interleaved
  * rounds. Each round also compares what the two leave.
  *
- *   bench [ROUNDS [ROUTINE [passes|fails]]]    ROUTINE is arith, events or gox
+ *   bench [ROUNDS [ROUTINE [passes|fails]]]    ROUTINE is arith, events, gox or slices
  */
 #include "bench.h"
 
@@ -140,7 +140,7 @@ int main(int argc, char **argv) {
         }
         printf(first > 1 ? "a list that passes:\n" : "a list that does not pass:\n");
         measure("arith", 64, 0, rounds);
-        if (first > 1 && !only) slices(rounds);
+        if (first > 1 && (!only || !strcmp(only, "slices"))) slices(rounds);
 
         /* an order and a reading in each turn */
         counted(4);
