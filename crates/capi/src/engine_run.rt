@@ -15,12 +15,12 @@ ghost use Rattle.capi_spec.specs.Hosts.{hostResult};
 ghost use Rattle.capi_spec.specs.engine.Records.{engineFrom, engineTo, engineFor, continueFor};
 
 // How many numbers a record and an answer have.
-pub const RECORD: usize = Engine::REGISTERS + TRAILER;
+pub const ENGINE_RECORD: usize = Engine::REGISTERS + TRAILER;
 
-pub const ANSWER: usize = 5;
+pub const ENGINE_ANSWER: usize = 5;
 
 // Makes an engine from a record's numbers.
-fn engine_of(xs: [u32; RECORD]) -> Engine
+fn engine_of(xs: [u32; ENGINE_RECORD]) -> Engine
     ensures { λ r. ⌜ r ≡ engineFrom xs ⌝ }
 {
     let mut regs = [0u32; Engine::REGISTERS];
@@ -33,7 +33,7 @@ fn engine_of(xs: [u32; RECORD]) -> Engine
 }
 
 // The record's numbers after a run that left this engine. If their status is invalid, they stay as they were.
-fn record_after(m: Engine, mut xs: [u32; RECORD]) -> [u32; RECORD]
+fn record_after(m: Engine, mut xs: [u32; ENGINE_RECORD]) -> [u32; ENGINE_RECORD]
     ensures { λ r. ⌜ r ≡ numbersAfter guestRegisters xs (engineTo m) ⌝ }
 {
     let status = m.status;
@@ -41,7 +41,7 @@ fn record_after(m: Engine, mut xs: [u32; RECORD]) -> [u32; RECORD]
     xs
 }
 
-fn answer_of(a: Answer, steps: u32, pairs: usize, used: usize) -> [u32; ANSWER]
+fn engine_answer_of(a: Answer, steps: u32, pairs: usize, used: usize) -> [u32; ENGINE_ANSWER]
     requires { ⌜ (a .place < 2 ^ 32) × (pairs < 2 ^ 32) × (used < 2 ^ 32) ⌝ }
     ensures { λ r. ⌜ r ≡ a .number ∷ a .place ∷ steps ∷ pairs ∷ used ∷ [] ⌝ }
 {
@@ -59,12 +59,12 @@ fn answer_of(a: Answer, steps: u32, pairs: usize, used: usize) -> [u32; ANSWER]
 pub extern "C" fn hemdroas_engine_run(
     layout: &[u32; LAYOUT],
     words: &[u64],
-    engine: &mut [u32; RECORD],
+    engine: &mut [u32; ENGINE_RECORD],
     memory: &mut [u32],
     budget: u32,
     readings: &[u32],
     log: &mut [u32],
-    answer: &mut [u32; ANSWER],
+    answer: &mut [u32; ENGINE_ANSWER],
 )
     ensures { λ _. ⌜ hostResult (now (answer .exit)) (now (engine .exit)) (now (memory .exit)) (now (log .exit))
         ≡ engineFor (now (layout .entry)) (now (words .entry)) (now (engine .entry)) (now (memory .entry)) budget (now (readings .entry))
@@ -75,7 +75,7 @@ pub extern "C" fn hemdroas_engine_run(
     let m = engine_of(given);
     let out = engine::run(lay, words, m, memory, budget, readings, log);
     *engine = record_after(out.engine, given);
-    *answer = answer_of(out.answer, out.steps, out.pairs, out.used);
+    *answer = engine_answer_of(out.answer, out.steps, out.pairs, out.used);
 }
 
 // Runs guest words without testing all of them first. Each is tested when it is reached; one that is no instruction faults.
@@ -83,12 +83,12 @@ pub extern "C" fn hemdroas_engine_run(
 pub extern "C" fn hemdroas_engine_continue(
     layout: &[u32; LAYOUT],
     words: &[u64],
-    engine: &mut [u32; RECORD],
+    engine: &mut [u32; ENGINE_RECORD],
     memory: &mut [u32],
     budget: u32,
     readings: &[u32],
     log: &mut [u32],
-    answer: &mut [u32; ANSWER],
+    answer: &mut [u32; ENGINE_ANSWER],
 )
     ensures { λ _. ⌜ hostResult (now (answer .exit)) (now (engine .exit)) (now (memory .exit)) (now (log .exit))
         ≡ continueFor (now (layout .entry)) (now (words .entry)) (now (engine .entry)) (now (memory .entry)) budget (now (readings .entry))
@@ -99,5 +99,5 @@ pub extern "C" fn hemdroas_engine_continue(
     let m = engine_of(given);
     let went = engine::resume(lay, words, m, memory, budget, readings, log);
     *engine = record_after(went.engine, given);
-    *answer = answer_of(went.answer, went.steps, went.pairs, went.used);
+    *answer = engine_answer_of(went.answer, went.steps, went.pairs, went.used);
 }

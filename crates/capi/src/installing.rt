@@ -3,7 +3,7 @@ use capi_values::answers::ANSWER;
 use capi_values::answers::answer_of;
 use capi_values::layouts::LAYOUT;
 use capi_values::layouts::layout_of;
-use capi_values::machines::RECORD;
+use capi_values::machines::MACHINE_RECORD;
 use capi_values::machines::record_of;
 use types::PolicyNumbers;
 ghost use mathlib.Core.Path.{_≡_};
@@ -18,7 +18,7 @@ pub extern "C" fn hemdroas_install(
     table: &[u8],
     landings: &[u32],
     memory: &mut [u32],
-    machine: &mut [u32; RECORD],
+    machine: &mut [u32; MACHINE_RECORD],
     answer: &mut [u32; ANSWER],
 )
     ensures { λ _. ⌜ hostInstalled (now (answer .exit)) (now (machine .exit)) (now (memory .exit))

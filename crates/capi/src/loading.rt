@@ -3,7 +3,7 @@ use capi_values::answers::ANSWER;
 use capi_values::answers::answer_of;
 use capi_values::layouts::LAYOUT;
 use capi_values::layouts::layout_of;
-use capi_values::machines::RECORD;
+use capi_values::machines::MACHINE_RECORD;
 use capi_values::machines::record_of;
 use types::PolicyNumbers;
 ghost use mathlib.Core.Path.{_≡_};
@@ -20,7 +20,7 @@ pub extern "C" fn hemdroas_load(
     bytes: &[u8],
     commands: &mut [u64],
     memory: &mut [u32],
-    machine: &mut [u32; RECORD],
+    machine: &mut [u32; MACHINE_RECORD],
     answer: &mut [u32; ANSWER],
 )
     ensures { λ _. ⌜ hostLoaded (now (answer .exit)) (now (machine .exit)) (now (commands .exit)) (now (memory .exit))

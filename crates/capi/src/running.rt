@@ -4,7 +4,7 @@ use capi_values::answers::RUN_ANSWER;
 use capi_values::answers::run_answer_of;
 use capi_values::layouts::LAYOUT;
 use capi_values::layouts::layout_of;
-use capi_values::machines::RECORD;
+use capi_values::machines::MACHINE_RECORD;
 use capi_values::machines::machine_of;
 use capi_values::machines::store_machine;
 use types::Ending;
@@ -46,7 +46,7 @@ fn lend(
 pub extern "C" fn hemdroas_run(
     layout: &[u32; LAYOUT],
     commands: &[u64],
-    machine: &mut [u32; RECORD],
+    machine: &mut [u32; MACHINE_RECORD],
     memory: &mut [u32],
     budget: u32,
     readings: &[u32],
@@ -81,13 +81,13 @@ fn copy_memory(layout: Layout, memory: &[u32], work: &mut [u32]) -> bool
 pub extern "C" fn hemdroas_preview(
     layout: &[u32; LAYOUT],
     commands: &[u64],
-    machine: &[u32; RECORD],
+    machine: &[u32; MACHINE_RECORD],
     memory: &[u32],
     work: &mut [u32],
     budget: u32,
     readings: &[u32],
     log: &mut [u32],
-    after: &mut [u32; RECORD],
+    after: &mut [u32; MACHINE_RECORD],
     answer: &mut [u32; RUN_ANSWER],
 )
     ensures { λ _. ⌜ hostPreviewed (hostResult (now (answer .exit)) (now (after .exit)) (now (work .exit)) (now (log .exit))) (now (machine .exit))

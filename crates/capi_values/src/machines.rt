@@ -8,9 +8,9 @@ ghost use Rattle.types.specs.Names.{registers};
 ghost use Rattle.capi_spec.specs.Numbers.{numbersAfter, machineFrom, machineTo};
 
 // How many numbers a machine has.
-pub const RECORD: usize = Machine::REGISTERS + TRAILER;
+pub const MACHINE_RECORD: usize = Machine::REGISTERS + TRAILER;
 
-pub fn machine_of(xs: &[u32; RECORD]) -> Machine
+pub fn machine_of(xs: &[u32; MACHINE_RECORD]) -> Machine
     ensures { λ r. ⌜ r ≡ machineFrom (now (xs .entry)) ⌝ }
 {
     let mut regs = [0u32; Machine::REGISTERS];
@@ -19,7 +19,7 @@ pub fn machine_of(xs: &[u32; RECORD]) -> Machine
 }
 
 // Stores in its record the machine that a run left.
-pub fn store_machine(xs: &mut [u32; RECORD], m: Machine)
+pub fn store_machine(xs: &mut [u32; MACHINE_RECORD], m: Machine)
     ensures { λ _. ⌜ now (xs .exit) ≡ numbersAfter registers (now (xs .entry)) (machineTo m) ⌝ }
 {
     let status = m.status;
@@ -27,10 +27,10 @@ pub fn store_machine(xs: &mut [u32; RECORD], m: Machine)
 }
 
 // A machine as numbers. It is stored over zeros, because their status, running, is valid.
-pub fn record_of(m: Machine) -> [u32; RECORD]
+pub fn record_of(m: Machine) -> [u32; MACHINE_RECORD]
     ensures { λ r. ⌜ r ≡ machineTo m ⌝ }
 {
-    let mut xs = [0u32; RECORD];
+    let mut xs = [0u32; MACHINE_RECORD];
     store_machine(&mut xs, m);
     xs
 }
