@@ -5,14 +5,15 @@ use capi_values::answers::answer_of;
 use capi_values::layouts::ceilings_from;
 use policy_merge::Merged;
 use policy_merge::Side;
+use types::Layout;
 use types::PolicyNumbers;
 ghost use mathlib.Core.Path.{_≡_};
 ghost use Rattle.capi.specs.merge.Numbers.{sideFrom, mergedTo, hostMerged, mergeFor};
 
 // Where the ceilings begin in a policy's numbers, after states and start, and how many numbers there are.
-const CEILINGS: usize = 2;
+const POLICY_CEILINGS: usize = 2;
 
-pub const POLICY: usize = CEILINGS + PolicyNumbers::ORDERS as usize;
+pub const POLICY: usize = POLICY_CEILINGS + Layout::CEILINGS;
 
 fn side_of(xs: &[u32; POLICY]) -> Side
     ensures { λ r. ⌜ r ≡ sideFrom (now (xs .entry)) ⌝ }
@@ -21,7 +22,7 @@ fn side_of(xs: &[u32; POLICY]) -> Side
         states: xs[0],
         start: xs[1],
     };
-    let ceilings = ceilings_from(xs, CEILINGS);
+    let ceilings = ceilings_from(xs, POLICY_CEILINGS);
     Side { policy, ceilings }
 }
 
@@ -31,7 +32,7 @@ fn merged_of(m: Merged) -> [u32; POLICY]
     let mut xs = [0u32; POLICY];
     xs[0] = m.policy.states;
     xs[1] = m.policy.start;
-    store_cells(&mut xs, CEILINGS, &m.ceilings);
+    store_cells(&mut xs, POLICY_CEILINGS, &m.ceilings);
     xs
 }
 

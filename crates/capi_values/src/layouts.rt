@@ -1,7 +1,6 @@
 // Turns a C host's array of numbers into a layout.
 use buffers::stores::store_cells;
 use types::Layout;
-use types::PolicyNumbers;
 ghost use mathlib.Core.Path.{_≡_};
 ghost use Prim.Native.Nat.{_+_};
 ghost use lib.ListN.{length};
@@ -9,18 +8,16 @@ ghost use Rattle.types.specs.Names.{orders};
 ghost use Rattle.capi_spec.specs.Numbers.{numbersFrom, layoutFrom};
 
 // Where the ceilings begin in a layout's numbers, and how many numbers there are.
-const CEILINGS: usize = 8;
+const LAYOUT_CEILINGS: usize = 8;
 
-const ORDERS: usize = PolicyNumbers::ORDERS as usize;
-
-pub const LAYOUT: usize = CEILINGS + ORDERS;
+pub const LAYOUT: usize = LAYOUT_CEILINGS + Layout::CEILINGS;
 
 // The ceilings of the orders, from index `at` on.
-pub fn ceilings_from(xs: &[u32], at: usize) -> [u32; ORDERS]
+pub fn ceilings_from(xs: &[u32], at: usize) -> [u32; Layout::CEILINGS]
     requires { ⌜ length (now xs) ≡ at + orders ⌝ }
     ensures { λ r. ⌜ r ≡ numbersFrom orders at (now (xs .entry)) ⌝ }
 {
-    let mut ceilings = [0u32; ORDERS];
+    let mut ceilings = [0u32; Layout::CEILINGS];
     store_cells(&mut ceilings, 0, &xs[at..]);
     ceilings
 }
@@ -30,7 +27,7 @@ pub fn layout_of(xs: &[u32; LAYOUT]) -> Layout
 {
     let low = xs[1];
     let base = xs[6];
-    let ceilings = ceilings_from(xs, CEILINGS);
+    let ceilings = ceilings_from(xs, LAYOUT_CEILINGS);
     Layout::new(
         xs[0],
         low,

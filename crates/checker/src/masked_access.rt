@@ -2,6 +2,7 @@
 use crate::word::is_word;
 use types::Command;
 use types::Layout;
+use words::command::NOP_WORD;
 use words::field;
 use words::fields::HIDDEN;
 ghost use mathlib.Core.Path.{_≡_};
@@ -38,7 +39,7 @@ pub fn is_access(l: Layout, w: u64, x: u64, y: u64, z: u64) -> bool
 {
     let masked = is_mask(l, w, x);
     if field::kind(y) == Command::LOAD {
-        return masked & is_load(y) & (z == Command::NOP_WORD);
+        return masked & is_load(y) & (z == NOP_WORD);
     }
-    masked & is_store(y) & (z == Command::NOP_WORD)
+    masked & is_store(y) & (z == NOP_WORD)
 }

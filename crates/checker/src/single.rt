@@ -2,6 +2,7 @@
 use types::Command;
 use types::Layout;
 use words::command::BUNDLE_LENGTH;
+use words::command::NOP_WORD;
 use words::command::is_command;
 use words::field;
 use words::fields::only_guest_registers;
@@ -10,19 +11,17 @@ ghost use Prim.Native.Nat.{_<_, _^_};
 ghost use Rattle.types.specs.Names.{command};
 ghost use Rattle.checker.specs.single.Single.{singleWords, plainWords, isBundleAddress, goifWords};
 
-const NOP: u64 = Command::NOP_WORD;
-
 pub fn is_halt(w: u64, x: u64, y: u64, z: u64) -> bool
     ensures { λ r. ⌜ r ≡ singleWords w x y z (command .halt) ⌝ }
 {
-    (w == Command::HALT) & (x == NOP) & (y == NOP) & (z == NOP)
+    (w == Command::HALT) & (x == NOP_WORD) & (y == NOP_WORD) & (z == NOP_WORD)
 }
 
 // A plain command may use guest registers only.
 pub fn is_plain(w: u64, x: u64, y: u64, z: u64) -> bool
     ensures { λ r. ⌜ r ≡ plainWords w x y z ⌝ }
 {
-    is_command(w) & only_guest_registers(w) & (x == NOP) & (y == NOP) & (z == NOP)
+    is_command(w) & only_guest_registers(w) & (x == NOP_WORD) & (y == NOP_WORD) & (z == NOP_WORD)
 }
 
 // Whether v is the address of one of n bundles.
@@ -45,7 +44,7 @@ pub fn is_goif(l: Layout, n: usize, w: u64, x: u64, y: u64, z: u64) -> bool
     is_command(w)
         & only_guest_registers(w)
         & is_bundle_address(l, n, field::v(w))
-        & (x == NOP)
-        & (y == NOP)
-        & (z == NOP)
+        & (x == NOP_WORD)
+        & (y == NOP_WORD)
+        & (z == NOP_WORD)
 }

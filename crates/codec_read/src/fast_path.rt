@@ -12,9 +12,6 @@ ghost use lib.ListN.{length};
 ghost use Rattle.spec.specs.Words.{packOf};
 ghost use Rattle.codec_read.specs.fast_path.Parts.{longest, bytePart, quadPart, ReadPrefix, FastAnswer};
 
-// The most bytes of an instruction.
-pub const LONGEST: usize = 10;
-
 // Means that the fast path has no answer. It never refuses an instruction itself.
 const NO_ANSWER: u8 = Refusal::TAKEN;
 

@@ -13,7 +13,6 @@ use machine_step::program_point::ordered;
 use machine_step::program_point::probed;
 use types::Effect;
 use types::Layout;
-use types::PolicyNumbers;
 ghost use mathlib.Core.Path.{_≡_};
 ghost use Prim.Native.Nat.{_-_, _<_, _^_};
 ghost use lib.ListN.{length, getD, set};
@@ -57,7 +56,7 @@ fn probe(v: u32, regs: &mut [u32; Engine::REGISTERS], at: Point, readings: &[u32
 pub fn apply(
     e: Effect,
     layout: Layout,
-    ceilings: &[u32; PolicyNumbers::ORDERS as usize],
+    ceilings: &[u32; Layout::CEILINGS],
     regs: &mut [u32; Engine::REGISTERS],
     at: Point,
     state: &mut u32,

@@ -8,6 +8,7 @@ use policy_spec::tables::EVENTS;
 use policy_spec::tables::MOST_STATES;
 use policy_spec::tables::NO_ARROW;
 use types::Answer;
+use types::Layout;
 use types::PolicyNumbers;
 use types::Refusal;
 ghost use mathlib.Core.Path.{_≡_};
@@ -18,19 +19,17 @@ ghost use Rattle.policy_spec.specs.reachability.Worklists.{Explored};
 ghost use Rattle.policy_merge.specs.Pairs.{sideOf, arrowsOf, pair as pairOf, both as bothOf, pairAfter};
 ghost use Rattle.policy_merge.specs.Pairs.{smaller as smallerOf, mergeMade, withCeilings, mergeOf, mergeTable};
 
-const ORDERS: usize = PolicyNumbers::ORDERS as usize;
-
 // One of the two policies: its numbers and ceilings. Its table is passed beside it.
 pub struct Side {
     pub policy: PolicyNumbers,
-    pub ceilings: [u32; ORDERS],
+    pub ceilings: [u32; Layout::CEILINGS],
 }
 
 // The result of merging: bytes written as place, the policy's numbers, and the ceilings.
 pub struct Merged {
     pub answer: Answer,
     pub policy: PolicyNumbers,
-    pub ceilings: [u32; ORDERS],
+    pub ceilings: [u32; Layout::CEILINGS],
 }
 
 // The state after event n in state s, or no arrow, also past the end of the table.
@@ -108,12 +107,12 @@ fn least(x: u32, y: u32) -> u32
 }
 
 // The smaller of the two ceilings of each order.
-fn smaller(c: [u32; ORDERS], d: [u32; ORDERS]) -> [u32; ORDERS]
+fn smaller(c: [u32; Layout::CEILINGS], d: [u32; Layout::CEILINGS]) -> [u32; Layout::CEILINGS]
     ensures { λ r. ⌜ r ≡ smallerOf c d ⌝ }
 {
-    let mut out: [u32; ORDERS] = [0; ORDERS];
+    let mut out: [u32; Layout::CEILINGS] = [0; Layout::CEILINGS];
     let mut i: usize = 0;
-    while i < ORDERS {
+    while i < Layout::CEILINGS {
         out[i] = least(c[i], d[i]);
         i += 1;
     }
@@ -121,7 +120,7 @@ fn smaller(c: [u32; ORDERS], d: [u32; ORDERS]) -> [u32; ORDERS]
 }
 
 // Adds the ceilings, or zeros if the policy was refused.
-fn with_ceilings(made: Made, ceilings: [u32; ORDERS]) -> Merged
+fn with_ceilings(made: Made, ceilings: [u32; Layout::CEILINGS]) -> Merged
     ensures { λ r. ⌜ r ≡ withCeilings made ceilings ⌝ }
 {
     let answer = made.answer;
@@ -136,7 +135,7 @@ fn with_ceilings(made: Made, ceilings: [u32; ORDERS]) -> Merged
     Merged {
         answer,
         policy,
-        ceilings: [0; ORDERS],
+        ceilings: [0; Layout::CEILINGS],
     }
 }
 

@@ -4,13 +4,12 @@ use types::Command;
 use types::Instr;
 use types::Layout;
 use words::command::BUNDLE_LENGTH;
+use words::command::NOP_WORD;
 use words::fields::HIDDEN;
 use words::fields::word;
 ghost use mathlib.Core.Path.{_≡_};
 ghost use Rattle.spec.specs.Bundles.{bundleOf};
 ghost use Rattle.words.specs.Packing.{Packable};
-
-const NOP: u64 = Command::NOP_WORD;
 
 // The bundle of an instruction in a list of n bundles.
 pub fn bundle(l: Layout, n: usize, i: Instr) -> Bundle
@@ -22,17 +21,27 @@ pub fn bundle(l: Layout, n: usize, i: Instr) -> Bundle
     let high = l.high as u64;
     match i {
         Instr::HALT => Bundle {
-            words: [word(Command::HALT, 0, 0, 0, 0, 0), NOP, NOP, NOP],
+            words: [
+                word(Command::HALT, 0, 0, 0, 0, 0),
+                NOP_WORD,
+                NOP_WORD,
+                NOP_WORD,
+            ],
         },
         Instr::PLAIN(k, d, a, b, v) => Bundle {
-            words: [word(k + Instr::PLAIN_STEP, d, a, b, 0, v), NOP, NOP, NOP],
+            words: [
+                word(k + Instr::PLAIN_STEP, d, a, b, 0, v),
+                NOP_WORD,
+                NOP_WORD,
+                NOP_WORD,
+            ],
         },
         Instr::LOAD(d, a) => Bundle {
             words: [
                 word(Command::ANDI, HIDDEN, a, 0, 0, high),
                 word(Command::ORI, HIDDEN, HIDDEN, 0, 0, low),
                 word(Command::LOAD, d, HIDDEN, 0, 0, 0),
-                NOP,
+                NOP_WORD,
             ],
         },
         Instr::STORE(a, b) => Bundle {
@@ -40,15 +49,15 @@ pub fn bundle(l: Layout, n: usize, i: Instr) -> Bundle
                 word(Command::ANDI, HIDDEN, a, 0, 0, high),
                 word(Command::ORI, HIDDEN, HIDDEN, 0, 0, low),
                 word(Command::STORE, 0, HIDDEN, b, 0, 0),
-                NOP,
+                NOP_WORD,
             ],
         },
         Instr::GOIF(a, b, c, v) => Bundle {
             words: [
                 word(Command::GOIF, 0, a, b, c, base + BUNDLE_LENGTH * v),
-                NOP,
-                NOP,
-                NOP,
+                NOP_WORD,
+                NOP_WORD,
+                NOP_WORD,
             ],
         },
         Instr::GOX(d, a, b, c) => Bundle {

@@ -6,9 +6,6 @@ use lines::print_case;
 use types::Bundle;
 use types::Instr;
 use types::Layout;
-use types::PolicyNumbers;
-
-const ORDERS: usize = PolicyNumbers::ORDERS as usize;
 
 // The base in document 01's layout.
 const BASE: u32 = 4096;
@@ -25,7 +22,7 @@ fn rewrites_to_7(name: &[u8], layout: Layout, words: &[u64]) {
 }
 
 fn drum(base: u32) -> Layout {
-    let ceilings = [Layout::NO_LIMIT; ORDERS];
+    let ceilings = [Layout::NO_LIMIT; Layout::CEILINGS];
     Layout::new(1024, 256, 511, 0, 16, 2, base, 64, ceilings)
 }
 
@@ -52,7 +49,7 @@ fn lists(layout: Layout) {
 }
 
 fn layouts() {
-    let ceilings = [Layout::NO_LIMIT; ORDERS];
+    let ceilings = [Layout::NO_LIMIT; Layout::CEILINGS];
     let unaligned = Layout::new(64, 6, 9, 0, 16, 1, 0, 32, ceilings);
     rewrites(b"rewrite sandbox_6_to_9", unaligned, &[0xd]);
     rewrites(b"rewrite base_16_of_7", drum(16), &[0, 0, 0, 0, 0, 0, 0]);

@@ -2,9 +2,6 @@
 use lines::print_case;
 use types::Instr;
 
-// The bytes of a routine's count. A HALT takes one byte.
-const COUNT: usize = Instr::COUNT_BYTES;
-
 fn reads(name: &[u8], bytes: &[u8]) {
     let mut words = [0u64; Instr::MOST];
     print_case(name, codec::read(bytes, &mut words));
@@ -16,16 +13,16 @@ fn reads_one(name: &[u8], bytes: &[u8]) {
     print_case(name, codec::read(bytes, &mut words));
 }
 
-// Reads a count followed by 1,024 HALTs.
+// Reads a count followed by 1,024 HALTs, of one byte each.
 fn reads_many(name: &[u8], low: u8, high: u8) {
-    let mut bytes = [0u8; COUNT + Instr::MOST + 1];
+    let mut bytes = [0u8; Instr::COUNT_BYTES + Instr::MOST + 1];
     bytes[0] = low;
     bytes[1] = high;
     reads(name, &bytes);
 }
 
 fn reads_most() {
-    let mut bytes = [0u8; COUNT + Instr::MOST];
+    let mut bytes = [0u8; Instr::COUNT_BYTES + Instr::MOST];
     bytes[0] = 255;
     bytes[1] = 3;
     reads(b"read 1023", &bytes);

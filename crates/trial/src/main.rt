@@ -23,8 +23,8 @@ const BASE: u32 = 4096;
 // An event that is not allowed, as a byte of a table.
 const NO_ARROW: u8 = PolicyNumbers::NO_ARROW as u8;
 
-// The bytes of the longest routine: its count, and ten for each instruction.
-const LONGEST: usize = Instr::COUNT_BYTES + 10 * Instr::MOST;
+// The bytes of the longest routine.
+const LONGEST: usize = Instr::COUNT_BYTES + Instr::MOST_BYTES * Instr::MOST;
 
 fn print_answer(number: u8) {
     print(b"answer ", number as u64);
@@ -81,7 +81,7 @@ fn all_landings() -> [u32; Bundle::MOST] {
 }
 
 fn try_routine(bytes: &[u8]) {
-    let ceilings = [Layout::NO_LIMIT; PolicyNumbers::ORDERS as usize];
+    let ceilings = [Layout::NO_LIMIT; Layout::CEILINGS];
     let layout = Layout::new(SIZE, 256, 511, 0, 16, 2, BASE, 64, ceilings);
     // In state 0 all is allowed, and event 2, the door, leads to state 1. In state 1 event 0, gas, is not allowed.
     let table = [

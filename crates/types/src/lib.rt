@@ -15,7 +15,7 @@ pub struct Layout {
     pub states: u32,
     pub base: u32,
     pub landings: u32,
-    pub ceilings: [u32; PolicyNumbers::ORDERS as usize],
+    pub ceilings: [u32; Layout::CEILINGS],
 }
 
 impl Layout {
@@ -26,6 +26,8 @@ impl Layout {
     pub const LANDING_CELLS: u32 = 32;
 
     pub const CELL_BITS: u32 = 32;
+    // One ceiling for each order.
+    pub const CEILINGS: usize = PolicyNumbers::ORDERS as usize;
     // A ceiling that limits nothing.
     pub const NO_LIMIT: u32 = 4294967295;
 
@@ -38,7 +40,7 @@ impl Layout {
         states: u32,
         base: u32,
         landings: u32,
-        ceilings: [u32; PolicyNumbers::ORDERS as usize],
+        ceilings: [u32; Layout::CEILINGS],
     ) -> Layout
         ensures { λ r. ⌜ r ≡ layoutOf size low high cell table states base landings ceilings ⌝ }
     {
@@ -106,6 +108,8 @@ impl Instr {
     pub const MOST: usize = 1023;
 
     pub const COUNT_BYTES: usize = 2;
+    // The most bytes that one instruction takes.
+    pub const MOST_BYTES: usize = 10;
     // The kind numbers. A plain instruction becomes the command whose number is its kind plus `PLAIN_STEP`.
     pub const KIND_HALT: u64 = 0;
 
@@ -195,8 +199,6 @@ impl Command {
     pub const EVENT: u64 = 19;
 
     pub const KINDS: u64 = Command::EVENT + 1;
-    // NOP has no fields, so its word is its kind.
-    pub const NOP_WORD: u64 = Command::NOP;
 }
 
 // The four command words of one instruction.

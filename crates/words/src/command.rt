@@ -14,6 +14,9 @@ ghost use Rattle.words.specs.fields.Strays.{strayOf};
 // How many commands a bundle has. The next bundle is as many addresses away.
 pub const BUNDLE_LENGTH: u64 = Bundle::LENGTH as u64;
 
+// NOP has no fields, so its word is its kind.
+pub const NOP_WORD: u64 = Command::NOP;
+
 // The reserved bits of a kind, 0 in each of its commands: fields that the kind lacks, bits above the bounds of c and v, and bits 24 to 31.
 fn stray_bits(k: u64) -> u64
     requires { ⌜ k < commandKinds ⌝ }
