@@ -9,8 +9,8 @@ use crate::fields::a_value;
 use crate::fields::address;
 use crate::fields::b_value;
 use crate::fields::d_field;
-use crate::jumps::branch;
-use crate::jumps::jump;
+use crate::jumps::branch_effect;
+use crate::jumps::jump_effect;
 use crate::known_cells::read_cell;
 use engine_spec::Engine;
 use types::Effect;
@@ -62,14 +62,14 @@ fn instruction_effect(
             address(w, layout.low, layout.high, regs),
             b_value(w, regs),
         ),
-        Instr::KIND_GOIF => branch(
+        Instr::KIND_GOIF => branch_effect(
             field::c(w),
             a_value(w, regs),
             b_value(w, regs),
             v_field(w),
             at,
         ),
-        Instr::KIND_GOX => jump(
+        Instr::KIND_GOX => jump_effect(
             field::c(w),
             a_value(w, regs),
             b_value(w, regs),

@@ -1,6 +1,6 @@
 // Decides GOIF and GOX in the engine.
 use crate::known_cells::read_cell;
-use machine_step::installed::has_bit;
+use machine_step::installed::has_landing_bit;
 use types::Effect;
 use types::Layout;
 use types::Status;
@@ -19,7 +19,7 @@ ghost use Rattle.engine_spec.specs.Engines.{indirectEffect};
 ghost use Rattle.engine_step.specs.fetch.Fetched.{LastIndex};
 
 // The effect of GOIF: to its target if the condition holds, else to the next instruction.
-pub fn branch(c: u64, x: u32, y: u32, to: u32, at: u32) -> Effect
+pub fn branch_effect(c: u64, x: u32, y: u32, to: u32, at: u32) -> Effect
     ensures { λ r. ⌜ r ≡ cond (holdsOf c x y) (Go to) (Go (nextPc at)) ⌝ }
 {
     if alu::holds(c, x, y) {
@@ -34,7 +34,7 @@ fn has_landing(j: u32, landings: u32, memory: &[u32]) -> bool
     ensures { λ r. ⌜ r ≡ marked (now (memory .entry)) landings j ⌝ }
 {
     let bits = read_cell(memory, landings as usize + (j / Layout::CELL_BITS) as usize);
-    has_bit(bits, j)
+    has_landing_bit(bits, j)
 }
 
 // The effect of a taken GOX: to instruction rd modulo N if that is a landing, else it stops. N is a power of two, so a mask gives the modulo.
@@ -50,7 +50,7 @@ fn jump_to_landing(to: u32, top: u32, landings: u32, memory: &[u32]) -> Effect
 }
 
 // The effect of GOX. Only a taken one looks up its landing. The caller reads rd before the condition is tested, which is faster.
-pub fn jump(
+pub fn jump_effect(
     c: u64,
     x: u32,
     y: u32,

@@ -5,7 +5,7 @@ use crate::program_point::jumped;
 use crate::program_point::next_pc;
 use crate::program_point::ordered;
 use crate::program_point::probed;
-use crate::program_point::read;
+use crate::program_point::record_reading;
 use types::Effect;
 use types::Machine;
 ghost use mathlib.Core.Path.{_≡_};
@@ -41,7 +41,7 @@ pub fn probe(
     ensures { λ _. ⌜ (now (regs .exit) ≡ set (now (regs .entry)) 0 (getD (now (readings .entry)) (at .used) 0))
         × (now (log .exit) ≡ withPair (now (log .entry)) (at .pairs) v (getD (now (readings .entry)) (at .used) 0)) ⌝ }
 {
-    let x = read(v, at, readings, log);
+    let x = record_reading(v, at, readings, log);
     set_register(regs, 0, x);
 }
 

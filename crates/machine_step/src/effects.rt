@@ -1,7 +1,7 @@
 // Decides the effect of the word at pc. It changes nothing.
 use crate::events::event;
 use crate::events::look;
-use crate::landings::jump;
+use crate::landings::jump_effect;
 use crate::view::ViewNumbers;
 use types::Command;
 use types::Effect;
@@ -112,7 +112,7 @@ fn command_effect(
             v as u32,
             view.pc,
         ),
-        Command::GoReg(d, a, b, c) => jump(
+        Command::GoReg(d, a, b, c) => jump_effect(
             alu::holds(c, reg(regs, a), reg(regs, b)),
             reg(regs, d),
             view,

@@ -24,7 +24,7 @@ pub fn entry_address(table: u32, cell: u32, v: u32, memory: &[u32]) -> usize
 }
 
 // Whether the bit of bundle j is set in its landing cell.
-pub fn has_bit(cell: u32, j: u32) -> bool
+pub fn has_landing_bit(cell: u32, j: u32) -> bool
     ensures { λ r. ⌜ r ≡ bitAt cell (j % cellBits) ⌝ }
 {
     (cell >> (j % Layout::CELL_BITS)) % 2 == 1
@@ -35,5 +35,5 @@ pub fn has_landing(landings: u32, j: u32, memory: &[u32]) -> bool
     ensures { λ r. ⌜ r ≡ marked (now (memory .entry)) landings j ⌝ }
 {
     let bits = peek(memory, landings as usize + (j / Layout::CELL_BITS) as usize);
-    has_bit(bits, j)
+    has_landing_bit(bits, j)
 }

@@ -31,7 +31,7 @@ pub fn is_landing(to: u32, base: u32, landings: u32, memory: &[u32]) -> bool
 }
 
 // The effect of GOXR: a jump to `to` if the condition holds. A taken jump to no landing stops the machine as strayed.
-pub fn jump(holds: bool, to: u32, view: ViewNumbers, memory: &[u32]) -> Effect
+pub fn jump_effect(holds: bool, to: u32, view: ViewNumbers, memory: &[u32]) -> Effect
     ensures { λ r. ⌜ r ≡ cond holds (landingEffect view (now (memory .entry)) to) (Go (nextPc (view .pc))) ⌝ }
 {
     if holds {

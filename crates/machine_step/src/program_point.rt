@@ -68,7 +68,7 @@ pub fn probed(mut at: Point) -> Point
 }
 
 // Takes the next reading, and records it in the log as event v.
-pub fn read(v: u32, at: Point, readings: &[u32], log: &mut [u32]) -> u32
+pub fn record_reading(v: u32, at: Point, readings: &[u32], log: &mut [u32]) -> u32
     requires { ⌜ at .pairs < 2 ^ 62 ⌝ }
     ensures { λ r. ⌜ (r ≡ getD (now (readings .entry)) (at .used) 0)
         × (now (log .exit) ≡ withPair (now (log .entry)) (at .pairs) v (getD (now (readings .entry)) (at .used) 0)) ⌝ }

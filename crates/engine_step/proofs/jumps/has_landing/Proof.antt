@@ -5,7 +5,7 @@ use Rattle.engine_step.proofs.jumps.has_landing.Tie as tie
 
 returns : tie.Need-returns
 unfolding marked
-returns c = rw (← c .before .read-cell .ensures) (c .has-bit .ensures)
+returns c = rw (← c .before .read-cell .ensures) (c .has-landing-bit .ensures)
 
 pub has-landing-spec : {M : Type 1} → statement M
 has-landing-spec = tie.close (tie.spec (λ c. search needs) (λ c. search needs) (λ c κs. search needs) (λ c κs. search needs) returns)

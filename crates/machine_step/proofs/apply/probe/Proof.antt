@@ -9,4 +9,4 @@ probe-spec =
     (λ c κs. search needs)
     (λ c κs. search needs)
     (λ c. search needs)
-    (λ c. let r = c .before .before .before .before .read .ensures in (simp (c .set-register .ensures, r .0), r .1)))
+    (λ c. let r = c .before .before .before .before .record-reading .ensures in (simp (c .set-register .ensures, r .0), r .1)))

@@ -1,10 +1,10 @@
 use mathlib.Core.Path.{_∙_}
 use borrow.Author.Needs.{needs}
-use Rattle.engine_step.proofs.jumps.jump.Statement.{statement}
-use Rattle.engine_step.proofs.jumps.jump.Tie as tie
+use Rattle.engine_step.proofs.jumps.jump_effect.Statement.{statement}
+use Rattle.engine_step.proofs.jumps.jump_effect.Tie as tie
 
-pub jump-spec : {M : Type 1} → statement M
-jump-spec =
+pub jump-effect-spec : {M : Type 1} → statement M
+jump-effect-spec =
     tie.close
     (tie.spec
     (λ c κs. search needs)

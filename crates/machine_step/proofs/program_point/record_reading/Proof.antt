@@ -1,9 +1,9 @@
 use borrow.Author.Needs.{needs}
-use Rattle.machine_step.proofs.program_point.read.Statement.{statement}
-use Rattle.machine_step.proofs.program_point.read.Tie as tie
+use Rattle.machine_step.proofs.program_point.record_reading.Statement.{statement}
+use Rattle.machine_step.proofs.program_point.record_reading.Tie as tie
 
-pub read-spec : {M : Type 1} → statement M
-read-spec =
+pub record-reading-spec : {M : Type 1} → statement M
+record-reading-spec =
     tie.close
     (tie.spec
     (λ c κs. search needs)

@@ -1,9 +1,9 @@
 use borrow.Author.Needs.{needs}
-use Rattle.engine_step.proofs.jumps.branch.Statement.{statement}
-use Rattle.engine_step.proofs.jumps.branch.Tie as tie
+use Rattle.engine_step.proofs.jumps.branch_effect.Statement.{statement}
+use Rattle.engine_step.proofs.jumps.branch_effect.Tie as tie
 
-pub branch-spec : {M : Type 1} → statement M
-branch-spec =
+pub branch-effect-spec : {M : Type 1} → statement M
+branch-effect-spec =
     tie.close
     (tie.spec
     (λ c κs. search needs)
