@@ -5,11 +5,11 @@ use mathlib.Core.Bool.{true}
 use mathlib.Core.List.{List, [], _∷_, _++_}
 use lib.ListN.{length, take, replicate}
 use Rattle.types.specs.declared.Layout.{Layout}
-use Rattle.types.specs.Names.{noArrow, answer}
+use Rattle.types.specs.Names.{answer}
 use Rattle.spec.specs.Policies.{allowed, rightPolicy}
 use Rattle.policy_spec.specs.maps.Maps.{bit}
 use Rattle.policy_spec.specs.reachability.Reach.{statesOf, nodesFit, madeWith, nodeAfter}
-use Rattle.policy_spec.specs.reachability.Claims.{Exactly}
+use Rattle.policy_spec.specs.reachability.Claims.{Exactly, row}
 use Rattle.policy_determinise.specs.Drawings.{Drawing, drawingOf, successors, setAfter, drawingRight, madePolicy, determiniseOf, determiniseTable}
 
 -- if the answer is taken (0), what was answered and written is `madePolicy`, the policy of the other claims
@@ -62,12 +62,9 @@ SetsAreEnds = (d : Drawing) (es : List ℕ) (t : ℕ) → drawingRight d ≡ tru
 abbrev pub SetsExact : Type 0
 SetsExact = (d : Drawing) → drawingRight d ≡ true → Exactly (setAfter d) (d .starts)
 
--- a row of a drawing with arrows for events 0 and 1 only, and such a row of a table
+-- a row of a drawing with arrows for events 0 and 1 only; `row` is such a row of a table
 abbrev pub drawn : ℕ → ℕ → List ℕ
 drawn a b = a ∷ b ∷ replicate 14 0
-
-abbrev pub row : ℕ → ℕ → List ℕ
-row a b = a ∷ b ∷ replicate 14 noArrow
 
 -- two states: event 0 leads from 0 to both, and event 1 from 1 to 0
 abbrev pub both : List ℕ

@@ -10,7 +10,7 @@ use Rattle.types.specs.declared.Refusal.the-variants.{BadDrawing}
 use Rattle.types.specs.Names.{events, mostStates, refusal, first}
 use Rattle.spec.specs.Policies.{Policy, statesRight}
 use Rattle.policy_spec.specs.maps.Maps.{bit}
-use Rattle.policy_spec.specs.reachability.Reach.{policyFrom, madeWith, reachOf, reachTable}
+use Rattle.policy_spec.specs.reachability.Reach.{reachedPolicy, madeWith, reachOf, reachTable}
 use Rattle.policy_spec.specs.declared.reachability.Made.{Made}
 
 -- a drawing: the state count, the set of starts, and 'entry 16 × s + n such a map of the successors of state s under event n'
@@ -47,7 +47,7 @@ drawingRight d = statesRight (d .states) && not (eqb (d .starts) 0) && eqb (leng
 
 -- 'Sets are numbered as first met, as pairs are in the merge'
 abbrev pub madePolicy : Drawing → Policy
-madePolicy d = policyFrom (setAfter d) (d .starts)
+madePolicy d = reachedPolicy (setAfter d) (d .starts)
 
 -- what holds of a drawing that is right
 pub record ValidDrawing (d : Drawing) : Type 0 where

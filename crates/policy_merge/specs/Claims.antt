@@ -6,10 +6,10 @@ use mathlib.Core.List.{List, [], _∷_, _++_}
 use lib.ListN.{length, getD, take, replicate}
 use Rattle.types.specs.declared.Answer.{Answer}
 use Rattle.types.specs.declared.Layout.{Layout}
-use Rattle.types.specs.Names.{orders, topWord, noArrow, answer}
+use Rattle.types.specs.Names.{orders, topWord, answer}
 use Rattle.spec.specs.Policies.{Policy, policyOf, stateOver, allowed, statesRight, rightPolicy}
 use Rattle.policy_spec.specs.reachability.Reach.{statesOf, nodesFit, nodeAfter}
-use Rattle.policy_spec.specs.reachability.Claims.{Exactly}
+use Rattle.policy_spec.specs.reachability.Claims.{Exactly, row}
 use Rattle.policy_merge.specs.declared.Merged.{Merged}
 use Rattle.policy_merge.specs.Pairs.{pair, pairAfter, startPair, sideRight, mergedPolicy, smaller, mergeOf, mergeTable}
 
@@ -65,10 +65,6 @@ pub record Swapped (a : Policy) (c : List ℕ) (b : Policy) (d table : List ℕ)
 
 abbrev pub MergeCommutes : Type 0
 MergeCommutes = (a : Policy) (c : List ℕ) (b : Policy) (d table : List ℕ) → Swapped a c b d table
-
--- a row with arrows for events 0 and 1 only
-abbrev pub row : ℕ → ℕ → List ℕ
-row a b = a ∷ b ∷ replicate 14 noArrow
 
 -- events 0 and 1 in turn, from event 0; and event 1 never twice in a row
 abbrev pub turns : Policy

@@ -10,13 +10,13 @@ use Rattle.types.specs.Names.{mostStates, events, orders, noArrow, refusal, ifT
 use Rattle.spec.specs.Policies.{Policy, policyOf, lentPolicy, arrow}
 use Rattle.installer.specs.table.Tables.{tableRight}
 use Rattle.policy_spec.specs.maps.Maps.{build}
-use Rattle.policy_spec.specs.reachability.Reach.{policyFrom, madeWith, reachOf, reachTable}
+use Rattle.policy_spec.specs.reachability.Reach.{reachedPolicy, madeWith, reachOf, reachTable}
 use Rattle.policy_spec.specs.declared.reachability.Made.{Made}
 use Rattle.policy_merge.specs.declared.Merged.{Merged}
 
 -- a policy from its numbers and its table, and one from its table alone, for its arrows; merging needs no landings
-abbrev pub sideOf : PolicyNumbers → List ℕ → Policy
-sideOf p t = lentPolicy p t []
+abbrev pub sidePolicy : PolicyNumbers → List ℕ → Policy
+sidePolicy p t = lentPolicy p t []
 
 abbrev pub arrowsOf : List ℕ → Policy
 arrowsOf t = policyOf 0 0 t []
@@ -49,7 +49,7 @@ sideRight p = tableRight p
 
 -- 'Its states are the pairs reachable from the two starts, numbered as first met'
 abbrev pub mergedPolicy : Policy → Policy → Policy
-mergedPolicy a b = policyFrom (pairAfter a b) (startPair a b)
+mergedPolicy a b = reachedPolicy (pairAfter a b) (startPair a b)
 
 -- 'the merged ceilings are the smaller of each two'
 abbrev pub smaller : List ℕ → List ℕ → List ℕ

@@ -16,7 +16,7 @@ ghost use Prim.Native.Nat.{_+_, _*_, _^_, _<_, min};
 ghost use lib.ListN.{length, getD};
 ghost use Rattle.types.specs.Names.{events, noArrow};
 ghost use Rattle.policy_spec.specs.reachability.Worklists.{Explored};
-ghost use Rattle.policy_merge.specs.Pairs.{sideOf, arrowsOf, pair as pairOf, both as bothOf, pairAfter};
+ghost use Rattle.policy_merge.specs.Pairs.{sidePolicy, arrowsOf, pair as pairOf, both as bothOf, pairAfter};
 ghost use Rattle.policy_merge.specs.Pairs.{smaller as smallerOf, mergeMade, withCeilings, mergeOf, mergeTable};
 
 // One of the two policies: its numbers and ceilings. Its table is passed beside it.
@@ -147,8 +147,8 @@ fn merge_made(
     right: &[u8],
     table: &mut [u8],
 ) -> Made
-    ensures made { λ r. ⌜ r ≡ mergeMade (sideOf a (now (left .entry))) (sideOf b (now (right .entry))) (length (now (table .entry))) ⌝ }
-    ensures table { λ _. ⌜ now (table .exit) ≡ mergeTable (sideOf a (now (left .entry))) (sideOf b (now (right .entry))) (now (table .entry)) ⌝ }
+    ensures made { λ r. ⌜ r ≡ mergeMade (sidePolicy a (now (left .entry))) (sidePolicy b (now (right .entry))) (length (now (table .entry))) ⌝ }
+    ensures table { λ _. ⌜ now (table .exit) ≡ mergeTable (sidePolicy a (now (left .entry))) (sidePolicy b (now (right .entry))) (now (table .entry)) ⌝ }
 {
     let ok = table_right(a, left) & table_right(b, right);
     if !ok {
@@ -160,9 +160,9 @@ fn merge_made(
 
 // Merges two policies, with tables `left` and `right`: writes the merged table to the start of `table`, and answers its numbers and ceilings.
 pub fn merge(one: Side, left: &[u8], other: Side, right: &[u8], table: &mut [u8]) -> Merged
-    ensures merged { λ r. ⌜ r ≡ mergeOf (sideOf (one .policy) (now (left .entry))) (one .ceilings) (sideOf (other .policy) (now (right .entry)))
+    ensures merged { λ r. ⌜ r ≡ mergeOf (sidePolicy (one .policy) (now (left .entry))) (one .ceilings) (sidePolicy (other .policy) (now (right .entry)))
         (other .ceilings) (length (now (table .entry))) ⌝ }
-    ensures table { λ _. ⌜ now (table .exit) ≡ mergeTable (sideOf (one .policy) (now (left .entry))) (sideOf (other .policy) (now (right .entry)))
+    ensures table { λ _. ⌜ now (table .exit) ≡ mergeTable (sidePolicy (one .policy) (now (left .entry))) (sidePolicy (other .policy) (now (right .entry)))
         (now (table .entry)) ⌝ }
 {
     let made = merge_made(one.policy, left, other.policy, right, table);

@@ -8,7 +8,7 @@ use crate::unreachable::blocked_events;
 use crate::unreachable::fixpoint;
 use buffers::cells::index_of;
 use policy_spec::precedence::MOST_NAMED;
-use policy_spec::precedence::Made;
+use policy_spec::precedence::PrecedenceResult;
 use policy_spec::tables::EVENTS;
 use types::Answer;
 use types::PolicyNumbers;
@@ -21,12 +21,12 @@ ghost use lib.Dec.{eqb};
 ghost use lib.Count.{ones};
 ghost use Rattle.types.specs.Names.{events, answer};
 ghost use Rattle.policy_spec.specs.maps.Maps.{mapWhere, build};
-ghost use Rattle.policy_spec.specs.precedence.Precedence.{ValidPairs, isNamed, known, mostNamed, pairsRight, statesOf};
-ghost use Rattle.policy_spec.specs.precedence.Precedence.{byteOf, tableBytes, unreachableEvents, madeWith, makeOf, makeTable};
+ghost use Rattle.policy_spec.specs.precedence.Precedence.{ValidPairs, isNamed, eventsKnown, mostNamed, pairsRight, statesOf};
+ghost use Rattle.policy_spec.specs.precedence.Precedence.{byteOf, tableBytes, unreachableEvents, precedenceResult, makeOf, makeTable};
 
 // Whether no event of the pairs is above 15.
 fn events_known(pairs: &[u8]) -> bool
-    ensures { λ r. ⌜ r ≡ known (now (pairs .entry)) ⌝ }
+    ensures { λ r. ⌜ r ≡ eventsKnown (now (pairs .entry)) ⌝ }
 {
     let mut ok = true;
     let mut i: usize = 0;
@@ -87,10 +87,10 @@ fn states(names: usize) -> usize
     1 << usize::count_ones(names)
 }
 
-fn refused(number: u8) -> Made
-    ensures { λ r. ⌜ r ≡ madeWith (answer number 0) 0 0 ⌝ }
+fn refused(number: u8) -> PrecedenceResult
+    ensures { λ r. ⌜ r ≡ precedenceResult (answer number 0) 0 0 ⌝ }
 {
-    Made {
+    PrecedenceResult {
         answer: Answer::refused(number),
         policy: PolicyNumbers {
             states: 0,
@@ -100,12 +100,12 @@ fn refused(number: u8) -> Made
     }
 }
 
-fn taken(names: usize, pairs: &[u8], states: usize, bytes: usize) -> Made
+fn taken(names: usize, pairs: &[u8], states: usize, bytes: usize) -> PrecedenceResult
     requires { ⌜ ValidPairs (now pairs) names × (states ≡ statesOf (now pairs)) ⌝ }
-    ensures { λ r. ⌜ r ≡ madeWith (answer 0 bytes) (statesOf (now (pairs .entry))) (unreachableEvents (now (pairs .entry))) ⌝ }
+    ensures { λ r. ⌜ r ≡ precedenceResult (answer 0 bytes) (statesOf (now (pairs .entry))) (unreachableEvents (now (pairs .entry))) ⌝ }
 {
     let unreachable = blocked_events(names, pairs, fixpoint(names, pairs));
-    Made {
+    PrecedenceResult {
         answer: Answer::taken(bytes),
         policy: PolicyNumbers {
             states: states as u32,
@@ -117,7 +117,7 @@ fn taken(names: usize, pairs: &[u8], states: usize, bytes: usize) -> Made
 
 // Makes the policy: writes its table to the start of `table`, and answers its numbers and the set of events that it never allows.
 // `pairs` has the first and the second event of each pair in turn.
-pub fn make(pairs: &[u8], table: &mut [u8]) -> Made
+pub fn make(pairs: &[u8], table: &mut [u8]) -> PrecedenceResult
     ensures made { λ r. ⌜ r ≡ makeOf (now (pairs .entry)) (length (now (table .entry))) ⌝ }
     ensures table { λ _. ⌜ now (table .exit) ≡ makeTable (now (pairs .entry)) (now (table .entry)) ⌝ }
 {

@@ -6,7 +6,7 @@ use types::PolicyNumbers;
 pub const MOST_NAMED: usize = 4;
 
 // The result of making a policy: bytes written as place, the policy's numbers, and the set of events that it never allows.
-pub struct Made {
+pub struct PrecedenceResult {
     pub answer: Answer,
     pub policy: PolicyNumbers,
     pub unreachable: u16,

@@ -2,8 +2,8 @@
 use Prim.Native.Nat.{ℕ}
 use mathlib.Core.List.{List}
 use Rattle.capi_spec.specs.Numbers.{madeTo}
-use Rattle.policy_spec.specs.declared.precedence.Made.{Made}
+use Rattle.policy_spec.specs.declared.precedence.PrecedenceResult.{PrecedenceResult}
 
 -- a made policy as four numbers: number, place, states, and the set of events that it never allows
-abbrev pub precedenceTo : Made → List ℕ
+abbrev pub precedenceTo : PrecedenceResult → List ℕ
 precedenceTo m = madeTo (m .answer) (m .policy .states) (m .unreachable)

@@ -15,11 +15,11 @@ use Rattle.types.specs.declared.Refusal.the-variants.{SmallOutput, BadPair}
 use Rattle.types.specs.declared.Answer.{Answer}
 use Rattle.types.specs.Names.{events, noArrow, answer, refusal}
 use Rattle.spec.proofs.Bools.{both}
-use Rattle.policy_spec.specs.declared.precedence.Made.{Made}
+use Rattle.policy_spec.specs.declared.precedence.PrecedenceResult.{PrecedenceResult}
 use Rattle.policy_spec.specs.maps.Maps.{every, some, mapWhere, bit, build}
-use Rattle.policy_spec.specs.precedence.Precedence.{ValidPairs, namedIn, isNamed, knownIn, known, mostNamed, firstAt, pairsIn, bitIndex}
+use Rattle.policy_spec.specs.precedence.Precedence.{ValidPairs, namedIn, isNamed, knownIn, eventsKnown, mostNamed, firstAt, pairsIn, bitIndex}
 use Rattle.policy_spec.specs.precedence.Precedence.{firstsIn, statesOf, tableBytes, namedCount, arrowOf, byteOf, blocked, advanceOf, iterate}
-use Rattle.policy_spec.specs.precedence.Precedence.{fixpointOf, unreachableEvents, pairsRight, makeAnswer, madeWith, makeOf, makeTable}
+use Rattle.policy_spec.specs.precedence.Precedence.{fixpointOf, unreachableEvents, pairsRight, makeAnswer, precedenceResult, makeOf, makeTable}
 use Rattle.policy_spec.proofs.maps.Maps.{every-at, map-or, map-one, map-none, map-low, map-ones, bit-map, count-less, map-lt, length-build}
 
 pub known-none : (ps : List ℕ) → knownIn ps 0 ≡ true
@@ -57,7 +57,7 @@ names-more ps i m x o e f g =
 pub names-done : (ps : List ℕ) (i m : ℕ) → m ≡ mapWhere (namedIn ps i) events → length ps ≤ i → i ≤ length ps → m ≡ mapWhere (isNamed ps) events
 names-done ps i m e h k = let q : i ≡ length ps = omega arith in e ∙ ap (λ (j : ℕ). mapWhere (namedIn ps j) events) q
 
-pub known-done : (ps : List ℕ) (i : ℕ) (ok : Bool) → ok ≡ knownIn ps i → length ps ≤ i → i ≤ length ps → ok ≡ known ps
+pub known-done : (ps : List ℕ) (i : ℕ) (ok : Bool) → ok ≡ knownIn ps i → length ps ≤ i → i ≤ length ps → ok ≡ eventsKnown ps
 known-done ps i ok e h k = let q : i ≡ length ps = omega arith in e ∙ ap (knownIn ps) q
 
 -- how many bits of a set are below bit e
@@ -244,7 +244,7 @@ all-done p e m f h k = let q : e ≡ events = omega arith in f ∙ ap (mapWhere 
 pub ones-fit : (p : ℕ → Bool) (m : ℕ) → m ≡ mapWhere p events → ones m < 2 ^ 64
 ones-fit p m e = rw e (omega (arith, ones-le events (mapWhere p events) (map-lt p events)))
 
-pub right-is : (ps : List ℕ) (m : ℕ) (r : Bool) → m ≡ mapWhere (isNamed ps) events → r ≡ known ps → ((r && eqb (length ps % 2) 0) && leb (ones m) mostNamed) ≡ pairsRight ps
+pub right-is : (ps : List ℕ) (m : ℕ) (r : Bool) → m ≡ mapWhere (isNamed ps) events → r ≡ eventsKnown ps → ((r && eqb (length ps % 2) 0) && leb (ones m) mostNamed) ≡ pairsRight ps
 unfolding pairsRight
 right-is ps m r e f = rw (f, e, map-ones (isNamed ps) events)
 
@@ -252,8 +252,8 @@ module _ (ps : List ℕ) (m : ℕ) (e : m ≡ mapWhere (isNamed ps) events) (r :
   pub fit-of : r ≡ true → ValidPairs ps m
   unfolding pairsRight
   fit-of t =
-      let f = both (known ps && eqb (length ps % 2) 0) _ (sym g ∙ t) in
-      record { below = both (known ps) _ (f .0) .0; few = leb-true (namedCount ps) mostNamed (f .1); map = e }
+      let f = both (eventsKnown ps && eqb (length ps % 2) 0) _ (sym g ∙ t) in
+      record { below = both (eventsKnown ps) _ (f .0) .0; few = leb-true (namedCount ps) mostNamed (f .1); map = e }
 
   pub few-ones : r ≡ true → ones m ≤ mostNamed
   few-ones t = rw (ap ones e ∙ map-ones (isNamed ps) events) (fit-of t .few)
@@ -262,19 +262,19 @@ module _ (ps : List ℕ) (m : ℕ) (e : m ≡ mapWhere (isNamed ps) events) (r :
   states-are s f = f ∙ ap (λ (x : ℕ). 2 ^ x) (ap ones e ∙ map-ones (isNamed ps) events)
 
   -- what is answered and written
-  abbrev pub Makes : List ℕ → Made → List ℕ → Type 0
+  abbrev pub Makes : List ℕ → PrecedenceResult → List ℕ → Type 0
   Makes t made t′ = (made ≡ makeOf ps (length t)) × (t′ ≡ makeTable ps t)
 
-  pub no-pairs : (t : List ℕ) (made : Made) → r ≡ false → made ≡ madeWith (refusal BadPair 0) 0 0 → Makes t made t
+  pub no-pairs : (t : List ℕ) (made : PrecedenceResult) → r ≡ false → made ≡ precedenceResult (refusal BadPair 0) 0 0 → Makes t made t
   unfolding makeOf makeTable makeAnswer
   no-pairs t made f q = rw (← g, f) (q, refl)
 
-  pub no-room : (t : List ℕ) (made : Made) (b : ℕ) → r ≡ true → b ≡ tableBytes ps → length t < b → made ≡ madeWith (refusal SmallOutput 0) 0 0 → Makes t made t
+  pub no-room : (t : List ℕ) (made : PrecedenceResult) (b : ℕ) → r ≡ true → b ≡ tableBytes ps → length t < b → made ≡ precedenceResult (refusal SmallOutput 0) 0 0 → Makes t made t
   unfolding makeOf makeTable makeAnswer
   no-room t made b f z h q = let l : ltb (length t) (tableBytes ps) ≡ true = lt-ltb (length t) (tableBytes ps) (rw z at h) in rw (← g, f, l) (q, refl)
 
-  pub makes : (t t′ : List ℕ) (made : Made) (b : ℕ) → r ≡ true → b ≡ tableBytes ps → b ≤ length t → t′ ≡ build (byteOf ps) b ++ drop b t
-      → made ≡ madeWith (answer 0 b) (statesOf ps) (unreachableEvents ps) → Makes t made t′
+  pub makes : (t t′ : List ℕ) (made : PrecedenceResult) (b : ℕ) → r ≡ true → b ≡ tableBytes ps → b ≤ length t → t′ ≡ build (byteOf ps) b ++ drop b t
+      → made ≡ precedenceResult (answer 0 b) (statesOf ps) (unreachableEvents ps) → Makes t made t′
   unfolding makeOf makeTable makeAnswer
   makes t t′ made b f z h w q =
       let l : ltb (length t) (tableBytes ps) ≡ false = le-ltb (length t) (tableBytes ps) (rw z at h) in
@@ -287,7 +287,7 @@ pub unreachable-fits : (p : ℕ → Bool) (x : ℕ) → x ≡ mapWhere p events 
 unreachable-fits p x e = rw e (map-lt p events)
 
 pub taken-is : (ps : List ℕ) (b s r x : ℕ) → s ≡ statesOf ps → r ≡ fixpointOf ps → x ≡ mapWhere (blocked ps r) events → (a : Answer) → a ≡ answer 0 b
-    → madeWith a s x ≡ madeWith (answer 0 b) (statesOf ps) (unreachableEvents ps)
+    → precedenceResult a s x ≡ precedenceResult (answer 0 b) (statesOf ps) (unreachableEvents ps)
 taken-is ps b s r x e f g a ea = let h : x ≡ unreachableEvents ps = g ∙ ap (λ (y : ℕ). mapWhere (blocked ps y) events) f in rw (ea, e, h)
 
 pub bytes-are : (ps : List ℕ) (s : ℕ) → s ≡ statesOf ps → events * s ≡ tableBytes ps

@@ -12,7 +12,7 @@ use Rattle.types.specs.Names.{mostStates, events, noArrow}
 use Rattle.spec.specs.Policies.{arrow, allowedFrom, allowed, entryRight, rightPolicy}
 use Rattle.policy_spec.proofs.maps.Maps.{length-build, build-at}
 use Rattle.policy_spec.proofs.maps.Tables.{entries-build}
-use Rattle.policy_spec.specs.reachability.Reach.{indexOf, insert, target, reachedBy, nodes, nodeState, byteOf, statesOf, tableOf, policyFrom}
+use Rattle.policy_spec.specs.reachability.Reach.{indexOf, insert, target, reachedBy, nodes, nodeState, byteOf, statesOf, tableOf, reachedPolicy}
 use Rattle.policy_spec.specs.reachability.Reach.{nodesFit, reachAnswer, reachOf, reachTable, nodeAfter}
 use Rattle.policy_spec.specs.reachability.Claims.{Arrows, Reached, Exactly, NodesExact, Makes, TakenReaches, ReachRight, AllowedReaches}
 use Rattle.policy_spec.proofs.reachability.Places.{pigeonhole, place-at, place-of, place-append, place-new, Inserts, none, again, anew, inserts, insert-none, reached-known, More, insert-more}
@@ -232,7 +232,7 @@ nodes-exact = exactly
 
 module _ (next : ℕ → ℕ → ℕ) (q : ℕ) where
   -- the policy's arrow is the number of the node that the event leads to
-  pub arrow-is : (i e : ℕ) → i < statesOf next q → e < events → arrow (policyFrom next q) i e ≡ nodeState (nodes next q) (next (getD (nodes next q) i 0) e)
+  pub arrow-is : (i e : ℕ) → i < statesOf next q → e < events → arrow (reachedPolicy next q) i e ≡ nodeState (nodes next q) (next (getD (nodes next q) i 0) e)
   unfolding tableOf
   arrow-is i e h k =
       let n = events * i + e in
@@ -243,23 +243,23 @@ module _ (next : ℕ → ℕ → ℕ) (q : ℕ) where
 
   module _ (ok : Arrows next q) where
     -- an event above 15 leads nowhere, in the policy too
-    pub arrow-number : (i e : ℕ) → i < statesOf next q → arrow (policyFrom next q) i e ≡ nodeState (nodes next q) (next (getD (nodes next q) i 0) e)
+    pub arrow-number : (i e : ℕ) → i < statesOf next q → arrow (reachedPolicy next q) i e ≡ nodeState (nodes next q) (next (getD (nodes next q) i 0) e)
     arrow-number i e h = go (ltb e events) refl
       where
-        go : (b : Bool) → ltb e events ≡ b → arrow (policyFrom next q) i e ≡ nodeState (nodes next q) (next (getD (nodes next q) i 0) e)
+        go : (b : Bool) → ltb e events ≡ b → arrow (reachedPolicy next q) i e ≡ nodeState (nodes next q) (next (getD (nodes next q) i 0) e)
         go true f = arrow-is i e h (ltb-true e events f)
         go false f = rw (f, ok .above (getD (nodes next q) i 0) e (ltb-false e events f))
 
     module _ (s : statesOf next q ≤ mostStates) where
-      pub allowed-from : (es : List ℕ) (i : ℕ) → i < statesOf next q → allowedFrom (policyFrom next q) i es ≡ not (eqb (nodeAfter next (getD (nodes next q) i 0) es) 0)
+      pub allowed-from : (es : List ℕ) (i : ℕ) → i < statesOf next q → allowedFrom (reachedPolicy next q) i es ≡ not (eqb (nodeAfter next (getD (nodes next q) i 0) es) 0)
       allowed-from [] i h = rw (ne-eqb (getD (nodes next q) i 0) 0 (good next q ok (events * mostStates) .reached i h .node))
       allowed-from (e ∷ es) i h = ap goes (arrow-number i e h) ∙ go (next (getD (nodes next q) i 0) e) (leads next q ok s i e h) (allowed-from es)
         where
           goes : ℕ → Bool
-          goes a = not (eqb a noArrow) && allowedFrom (policyFrom next q) a es
+          goes a = not (eqb a noArrow) && allowedFrom (reachedPolicy next q) a es
 
           go : (y : ℕ) → Leads next q ok s i e y → ((j : ℕ) → j < statesOf next q
-              → allowedFrom (policyFrom next q) j es ≡ not (eqb (nodeAfter next (getD (nodes next q) j 0) es) 0))
+              → allowedFrom (reachedPolicy next q) j es ≡ not (eqb (nodeAfter next (getD (nodes next q) j 0) es) 0))
               → goes (nodeState (nodes next q) y) ≡ not (eqb (nodeAfter next y es) 0)
           go y (nowhere f) r = rw (f, after-none next (ok .none) es)
           go y (on f p g) r =

@@ -8,7 +8,7 @@ use Rattle.types.specs.declared.Layout.{Layout}
 use Rattle.types.specs.Names.{events, answer}
 use Rattle.spec.specs.Policies.{stateOver, allowed, rightPolicy}
 use Rattle.policy_spec.specs.maps.Maps.{bit}
-use Rattle.policy_spec.specs.precedence.Precedence.{pairsIn, firstAt, secondAt, isNamed, pairsRight, bitIndex, statesOf, tableOf, madePolicy, unreachableEvents, makeAnswer, madeWith, makeOf, makeTable}
+use Rattle.policy_spec.specs.precedence.Precedence.{pairsIn, firstAt, secondAt, isNamed, pairsRight, bitIndex, statesOf, tableOf, madePolicy, unreachableEvents, makeAnswer, precedenceResult, makeOf, makeTable}
 
 -- if the answer is taken (0), what was answered and written is `madePolicy`, the policy of the other claims
 pub record Makes (ps table : List ℕ) : Type 0 where
@@ -71,16 +71,16 @@ UnreachableExact = (ps : List ℕ) (e : ℕ) → pairsRight ps ≡ true → Unre
 -- examples, with gas 0, door 2 and charge 3
 pub record WorkedExamples : Type 0 where
   -- 'An empty list gives one state that allows everything'
-  pub none : makeOf [] 16 ≡ madeWith (answer 0 16) 1 0
+  pub none : makeOf [] 16 ≡ precedenceResult (answer 0 16) 1 0
   -- 'charge before gas, gas before door'
-  pub chain : makeOf (3 ∷ 0 ∷ 0 ∷ 2 ∷ []) 128 ≡ madeWith (answer 0 128) 8 0
+  pub chain : makeOf (3 ∷ 0 ∷ 0 ∷ 2 ∷ []) 128 ≡ precedenceResult (answer 0 128) 8 0
   -- 'so that a ring shows at once', also the event that waits for it
-  pub ring : makeOf (3 ∷ 0 ∷ 0 ∷ 3 ∷ 0 ∷ 2 ∷ []) 256 ≡ madeWith (answer 0 128) 8 13
+  pub ring : makeOf (3 ∷ 0 ∷ 0 ∷ 3 ∷ 0 ∷ 2 ∷ []) 256 ≡ precedenceResult (answer 0 128) 8 13
   -- 'without its partner' comes before small hopper (9)
-  pub alone : makeOf (3 ∷ 0 ∷ 0 ∷ []) 0 ≡ madeWith (answer 17 0) 0 0
-  pub above : makeOf (3 ∷ 16 ∷ []) 256 ≡ madeWith (answer 17 0) 0 0
-  pub fifth : makeOf (0 ∷ 1 ∷ 2 ∷ 3 ∷ 3 ∷ 4 ∷ []) 512 ≡ madeWith (answer 17 0) 0 0
-  pub small : makeOf (3 ∷ 0 ∷ 0 ∷ 2 ∷ []) 127 ≡ madeWith (answer 9 0) 0 0
+  pub alone : makeOf (3 ∷ 0 ∷ 0 ∷ []) 0 ≡ precedenceResult (answer 17 0) 0 0
+  pub above : makeOf (3 ∷ 16 ∷ []) 256 ≡ precedenceResult (answer 17 0) 0 0
+  pub fifth : makeOf (0 ∷ 1 ∷ 2 ∷ 3 ∷ 3 ∷ 4 ∷ []) 512 ≡ precedenceResult (answer 17 0) 0 0
+  pub small : makeOf (3 ∷ 0 ∷ 0 ∷ 2 ∷ []) 127 ≡ precedenceResult (answer 9 0) 0 0
   -- gas before door: in state 1 gas is recorded, in state 2 the door, in state 3 both
   pub rows : tableOf (0 ∷ 2 ∷ []) ≡
       1 ∷ 0 ∷ 255 ∷ 0 ∷ 0 ∷ 0 ∷ 0 ∷ 0 ∷ 0 ∷ 0 ∷ 0 ∷ 0 ∷ 0 ∷ 0 ∷ 0 ∷ 0 ∷

@@ -11,7 +11,7 @@ use Rattle.types.specs.declared.Refusal.the-variants.{BadPair}
 use Rattle.types.specs.Names.{events, noArrow, refusal, ifTaken, outputOf, roomFor, first}
 use Rattle.spec.specs.Policies.{Policy, policyOf}
 use Rattle.policy_spec.specs.maps.Maps.{every, some, count, mapWhere, bit, build}
-use Rattle.policy_spec.specs.declared.precedence.Made.{Made}
+use Rattle.policy_spec.specs.declared.precedence.PrecedenceResult.{PrecedenceResult}
 
 -- 'more than four named events' are too many
 abbrev pub mostNamed : ℕ
@@ -42,16 +42,16 @@ namedCount ps = count (isNamed ps) events
 unfoldable pub knownIn : List ℕ → ℕ → Bool
 knownIn ps n = every (λ j. ltb (getD ps j 0) events) n
 
-abbrev pub known : List ℕ → Bool
-known ps = knownIn ps (length ps)
+abbrev pub eventsKnown : List ℕ → Bool
+eventsKnown ps = knownIn ps (length ps)
 
 -- whether pairs are right; if not, refused as bad pair (17): 'an event above 15 or without its partner, or more than four named events'
 unfoldable pub pairsRight : List ℕ → Bool
-pairsRight ps = known ps && eqb (length ps % 2) 0 && leb (namedCount ps) mostNamed
+pairsRight ps = eventsKnown ps && eqb (length ps % 2) 0 && leb (namedCount ps) mostNamed
 
 -- pairs that are right, with the set m of the events that they name
 pub record ValidPairs (ps : List ℕ) (m : ℕ) : Type 0 where
-  pub below : known ps ≡ true
+  pub below : eventsKnown ps ≡ true
   pub few : namedCount ps ≤ mostNamed
   pub map : m ≡ mapWhere (isNamed ps) events
 
@@ -111,12 +111,12 @@ unfoldable pub makeAnswer : List ℕ → ℕ → Answer
 makeAnswer ps room = first ((not (pairsRight ps), refusal BadPair 0) ∷ []) (roomFor room (tableBytes ps))
 
 -- 'After a reject all else handed back is 0'
-abbrev pub madeWith : Answer → ℕ → ℕ → Made
-madeWith a s m = record { answer = a; policy = record { states = s; start = 0 }; unreachable = m }
+abbrev pub precedenceResult : Answer → ℕ → ℕ → PrecedenceResult
+precedenceResult a s m = record { answer = a; policy = record { states = s; start = 0 }; unreachable = m }
 
 -- the result of making a policy: its answer, its numbers, and the set of events that it never allows
-unfoldable pub makeOf : List ℕ → ℕ → Made
-makeOf ps room = let a = makeAnswer ps room in ifTaken a (madeWith a (statesOf ps) (unreachableEvents ps)) (madeWith a 0 0)
+unfoldable pub makeOf : List ℕ → ℕ → PrecedenceResult
+makeOf ps room = let a = makeAnswer ps room in ifTaken a (precedenceResult a (statesOf ps) (unreachableEvents ps)) (precedenceResult a 0 0)
 
 -- the output after the table was written to its start
 unfoldable pub makeTable : List ℕ → List ℕ → List ℕ

@@ -8,7 +8,7 @@ use lib.Dec.{eqb}
 use Rattle.types.specs.declared.Layout.{Layout}
 use Rattle.types.specs.Names.{mostStates, events, noArrow, first}
 use Rattle.spec.specs.Policies.{allowed, rightPolicy}
-use Rattle.policy_spec.specs.reachability.Reach.{reachedBy, nodes, statesOf, tableOf, policyFrom, nodesFit, reachOf, reachTable, nodeAfter}
+use Rattle.policy_spec.specs.reachability.Reach.{reachedBy, nodes, statesOf, tableOf, reachedPolicy, nodesFit, reachOf, reachTable, nodeAfter}
 
 pub record Arrows (next : ℕ → ℕ → ℕ) (q : ℕ) : Type 0 where
   pub none : (e : ℕ) → next 0 e ≡ 0
@@ -46,23 +46,23 @@ pub record Exactly (next : ℕ → ℕ → ℕ) (q : ℕ) : Type 0 where
 abbrev pub NodesExact : Type 0
 NodesExact = (next : ℕ → ℕ → ℕ) (q : ℕ) → Arrows next q → Exactly next q
 
--- if the answer is taken (0), what was answered and written is `policyFrom`
+-- if the answer is taken (0), what was answered and written is `reachedPolicy`
 pub record Makes (next : ℕ → ℕ → ℕ) (q : ℕ) (table : List ℕ) : Type 0 where
   pub few : nodesFit next q ≡ true
-  pub states : reachOf next q (length table) .policy .states ≡ policyFrom next q .states
-  pub start : reachOf next q (length table) .policy .start ≡ policyFrom next q .start
-  pub leaves : take (reachOf next q (length table) .answer .place) (reachTable next q table) ≡ policyFrom next q .table
+  pub states : reachOf next q (length table) .policy .states ≡ reachedPolicy next q .states
+  pub start : reachOf next q (length table) .policy .start ≡ reachedPolicy next q .start
+  pub leaves : take (reachOf next q (length table) .answer .place) (reachTable next q table) ≡ reachedPolicy next q .table
 
 abbrev pub TakenReaches : Type 0
 TakenReaches = (next : ℕ → ℕ → ℕ) (q : ℕ) (table : List ℕ) → reachOf next q (length table) .answer .number ≡ 0 → Makes next q table
 
 -- the policy can be installed under every layout with as many states
 abbrev pub ReachRight : Type 0
-ReachRight = (next : ℕ → ℕ → ℕ) (q : ℕ) (lay : Layout) → Arrows next q → nodesFit next q ≡ true → lay .states ≡ statesOf next q → rightPolicy lay (policyFrom next q) ≡ true
+ReachRight = (next : ℕ → ℕ → ℕ) (q : ℕ) (lay : Layout) → Arrows next q → nodesFit next q ≡ true → lay .states ≡ statesOf next q → rightPolicy lay (reachedPolicy next q) ≡ true
 
 -- a list of events is allowed exactly if it leads to a node
 abbrev pub AllowedReaches : Type 0
-AllowedReaches = (next : ℕ → ℕ → ℕ) (q : ℕ) (es : List ℕ) → Arrows next q → nodesFit next q ≡ true → allowed (policyFrom next q) es ≡ not (eqb (nodeAfter next q es) 0)
+AllowedReaches = (next : ℕ → ℕ → ℕ) (q : ℕ) (es : List ℕ) → Arrows next q → nodesFit next q ≡ true → allowed (reachedPolicy next q) es ≡ not (eqb (nodeAfter next q es) 0)
 
 -- an example: node 1 leads to 5 by event 0 and to 3 by event 1; 5 leads to 7, and 3 back to 1
 abbrev pub sample : ℕ → ℕ → ℕ

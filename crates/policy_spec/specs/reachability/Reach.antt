@@ -52,8 +52,8 @@ unfoldable pub tableOf : (ℕ → ℕ → ℕ) → ℕ → List ℕ
 tableOf next q = build (byteOf next (nodes next q)) (events * statesOf next q)
 
 -- the policy whose states are the nodes; its start is the first one
-abbrev pub policyFrom : (ℕ → ℕ → ℕ) → ℕ → Policy
-policyFrom next q = policyOf (statesOf next q) 0 (tableOf next q) []
+abbrev pub reachedPolicy : (ℕ → ℕ → ℕ) → ℕ → Policy
+reachedPolicy next q = policyOf (statesOf next q) 0 (tableOf next q) []
 
 -- whether there are not 'more than 16' nodes
 abbrev pub nodesFit : (ℕ → ℕ → ℕ) → ℕ → Bool
