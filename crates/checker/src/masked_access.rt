@@ -7,7 +7,7 @@ use words::field;
 use words::fields::HIDDEN;
 ghost use mathlib.Core.Path.{_≡_};
 ghost use Rattle.spec.specs.Bundles.{isBundle};
-ghost use Rattle.checker.specs.masked_access.MaskedAccess.{maskWords, loadOf, storeOf, accessOf};
+ghost use Rattle.checker.specs.masked_access.MaskedAccess.{maskWords, loadWord, storeWord, accessOf};
 
 // Whether the first two words mask a guest register's address into the hidden register.
 fn is_mask(l: Layout, w: u64, x: u64) -> bool
@@ -20,14 +20,14 @@ fn is_mask(l: Layout, w: u64, x: u64) -> bool
 }
 
 fn is_load(y: u64) -> bool
-    ensures { λ r. ⌜ r ≡ loadOf y ⌝ }
+    ensures { λ r. ⌜ r ≡ loadWord y ⌝ }
 {
     let to = field::d(y);
     (to < HIDDEN) & is_word(y, Command::LOAD, to, HIDDEN, 0, 0, 0)
 }
 
 fn is_store(y: u64) -> bool
-    ensures { λ r. ⌜ r ≡ storeOf y ⌝ }
+    ensures { λ r. ⌜ r ≡ storeWord y ⌝ }
 {
     let from = field::b(y);
     (from < HIDDEN) & is_word(y, Command::STORE, 0, HIDDEN, from, 0, 0)

@@ -12,11 +12,11 @@ use Rattle.spec.specs.Words.{kindOf, dOf, aOf, bOf, packOf}
 abbrev pub maskWords : Layout → ℕ → ℕ → Bool
 maskWords l w x = ltb (aOf w) guestRegisters && eqb w (packOf (command .andi) hidden (aOf w) 0 0 (l .high)) && eqb x (packOf (command .ori) hidden hidden 0 0 (l .low))
 
-abbrev pub loadOf : ℕ → Bool
-loadOf y = ltb (dOf y) guestRegisters && eqb y (packOf (command .load) (dOf y) hidden 0 0 0)
+abbrev pub loadWord : ℕ → Bool
+loadWord y = ltb (dOf y) guestRegisters && eqb y (packOf (command .load) (dOf y) hidden 0 0 0)
 
-abbrev pub storeOf : ℕ → Bool
-storeOf y = ltb (bOf y) guestRegisters && eqb y (packOf (command .store) 0 hidden (bOf y) 0 0)
+abbrev pub storeWord : ℕ → Bool
+storeWord y = ltb (bOf y) guestRegisters && eqb y (packOf (command .store) 0 hidden (bOf y) 0 0)
 
 -- the instruction, LOAD or STORE, by the third word
 abbrev pub accessOf : ℕ → ℕ → Instr
