@@ -8,7 +8,7 @@ use lib.ListN.{length, getD}
 use Rattle.types.specs.declared.Layout.{Layout}
 use Rattle.spec.specs.Layouts.{inBox}
 use Rattle.spec.specs.Guests.{Pair}
-use Rattle.spec.specs.Runs.{RunInput, pairsOf, Every, eachRun, afterAll, Run, recordedIn, MemoryPreserved}
+use Rattle.spec.specs.Runs.{RunInput, pairsOf, Every, eachRun, afterAll, Run, recordedIn, MemoryPreserved, EachPreserved}
 use Rattle.spec.specs.Claims.{withBudget, FrameCondition}
 use Rattle.spec.proofs.Counts.{Tally}
 
@@ -33,7 +33,7 @@ module _ {C : Type 0} (on : C → RunInput → C) where
   -- each run is lent the memory that the last one left
   module _ (lay : Layout) (memory : C → List ℕ) where
     abbrev pub AllPreserved : C → List RunInput → Type 0
-    AllPreserved c gs = Every (λ (x : List ℕ × RunInput). MemoryPreserved lay (x .0) (x .1)) (eachRun (λ c g. (memory c, g)) on c gs)
+    AllPreserved c gs = EachPreserved lay (eachRun (λ c g. (memory c, g)) on c gs)
 
     pub lends-more : (c : C) (gs : List RunInput) (g : RunInput) → AllPreserved c gs → MemoryPreserved lay (memory (afterAll on c gs)) g → AllPreserved c (gs ++ (g ∷ []))
     unfolding eachRun afterAll
