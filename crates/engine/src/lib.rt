@@ -19,7 +19,7 @@ ghost use Rattle.types.specs.declared.Status.the-variants.{Running};
 ghost use Rattle.types.specs.Names.{mostInstructions};
 ghost use Rattle.spec.specs.Words.{bundlesFor};
 ghost use Rattle.spec.specs.Machines.{stateOf, runResultOf};
-ghost use Rattle.engine_spec.specs.Engines.{engineOf, Holds, outcomeOf, endAnswer, startOf, runOf};
+ghost use Rattle.engine_spec.specs.Engines.{engineOf, LayoutWithin, outcomeOf, endAnswer, startOf, runOf};
 ghost use Rattle.engine_spec.specs.Continues.{continueFrom, continueOf};
 ghost use Rattle.engine_step.specs.fetch.Fetched.{IndexedWords};
 ghost use Rattle.engine.specs.run_loop.Stretches.{KnownWords};
@@ -65,7 +65,7 @@ fn run_running(
     readings: &[u32],
     log: &mut [u32],
 ) -> EngineOutcome
-    requires { ⌜ KnownWords (now words) judged × IndexedWords (now words) top × Holds layout (length (now memory)) ⌝ }
+    requires { ⌜ KnownWords (now words) judged × IndexedWords (now words) top × LayoutWithin layout (length (now memory)) ⌝ }
     ensures { λ r. ⌜ runResultOf r (now (memory .exit)) (now (log .exit))
         ≡ continueFrom layout (now (words .entry)) (now (readings .entry)) budget 0
         (stateOf (engine .regs) (engine .at) Running (now (memory .entry)) (now (log .entry)) 0 0) ⌝ }
@@ -123,7 +123,7 @@ fn run_on(
     readings: &[u32],
     log: &mut [u32],
 ) -> EngineOutcome
-    requires { ⌜ KnownWords (now words) judged × Holds layout (length (now memory)) ⌝ }
+    requires { ⌜ KnownWords (now words) judged × LayoutWithin layout (length (now memory)) ⌝ }
     ensures { λ r. ⌜ runResultOf r (now (memory .exit)) (now (log .exit))
         ≡ continueFrom layout (now (words .entry)) (now (readings .entry)) budget 0 (startOf engine (now (memory .entry)) (now (log .entry))) ⌝ }
 {

@@ -26,7 +26,7 @@ ghost use Prim.Native.Nat.{_+_};
 ghost use lib.ListN.{length, getD};
 ghost use Rattle.spec.specs.Machines.{viewOf};
 ghost use Rattle.engine_step.specs.fetch.Fetched.{IndexedWords, LastIndex, FetchedFields, fetchedEffect};
-ghost use Rattle.engine_spec.specs.Engines.{Holds};
+ghost use Rattle.engine_spec.specs.Engines.{LayoutWithin};
 ghost use Rattle.engine_spec.specs.Continues.{isInstructionAt, reachedEffect};
 
 // The effect of a fetched word. Each of the 16 numbers of four bits has an arm, so the match compiles to one jump without a range test.
@@ -40,7 +40,7 @@ fn instruction_effect(
     memory: &[u32],
     supplies: Supplies,
 ) -> Effect
-    requires { ⌜ FetchedFields w × LastIndex top × Holds layout (length (now memory))
+    requires { ⌜ FetchedFields w × LastIndex top × LayoutWithin layout (length (now memory))
         × (supplies .state ≡ getD (now memory) (layout .cell) 0) ⌝ }
     ensures { λ r. ⌜ r ≡ fetchedEffect layout (top + 1) w (viewOf (now (regs .entry)) at (now (memory .entry)) (layout .cell) (layout .table)
         (layout .base) (layout .landings) (supplies .free) (supplies .left)) ⌝ }
@@ -97,7 +97,7 @@ pub fn next_effect(
     memory: &[u32],
     supplies: Supplies,
 ) -> Effect
-    requires { ⌜ IndexedWords (now words) top × (isInstructionAt (now words) at ≡ true) × Holds layout (length (now memory))
+    requires { ⌜ IndexedWords (now words) top × (isInstructionAt (now words) at ≡ true) × LayoutWithin layout (length (now memory))
         × (supplies .state ≡ getD (now memory) (layout .cell) 0) ⌝ }
     ensures { λ r. ⌜ r ≡ reachedEffect layout (now (words .entry)) (viewOf (now (regs .entry)) at (now (memory .entry)) (layout .cell)
         (layout .table) (layout .base) (layout .landings) (supplies .free) (supplies .left)) ⌝ }

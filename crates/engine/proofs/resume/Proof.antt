@@ -1,5 +1,5 @@
 use borrow.Author.Needs.{needs}
-use Rattle.engine.proofs.Running.{none-known, reached-held, taken-on, refused-on}
+use Rattle.engine.proofs.Running.{none-known, reached-within, taken-on, refused-on}
 use Rattle.engine.proofs.resume.Statement.{statement}
 use Rattle.engine.proofs.resume.Tie as tie
 
@@ -8,7 +8,7 @@ resume-spec =
     tie.close
     (tie.spec
     (λ c κs. search needs)
-    (λ c κs. search (none-known, reached-held, needs))
+    (λ c κs. search (none-known, reached-within, needs))
     (λ c. search needs)
     (λ c. search needs)
     (λ c. search (taken-on, needs))
