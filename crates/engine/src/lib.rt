@@ -22,7 +22,7 @@ ghost use Rattle.spec.specs.Machines.{stateOf, runResultOf};
 ghost use Rattle.engine_spec.specs.Engines.{engineOf, LayoutWithin, outcomeOf, endAnswer, startOf, runOf};
 ghost use Rattle.engine_spec.specs.Continues.{continueFrom, continueOf};
 ghost use Rattle.engine_step.specs.fetch.Fetched.{IndexedWords};
-ghost use Rattle.engine.specs.run_loop.Stretches.{KnownWords};
+ghost use Rattle.engine.specs.run_loop.Segments.{KnownWords};
 
 // ---- what a run answers
 

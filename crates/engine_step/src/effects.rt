@@ -1,5 +1,5 @@
 // Decides the effect of the instruction at the index. It changes nothing.
-use crate::events::Supplies;
+use crate::events::EventContext;
 use crate::events::checked_event;
 use crate::fetch::NO_INSTRUCTION;
 use crate::fetch::UNUSED_KIND;
@@ -38,12 +38,12 @@ fn instruction_effect(
     regs: &[u32; Engine::REGISTERS],
     at: u32,
     memory: &[u32],
-    supplies: Supplies,
+    context: EventContext,
 ) -> Effect
     requires { ⌜ FetchedFields w × LastIndex top × LayoutWithin layout (length (now memory))
-        × (supplies .state ≡ getD (now memory) (layout .cell) 0) ⌝ }
+        × (context .state ≡ getD (now memory) (layout .cell) 0) ⌝ }
     ensures { λ r. ⌜ r ≡ fetchedEffect layout (top + 1) w (viewOf (now (regs .entry)) at (now (memory .entry)) (layout .cell) (layout .table)
-        (layout .base) (layout .landings) (supplies .free) (supplies .left)) ⌝ }
+        (layout .base) (layout .landings) (context .free) (context .left)) ⌝ }
 {
     match w % field::FOUR_BITS {
         Instr::KIND_HALT => Effect::End(Status::Ended),
@@ -79,7 +79,7 @@ fn instruction_effect(
             layout.landings,
             memory,
         ),
-        Instr::KIND_EVENT => checked_event(layout, v_field(w), memory, supplies),
+        Instr::KIND_EVENT => checked_event(layout, v_field(w), memory, context),
         UNUSED_KIND => Effect::End(Status::Faulted),
         UNUSED_KIND_TOO => Effect::End(Status::Faulted),
         NO_INSTRUCTION => Effect::End(Status::Faulted),
@@ -95,13 +95,13 @@ pub fn next_effect(
     regs: &[u32; Engine::REGISTERS],
     at: u32,
     memory: &[u32],
-    supplies: Supplies,
+    context: EventContext,
 ) -> Effect
     requires { ⌜ IndexedWords (now words) top × (isInstructionAt (now words) at ≡ true) × LayoutWithin layout (length (now memory))
-        × (supplies .state ≡ getD (now memory) (layout .cell) 0) ⌝ }
+        × (context .state ≡ getD (now memory) (layout .cell) 0) ⌝ }
     ensures { λ r. ⌜ r ≡ reachedEffect layout (now (words .entry)) (viewOf (now (regs .entry)) at (now (memory .entry)) (layout .cell)
-        (layout .table) (layout .base) (layout .landings) (supplies .free) (supplies .left)) ⌝ }
+        (layout .table) (layout .base) (layout .landings) (context .free) (context .left)) ⌝ }
 {
     let w = fetch(words, top, at);
-    instruction_effect(layout, w, top, regs, at, memory, supplies)
+    instruction_effect(layout, w, top, regs, at, memory, context)
 }

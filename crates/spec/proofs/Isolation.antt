@@ -88,8 +88,8 @@ no-wrap lay pol ws mem gs v =
     }
 
 -- a cell of a range that lies outside the sandbox
-stretch-out : (lay : Layout) (from size i : ℕ) → ((j : ℕ) → j < size → inBox lay (from + j) ≡ false) → (leb from i && ltb i (from + size)) ≡ true → inBox lay i ≡ false
-stretch-out lay from size i out e =
+range-out : (lay : Layout) (from size i : ℕ) → ((j : ℕ) → j < size → inBox lay (from + j) ≡ false) → (leb from i && ltb i (from + size)) ≡ true → inBox lay i ≡ false
+range-out lay from size i out e =
     let b = both _ _ e in
     let low : from ≤ i = leb-true _ _ (b .0) in
     let high : i < from + size = ltb-true _ _ (b .1) in
@@ -101,7 +101,7 @@ pub protected-out : (lay : Layout) (pol : Policy) (n i : ℕ) → Ready lay pol 
 unfolding protected inTable inLandings
 protected-out lay pol n i ok p ne =
     ⊎-elim (λ e. absurd (ne (eqb-true i (lay .cell) e)))
-    (λ q. ⊎-elim (stretch-out lay (lay .table) _ i (ok .table-out)) (stretch-out lay (lay .landings) _ i (ok .landings-out)) (either _ _ q))
+    (λ q. ⊎-elim (range-out lay (lay .table) _ i (ok .table-out)) (range-out lay (lay .landings) _ i (ok .landings-out)) (either _ _ q))
     (either _ _ p)
 
 pub recorded : Recorded
