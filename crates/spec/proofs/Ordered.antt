@@ -25,7 +25,7 @@ use Rattle.spec.specs.Words.{kindOf, dOf, aOf, bOf, cOf, vOf}
 use Rattle.spec.specs.Commands.{isCommand, named, commandOf, fetchOf, holdsOf}
 use Rattle.spec.specs.Machines.{View, entryFrom, isLanding, eventEffect, effectOf, State, stateOf, applyOf, viewAt, nextOf, endingOf, RunResult}
 use Rattle.spec.specs.Machines.{resultIn, finalState, fits, runFrom, startOf, runOf}
-use Rattle.spec.specs.Endings.{commandAt, registerAt, cellsUsed, FaultsAt, outside, unknown, beyond, EndsAt, WaitsAt, MachineOrder, OverStays, OnlyWhen, EndsOnlyWhen}
+use Rattle.spec.specs.Endings.{commandAt, registerAt, cellsUsed, FaultsAt, outside, unknown, beyond, EndsAt, WaitsAt, MachineOrder, TerminalIsAbsorbing, OnlyWhen, EndsOnlyWhen}
 use Rattle.spec.proofs.Bools.{no, cases, both, or-left, or-right, either, cond-ind}
 use Rattle.spec.proofs.Loops.{Loop, over-from, wait-from, go-from, keeps, runs-compose-at, machineLoop}
 
@@ -269,9 +269,9 @@ machine-order lay ws m mem rd log j fit =
       goes = λ n run h. on n ∙ go-from l n k s run (λ w z. h w (subst (Reason lay ws rd s size) z (reason lay ws rd s size)));
     })
 
-pub over-stays : OverStays
+pub terminal-is-absorbing : TerminalIsAbsorbing
 unfolding runOf
-over-stays lay ws m mem budget rd log fit h = rw fit (over-from (machineLoop lay ws rd) budget 0 (startOf m mem log) h)
+terminal-is-absorbing lay ws m mem budget rd log fit h = rw fit (over-from (machineLoop lay ws rd) budget 0 (startOf m mem log) h)
 
 -- ---- an ending comes only under its condition
 

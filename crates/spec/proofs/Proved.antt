@@ -8,7 +8,7 @@ use Rattle.spec.proofs.Conditions.{installs}
 use Rattle.spec.proofs.Passing.{rewrite-leaves, rewritten-passes, passed-rewrites, passed-decodes}
 use Rattle.spec.proofs.Shapes.{shapes, checks}
 use Rattle.spec.proofs.Endings.{ending-status, previews}
-use Rattle.spec.proofs.Ordered.{machine-order, over-stays, ends-only-when}
+use Rattle.spec.proofs.Ordered.{machine-order, terminal-is-absorbing, ends-only-when}
 use Rattle.spec.proofs.Isolation.{guest-rule, recorded, isolation, no-wrap}
 use Rattle.spec.proofs.Ceilings.{ceilings}
 use Rattle.spec.proofs.Progress.{resumes, progress}
@@ -33,7 +33,7 @@ proved =
       passedDecodes = passed-decodes;
       endingStatus = ending-status;
       machineOrder = machine-order;
-      overStays = over-stays;
+      terminalIsAbsorbing = terminal-is-absorbing;
       endsOnlyWhen = ends-only-when;
       previews = previews;
       runsCompose = runs-compose;

@@ -1,5 +1,5 @@
 -- All claims of this crate, one field each. Their proof is `proved` in proofs/Proved.antt.
-use Rattle.spec.specs.Endings.{MachineOrder, OverStays, EndsOnlyWhen}
+use Rattle.spec.specs.Endings.{MachineOrder, TerminalIsAbsorbing, EndsOnlyWhen}
 use Rattle.spec.specs.Claims.{Masks, LandingBits, Installs, Sizes, Signs, WordsRoundTrip, BytesRoundTrip, RewriteLeaves, RewrittenPasses, PassedRewrites, Shapes, Checks, PassedDecodes, EndingStatus, Previews, RunsCompose, PrefixClosed, GuestRule, EveryMoment, Resumes, Progress, Recorded, Ceilings, Isolation, NoWrap, StateCell, PausedWaits, PauseRule}
 
 pub record Proved : Type 0 where
@@ -18,7 +18,7 @@ pub record Proved : Type 0 where
   pub passedDecodes : PassedDecodes
   pub endingStatus : EndingStatus
   pub machineOrder : MachineOrder
-  pub overStays : OverStays
+  pub terminalIsAbsorbing : TerminalIsAbsorbing
   pub endsOnlyWhen : EndsOnlyWhen
   pub previews : Previews
   pub runsCompose : RunsCompose
