@@ -20,7 +20,7 @@ use Rattle.policy_spec.specs.reachability.Reach.{nodeAfter}
 use Rattle.policy_spec.specs.reachability.Claims.{Arrows}
 use Rattle.policy_spec.proofs.reachability.Reach.{nodes-exact, taken-reaches, reach-right, allowed-reaches}
 use Rattle.policy_determinise.specs.Drawings.{Drawing, ValidDrawing, successors, unionOf, setAfter, mapsRight, drawingRight, madePolicy, determiniseOf, determiniseTable}
-use Rattle.policy_determinise.specs.Claims.{Makes, TakenMakes, MadeRight, DrawingPath, ends, goes, Followed, AllowedRuns, SetsAreEnds, SetsExact}
+use Rattle.policy_determinise.specs.Claims.{WritesPolicy, TakenWritesPolicy, MadeRight, DrawingPath, ends, goes, Followed, AllowedRuns, SetsAreEnds, SetsExact}
 
 maps-at : (s : ℕ) (ms : List ℕ) (i : ℕ) → 0 < 2 ^ s → mapsRight s ms ≡ true → getD ms i 0 < 2 ^ s
 maps-at s [] i p e = p
@@ -199,11 +199,11 @@ made-right d lay r t e = reach-right (setAfter d) (d .starts) lay (arrows d (fit
 pub sets-exact : SetsExact
 sets-exact d r = nodes-exact (setAfter d) (d .starts) (arrows d (fit-of d r))
 
-pub taken-makes : TakenMakes
+pub taken-writes-policy : TakenWritesPolicy
 unfolding determiniseOf determiniseTable
-taken-makes d table t = go (drawingRight d) refl
+taken-writes-policy d table t = go (drawingRight d) refl
   where
-    go : (b : Bool) → drawingRight d ≡ b → Makes d table
+    go : (b : Bool) → drawingRight d ≡ b → WritesPolicy d table
     go false e = absurd (omega (arith, rw e at t))
     go true e =
         let m = taken-reaches (setAfter d) (d .starts) table (rw e at t) in

@@ -13,15 +13,15 @@ use Rattle.policy_spec.specs.reachability.Claims.{Exactly, row}
 use Rattle.policy_determinise.specs.Drawings.{Drawing, drawingOf, successors, setAfter, drawingRight, madePolicy, determiniseOf, determiniseTable}
 
 -- if the answer is taken (0), what was answered and written is `madePolicy`, the policy of the other claims
-pub record Makes (d : Drawing) (table : List ℕ) : Type 0 where
+pub record WritesPolicy (d : Drawing) (table : List ℕ) : Type 0 where
   pub right : drawingRight d ≡ true
   pub few : nodesFit (setAfter d) (d .starts) ≡ true
   pub states : determiniseOf d (length table) .policy .states ≡ madePolicy d .states
   pub start : determiniseOf d (length table) .policy .start ≡ madePolicy d .start
   pub leaves : take (determiniseOf d (length table) .answer .place) (determiniseTable d table) ≡ madePolicy d .table
 
-abbrev pub TakenMakes : Type 0
-TakenMakes = (d : Drawing) (table : List ℕ) → determiniseOf d (length table) .answer .number ≡ 0 → Makes d table
+abbrev pub TakenWritesPolicy : Type 0
+TakenWritesPolicy = (d : Drawing) (table : List ℕ) → determiniseOf d (length table) .answer .number ≡ 0 → WritesPolicy d table
 
 -- the policy can be installed under a layout with as many states
 abbrev pub MadeRight : Type 0

@@ -14,7 +14,7 @@ use Rattle.spec.specs.Policies.{Policy, arrow, entryRight, rightPolicy}
 use Rattle.policy_spec.specs.maps.Maps.{mapWhere}
 use Rattle.policy_spec.specs.precedence.Precedence.{ValidPairs, isNamed, namedCount, statesOf, tableBytes, arrowOf, byteOf, blocked, tableOf}
 use Rattle.policy_spec.specs.precedence.Precedence.{madePolicy, pairsRight, makeAnswer, makeOf, makeTable}
-use Rattle.policy_spec.specs.precedence.Claims.{Makes, TakenMakes, MadeRight}
+use Rattle.policy_spec.specs.precedence.Claims.{WritesPolicy, TakenWritesPolicy, MadeRight}
 use Rattle.policy_spec.proofs.maps.Tables.{entries-build}
 use Rattle.policy_spec.proofs.maps.Maps.{length-build, build-at}
 use Rattle.policy_spec.proofs.precedence.Laws.{fit-of, states-most, on-below}
@@ -23,11 +23,11 @@ use Rattle.spec.proofs.Bools.{or-left, or-right}
 pub fit-right : (ps : List ℕ) → pairsRight ps ≡ true → ValidPairs ps (mapWhere (isNamed ps) events)
 fit-right ps t = fit-of ps (mapWhere (isNamed ps) events) refl (pairsRight ps) refl t
 
-pub taken-makes : TakenMakes
+pub taken-writes-policy : TakenWritesPolicy
 unfolding makeAnswer makeOf makeTable
-taken-makes ps table t = go (pairsRight ps) refl (ltb (length table) (tableBytes ps)) refl
+taken-writes-policy ps table t = go (pairsRight ps) refl (ltb (length table) (tableBytes ps)) refl
   where
-    go : (r : Bool) → pairsRight ps ≡ r → (l : Bool) → ltb (length table) (tableBytes ps) ≡ l → Makes ps table
+    go : (r : Bool) → pairsRight ps ≡ r → (l : Bool) → ltb (length table) (tableBytes ps) ≡ l → WritesPolicy ps table
     go false e l f = absurd (omega (arith, rw e at t))
     go true e true f = absurd (omega (arith, rw (e, f) at t))
     go true e false f =

@@ -1,6 +1,6 @@
 -- The proof of all claims of this module.
 use Rattle.policy_spec.specs.precedence.Proved.{Proved}
-use Rattle.policy_spec.proofs.precedence.Policies.{taken-makes, made-right}
+use Rattle.policy_spec.proofs.precedence.Policies.{taken-writes-policy, made-right}
 use Rattle.policy_spec.proofs.precedence.Orders.{allowed-in-order, states-are-maps}
 use Rattle.policy_spec.proofs.precedence.Unreachable.{unreachable-allowed}
 use Rattle.policy_spec.proofs.precedence.Samples.{worked-examples}
@@ -8,7 +8,7 @@ use Rattle.policy_spec.proofs.precedence.Samples.{worked-examples}
 pub proved : Proved
 proved =
     record {
-      takenMakes = taken-makes;
+      takenWritesPolicy = taken-writes-policy;
       madeRight = made-right;
       allowedInOrder = allowed-in-order;
       statesAreMaps = states-are-maps;

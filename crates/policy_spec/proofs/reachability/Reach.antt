@@ -14,7 +14,7 @@ use Rattle.policy_spec.proofs.maps.Maps.{length-build, build-at}
 use Rattle.policy_spec.proofs.maps.Tables.{entries-build}
 use Rattle.policy_spec.specs.reachability.Reach.{indexOf, insert, target, reachedBy, nodes, nodeState, byteOf, statesOf, tableOf, reachedPolicy}
 use Rattle.policy_spec.specs.reachability.Reach.{nodesFit, reachAnswer, reachOf, reachTable, nodeAfter}
-use Rattle.policy_spec.specs.reachability.Claims.{Arrows, Reached, Exactly, NodesExact, Makes, TakenReaches, ReachRight, AllowedReaches}
+use Rattle.policy_spec.specs.reachability.Claims.{Arrows, Reached, Exactly, NodesExact, WritesPolicy, TakenReaches, ReachRight, AllowedReaches}
 use Rattle.policy_spec.proofs.reachability.Places.{pigeonhole, place-at, place-of, place-append, place-new, Inserts, none, again, anew, inserts, insert-none, reached-known, More, insert-more}
 use Rattle.spec.proofs.Bools.{or-left, or-right}
 
@@ -292,7 +292,7 @@ pub taken-reaches : TakenReaches
 unfolding reachAnswer reachOf reachTable
 taken-reaches next q table t = go (nodesFit next q) refl (ltb (length table) (events * statesOf next q)) refl
   where
-    go : (a : Bool) → nodesFit next q ≡ a → (b : Bool) → ltb (length table) (events * statesOf next q) ≡ b → Makes next q table
+    go : (a : Bool) → nodesFit next q ≡ a → (b : Bool) → ltb (length table) (events * statesOf next q) ≡ b → WritesPolicy next q table
     go false e b f = absurd (omega (arith, rw e at t))
     go true e true f = absurd (omega (arith, rw (e, f) at t))
     go true e false f =

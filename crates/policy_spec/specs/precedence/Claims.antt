@@ -11,15 +11,15 @@ use Rattle.policy_spec.specs.maps.Maps.{bit}
 use Rattle.policy_spec.specs.precedence.Precedence.{pairsIn, firstAt, secondAt, isNamed, pairsRight, bitIndex, statesOf, tableOf, madePolicy, unreachableEvents, makeAnswer, precedenceResult, makeOf, makeTable}
 
 -- if the answer is taken (0), what was answered and written is `madePolicy`, the policy of the other claims
-pub record Makes (ps table : List ℕ) : Type 0 where
+pub record WritesPolicy (ps table : List ℕ) : Type 0 where
   pub right : pairsRight ps ≡ true
   pub states : makeOf ps (length table) .policy .states ≡ madePolicy ps .states
   pub start : makeOf ps (length table) .policy .start ≡ madePolicy ps .start
   pub leaves : take (makeOf ps (length table) .answer .place) (makeTable ps table) ≡ madePolicy ps .table
   pub unreachable : makeOf ps (length table) .unreachable ≡ unreachableEvents ps
 
-abbrev pub TakenMakes : Type 0
-TakenMakes = (ps table : List ℕ) → makeAnswer ps (length table) .number ≡ 0 → Makes ps table
+abbrev pub TakenWritesPolicy : Type 0
+TakenWritesPolicy = (ps table : List ℕ) → makeAnswer ps (length table) .number ≡ 0 → WritesPolicy ps table
 
 -- pairs that are right give a policy that can be installed under a layout with as many states
 abbrev pub MadeRight : Type 0

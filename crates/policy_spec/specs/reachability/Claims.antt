@@ -47,14 +47,14 @@ abbrev pub NodesExact : Type 0
 NodesExact = (next : ℕ → ℕ → ℕ) (q : ℕ) → Arrows next q → Exactly next q
 
 -- if the answer is taken (0), what was answered and written is `reachedPolicy`
-pub record Makes (next : ℕ → ℕ → ℕ) (q : ℕ) (table : List ℕ) : Type 0 where
+pub record WritesPolicy (next : ℕ → ℕ → ℕ) (q : ℕ) (table : List ℕ) : Type 0 where
   pub few : nodesFit next q ≡ true
   pub states : reachOf next q (length table) .policy .states ≡ reachedPolicy next q .states
   pub start : reachOf next q (length table) .policy .start ≡ reachedPolicy next q .start
   pub leaves : take (reachOf next q (length table) .answer .place) (reachTable next q table) ≡ reachedPolicy next q .table
 
 abbrev pub TakenReaches : Type 0
-TakenReaches = (next : ℕ → ℕ → ℕ) (q : ℕ) (table : List ℕ) → reachOf next q (length table) .answer .number ≡ 0 → Makes next q table
+TakenReaches = (next : ℕ → ℕ → ℕ) (q : ℕ) (table : List ℕ) → reachOf next q (length table) .answer .number ≡ 0 → WritesPolicy next q table
 
 -- the policy can be installed under every layout with as many states
 abbrev pub ReachRight : Type 0
