@@ -114,10 +114,10 @@ engine-pauses lay pol code mem room gs es v w count g h sg sh lent logs readings
     let ok = ready-of lay pol code mem t (v .engine .installed) in
     let rt = routine-of code (t .sound) in
     let known = enter lay pol code ok rt g0 n h sh lent (stays lay pol code mem es ok rt (v .engine)) in
-    let m = known .fine .memory in
+    let m = known .invariant .memory in
     let e = w .event in
     let q = getD (h .memory) (lay .cell) 0 in
-    let within : n .engine .at < N = known .fine .within run in
+    let within : n .engine .at < N = known .invariant .within run in
     let event : routine code (n .engine .at) ≡ EVENT e = ap (routine code) at ∙ p .event in
     let valid : e < events = subst (Valid N) event (rt .valid (n .engine .at)) in
     let state : q ≡ G .state = lent sh (lay .cell) (lent-cell lay) ∙ f .state ∙ sym (ap (λ (x : Guest). x .state) same) in

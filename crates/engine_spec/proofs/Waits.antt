@@ -287,11 +287,11 @@ both-pause lay pol code mem room gs es v x count run g h lg lh sg sh logs readin
     let ok = ready-of lay pol code mem t (v .engine .installed) in
     let rt = routine-of code (t .sound) in
     let known = enter lay pol code ok rt g0 n h sh lh (stays lay pol code mem es ok rt (v .engine)) in
-    let m = known .fine .memory in
+    let m = known .invariant .memory in
     let size : length (h .memory) ≡ length mem = sh ∙ sym (taken-size lay code mem (v .engine .taken)) in
     let z : refusalOf lay code (h .memory) .number ≡ 0 = ap (λ (k : ℕ). refusalBy lay code k .number) size ∙ v .engine .taken in
     let s = startOf (n .engine) (h .memory) (h .log) in
-    let within : n .engine .at < N = known .fine .within runs in
+    let within : n .engine .at < N = known .invariant .within runs in
     let wait = paused-waits lay code (h .readings) s runs (rw (eq-eqb _ _ z) at p) in
     let w = wait .0 in
     let y = waited lay code (h .readings) s w within (wait .1) in

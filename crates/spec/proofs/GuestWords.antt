@@ -17,7 +17,7 @@ use Rattle.spec.specs.Commands.{limitsOf}
 use Rattle.spec.proofs.Facts.{Valid}
 use Rattle.spec.proofs.Bools.{both, either, cond-ind, unless-ind}
 use Rattle.spec.proofs.Tables.{all, each, raised}
-use Rattle.spec.proofs.WordLaws.{InLimits, good, judged, bounds}
+use Rattle.spec.proofs.WordLaws.{InLimits, valid-fields, judged, bounds}
 use Rattle.spec.proofs.Packing.{InBits, guest-bits, condition-bits, pack-kind, pack-d, pack-a, pack-b, pack-c, pack-zero, pack-v}
 
 -- ---- the instruction of a taken word is valid
@@ -65,7 +65,7 @@ taken-valid n w e =
     let t = taken-word n w e in
     let x = ltb 0 (zeroOf w) in
     let g = bounds x (fieldsOf w) (t .0) in
-    let kept = good x (fieldsOf w) (t .0) .kept in
+    let kept = valid-fields x (fieldsOf w) (t .0) .kept in
     let hd = is-guest _ (g .d) in
     let ha = is-guest _ (g .a) in
     let hb = is-guest _ (g .b) in
@@ -98,8 +98,8 @@ guestWord (GOX d a b c) = packOf (guest .gox) d a b c 0
 guestWord (EVENT e) = packOf (guest .event) 0 0 0 0 e
 
 -- each field within its limit, and a jump to at most n
-abbrev Fine : ℕ → ℕ → ℕ → ℕ → ℕ → ℕ → ℕ → Type 0
-Fine n k d a b c v =
+abbrev FieldsWithinLimits : ℕ → ℕ → ℕ → ℕ → ℕ → ℕ → ℕ → Type 0
+FieldsWithinLimits n k d a b c v =
     let l = guestLimits k in
     (k ≤ topKind) × ((d ≤ l .d) × (a ≤ l .a) × (b ≤ l .b) × (c ≤ l .c) × (v ≤ l .v)) × (k ≡ guest .goif → v ≤ n)
 
@@ -109,7 +109,7 @@ lands n k v f =
     (λ e. let t = both _ _ e in absurd (let l = f (eqb-true k (guest .goif) (t .0)) in let m = ltb-true n v (t .1) in omega arith))
     (λ e. refl)
 
-pack-judged : (n k d a b c v : ℕ) → InBits k d a b c → Fine n k d a b c v → refusalAt n (packOf k d a b c v) ≡ 0
+pack-judged : (n k d a b c v : ℕ) → InBits k d a b c → FieldsWithinLimits n k d a b c v → refusalAt n (packOf k d a b c v) ≡ 0
 unfolding refusalAt
 pack-judged n k d a b c v h g =
     let f = fields k d a b c v in
@@ -119,10 +119,10 @@ pack-judged n k d a b c v h g =
     (rw j (lands n k v (g .2)))
 
 -- the plain kinds
-plain-fine : (n k d a b v : ℕ) → k ≤ guest .sar → d < guestRegisters → a < guestRegisters → b < guestRegisters → d ≤ limitsOf (k + plainStep) .d
-    → a ≤ limitsOf (k + plainStep) .a → b ≤ limitsOf (k + plainStep) .b → v ≤ limitsOf (k + plainStep) .v → Fine n k d a b 0 v
+plain-within-limits : (n k d a b v : ℕ) → k ≤ guest .sar → d < guestRegisters → a < guestRegisters → b < guestRegisters → d ≤ limitsOf (k + plainStep) .d
+    → a ≤ limitsOf (k + plainStep) .a → b ≤ limitsOf (k + plainStep) .b → v ≤ limitsOf (k + plainStep) .v → FieldsWithinLimits n k d a b 0 v
 unfolding all
-plain-fine n k d a b v h hd ha hb ld la lb lv = (
+plain-within-limits n k d a b v h hd ha hb ld la lb lv = (
   omega arith,
   (
     down (λ l. l .d) refl d hd ld,
@@ -166,7 +166,7 @@ event-bits = (lit< tt, lit< tt, lit< tt, lit< tt, lit< tt)
 pub guest-taken : (n : ℕ) → n ≤ mostInstructions → (i : Instr) → Valid (n + 1) i → refusalAt n (guestWord i) ≡ 0
 guest-taken n m HALT g = pack-judged n (guest .halt) 0 0 0 0 0 halt-bits (lit≤ tt, (lit≤ tt, lit≤ tt, lit≤ tt, lit≤ tt, lit≤ tt), λ e. omega arith)
 guest-taken n m (PLAIN k d a b v) g =
-    pack-judged n k d a b 0 v (plain-bits k d a b (g .1) (g .2) (g .3) (g .4)) (plain-fine n k d a b v (g .1) (g .2) (g .3) (g .4) (g .5) (g .6) (g .7) (g .8))
+    pack-judged n k d a b 0 v (plain-bits k d a b (g .1) (g .2) (g .3) (g .4)) (plain-within-limits n k d a b v (g .1) (g .2) (g .3) (g .4) (g .5) (g .6) (g .7) (g .8))
 guest-taken n m (LOAD d a) g =
     pack-judged n (guest .load) d a 0 0 0 (load-bits d a g) (lit≤ tt, (at-most d (g .0), at-most a (g .1), lit≤ tt, lit≤ tt, lit≤ tt), λ e. omega arith)
 guest-taken n m (STORE a b) g =

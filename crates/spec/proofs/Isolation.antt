@@ -81,7 +81,7 @@ no-wrap lay pol ws mem gs v =
       from = i .0;
       within = omega (arith, i .1, p .count);
       top = omega (arith, t .right .room, p .count);
-      nextPc =
+      increment =
           λ g lent e.
           let w = stays-run lay pol ws _ _ (t .right) (t .bundled) _ c (withBudget g 1) _ refl lent (t .last) in
           no-turn (lay .base) _ (c .machine .pc) _ (p .most) (t .right .room) (i .1) (pc-in lay pol ws _ _ (t .right) (t .bundled) _ (afterRun lay ws c (withBudget g 1)) w .0) e;

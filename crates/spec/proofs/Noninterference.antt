@@ -270,17 +270,17 @@ module _ (lay : Layout) (ws : List ℕ) (In : List ℕ → State → Type 0) (Ou
       (λ s mem log i r w. apply-alike lay rd (nextOf lay ws rd s) s mem log w) (known .step rd) (SameResults lay pairsIn)
       (λ e k s mem log w. record { outcome = refl; logged = pairs-alike (s .log) log (s .pairs) (w .logged); lowEqual = w .lowEqual }) n k s mem log w t
 
-  nextPc : (c c′ : Session) (g g′ : RunInput) (b : Bool) → fits lay (g .memory) ≡ b → SameInputs g g′ → MemoryPreserved lay (c .memory) g
+  session-alike : (c c′ : Session) (g g′ : RunInput) (b : Bool) → fits lay (g .memory) ≡ b → SameInputs g g′ → MemoryPreserved lay (c .memory) g
       → MemoryPreserved lay (c′ .memory) g′ → Out c → c .machine ≡ c′ .machine → LowEqual lay (c .memory) (c′ .memory)
       → SameAfter lay (afterRun lay ws c g .machine) (afterRun lay ws c′ g′ .machine) (runAs lay ws c g) (runAs lay ws c′ g′)
   unfolding runOn runOf afterRun afterTaken
-  nextPc c c′ g g′ true f a lent lent′ w e m =
+  session-alike c c′ g g′ true f a lent lent′ w e m =
       let f′ : fits lay (g′ .memory) ≡ true = rw (← a .memory) f in
       let l = eqb-true _ _ (both (rightLayout lay) (eqb (length (g .memory)) (lay .size)) f .1) in
       let r = run-alike (g .readings) (g .budget) 0 (startOf (c .machine) (g .memory) (g .log)) (g′ .memory) (g′ .log) (known .enter c g l lent w)
       (starts-alike lay _ _ _ (c .memory) (c′ .memory) g g′ l a lent lent′ m) in
       rw (f, f′, ← a .readings, ← a .budget, ← e) (record { outcome = r .outcome; logged = r .logged; from = ap (λ (o : Outcome). o .machine) (r .outcome); lowEqual = r .lowEqual })
-  nextPc c c′ g g′ false f a lent lent′ w e m =
+  session-alike c c′ g g′ false f a lent lent′ w e m =
       let f′ : fits lay (g′ .memory) ≡ false = rw (← a .memory) f in
       rw (f, f′, ← e) (record { outcome = refl; logged = refl; from = refl; lowEqual = m })
 
@@ -349,6 +349,6 @@ noninterference lay pol ws mem gs n is ok bs w v pol′ mem′ gs′ v′ m a =
     let g0 = guestStart lay pol (installMemory lay pol mem) in
     let k = invariant-after lay pol ws n is g0 ok bs in
     runs-alike lay (λ c. c .machine) (λ c. c .memory) (runAs lay ws) (afterRun lay ws) (SessionInvariant lay pol n is g0) (λ c g. refl) (k .leave)
-    (λ c c′ g g′. nextPc lay ws (Within lay pol n is g0) (SessionInvariant lay pol n is g0) k c c′ g g′ _ refl) (initialSession lay pol mem)
+    (λ c c′ g g′. session-alike lay ws (Within lay pol n is g0) (SessionInvariant lay pol n is g0) k c c′ g g′ _ refl) (initialSession lay pol mem)
     (initialSession lay pol′ mem′) gs gs′ a (v .preserved) (v′ .preserved) w
     (machine-of lay pol mem (v .installed) ∙ sym (machine-of lay pol′ mem′ (v′ .installed))) m

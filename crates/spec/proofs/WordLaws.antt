@@ -42,22 +42,22 @@ none-stray : (l : Limits) (f : Fields) → InLimits l f → hasStray l f ≡ fal
 none-stray l f g = rw (has _ _ (g .d), has _ _ (g .a), has _ _ (g .b), has _ _ (g .c), has _ _ (g .v))
 
 -- what holds of an instruction that is not refused
-pub record Good (x : Bool) (f : Fields) : Type 0 where
+pub record ValidFields (x : Bool) (f : Fields) : Type 0 where
   pub kind : f .kind ≤ topKind
   pub clean : x ≡ false
   pub kept : InLimits (guestLimits (f .kind)) f
 
-pub good : (x : Bool) (f : Fields) → fieldsRefusal x f ≡ 0 → Good x f
+pub valid-fields : (x : Bool) (f : Fields) → fieldsRefusal x f ≡ 0 → ValidFields x f
 unfolding fieldsRefusal
-good x f =
-    let P : ℕ → Type 0 = λ y. y ≡ 0 → Good x f in
+valid-fields x f =
+    let P : ℕ → Type 0 = λ y. y ≡ 0 → ValidFields x f in
     let l = guestLimits (f .kind) in
     cond-ind P (ltb topKind (f .kind)) (λ _ e. absurd (omega arith)) (λ h0.
     cond-ind P (x || hasStray l f) (λ _ e. absurd (omega arith)) (λ h1.
     cond-ind P (hasHigh l f) (λ _ e. absurd (omega arith)) (λ h2 _.
     record { kind = ltb-false topKind (f .kind) h0; clean = neither _ _ h1 .0; kept = kept-of l f h2 })))
 
-pub judged : (x : Bool) (f : Fields) → Good x f → fieldsRefusal x f ≡ 0
+pub judged : (x : Bool) (f : Fields) → ValidFields x f → fieldsRefusal x f ≡ 0
 unfolding fieldsRefusal
 judged x f g =
     rw (le-ltb topKind (f .kind) (g .kind), g .clean, none-stray (guestLimits (f .kind)) f (g .kept), none-high (guestLimits (f .kind)) f (g .kept))
@@ -78,7 +78,7 @@ bounded f top e k x l h = raised (λ k. f (guestLimits k)) (λ _. top) (topKind 
 pub bounds : (x : Bool) (f : Fields) → fieldsRefusal x f ≡ 0 → Bounds f
 unfolding all
 bounds x f e =
-    let g = good x f e in
+    let g = valid-fields x f e in
     record {
       kind = g .kind;
       d = bounded (λ l. l .d) topGuest refl _ _ (g .kind) (g .kept .d);
@@ -90,7 +90,7 @@ bounds x f e =
 
 -- its form has no foreign matter
 pub clean : (x : Bool) (f : Fields) → fieldsRefusal x f ≡ 0 → x ≡ false
-clean x f e = good x f e .clean
+clean x f e = valid-fields x f e .clean
 
 -- ---- fields packed and unpacked
 

@@ -363,7 +363,7 @@ pub record PcLaws (lay : Layout) (ws : List ℕ) (c : Session) : Type 0 where
   pub from : lay .base ≤ c .machine .pc
   pub within : c .machine .pc < lay .base + length ws
   pub top : lay .base + length ws ≤ 2 ^ 32
-  pub nextPc : (g : RunInput) → MemoryPreserved lay (c .memory) g → afterRun lay ws c (withBudget g 1) .machine .pc ≡ nextPc (c .machine .pc) → c .machine .pc + 1 < 2 ^ 32
+  pub increment : (g : RunInput) → MemoryPreserved lay (c .memory) g → afterRun lay ws c (withBudget g 1) .machine .pc ≡ nextPc (c .machine .pc) → c .machine .pc + 1 < 2 ^ 32
 
 -- at every moment, since a list of runs may end anywhere
 abbrev pub NoWrap : Type 0

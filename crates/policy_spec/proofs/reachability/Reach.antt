@@ -29,7 +29,7 @@ after-none next z [] = refl
 after-none next z (e ∷ es) = ap (λ (x : ℕ). nodeAfter next x es) (z e) ∙ after-none next z es
 
 -- each node of the list can be reached, and its index is its number
-pub record Good (next : ℕ → ℕ → ℕ) (q : ℕ) (ns : List ℕ) : Type 0 where
+pub record ReachInvariant (next : ℕ → ℕ → ℕ) (q : ℕ) (ns : List ℕ) : Type 0 where
   pub reached : (i : ℕ) → i < length ns → Reached next q (getD ns i 0)
   pub own : (i : ℕ) → i < length ns → indexOf ns (getD ns i 0) ≡ i
 
@@ -42,8 +42,8 @@ unfolding reachedBy
 reached-suc next q k = refl
 
 module _ (next : ℕ → ℕ → ℕ) (q : ℕ) (ok : Arrows next q) where
-  good-start : Good next q (q ∷ [])
-  good-start = record { reached = r; own = o }
+  invariant-start : ReachInvariant next q (q ∷ [])
+  invariant-start = record { reached = r; own = o }
     where
       r : (i : ℕ) → i < 1 → Reached next q (getD (q ∷ []) i 0)
       r zero h = record { by = []; leads = refl; node = ok .start }
@@ -53,8 +53,8 @@ module _ (next : ℕ → ℕ → ℕ) (q : ℕ) (ok : Arrows next q) where
       o zero h = rw (eq-eqb q q refl)
       o (suc i) h = absurd (omega arith)
 
-  good-more : (ns : List ℕ) (x : ℕ) → Good next q ns → ((x ≡ 0 → ⊥) → Reached next q x) → Good next q (insert ns x)
-  good-more ns x g t = go (insert ns x) (inserts ns x)
+  invariant-insert : (ns : List ℕ) (x : ℕ) → ReachInvariant next q ns → ((x ≡ 0 → ⊥) → Reached next q x) → ReachInvariant next q (insert ns x)
+  invariant-insert ns x g t = go (insert ns x) (inserts ns x)
     where
       one-more : (i : ℕ) (P : ℕ → ℕ → Type 0) → length ns ≤ indexOf ns x → (i < length ns → P (getD ns i 0) i) → P x (length ns) → i < length (ns ++ (x ∷ [])) → P (getD (ns ++ (x ∷ [])) i 0) i
       one-more i P k f p h = pick (eqb i (length ns)) refl
@@ -63,7 +63,7 @@ module _ (next : ℕ → ℕ → ℕ) (q : ℕ) (ok : Arrows next q) where
           pick true e = rw (eqb-true i (length ns) e, getD-append-seam ns x [] 0) p
           pick false e = let l : i < length ns = omega (arith, eqb-false i (length ns) e, length-append ns (x ∷ [])) in rw (List·getD-append ns (x ∷ []) 0 i l) (f l)
 
-      go : (l : List ℕ) → Inserts ns x l → Good next q l
+      go : (l : List ℕ) → Inserts ns x l → ReachInvariant next q l
       go l (none e) = g
       go l (again k) = g
       go l (anew z k) =
@@ -79,8 +79,8 @@ module _ (next : ℕ → ℕ → ℕ) (q : ℕ) (ok : Arrows next q) where
                 h;
           }
 
-  -- an arrow from a good list leads to a node that can be reached
-  target-reached : (ns : List ℕ) (k : ℕ) → Good next q ns → (target next ns k ≡ 0 → ⊥) → Reached next q (target next ns k)
+  -- an arrow from a list with the invariant leads to a node that can be reached
+  target-reached : (ns : List ℕ) (k : ℕ) → ReachInvariant next q ns → (target next ns k ≡ 0 → ⊥) → Reached next q (target next ns k)
   target-reached ns k g z = go (ltb (k / events) (length ns)) refl
     where
       go : (b : Bool) → ltb (k / events) (length ns) ≡ b → Reached next q (target next ns k)
@@ -89,10 +89,10 @@ module _ (next : ℕ → ℕ → ℕ) (q : ℕ) (ok : Arrows next q) where
           record { by = r .by ++ (k % events ∷ []); leads = after-snoc next q (r .by) (k % events) ∙ ap (λ (x : ℕ). next x (k % events)) (r .leads); node = z }
       go false h = absurd (z (ap (λ (x : ℕ). next x (k % events)) (List·getD-eq-default ns 0 (ltb-false (k / events) (length ns) h)) ∙ ok .none (k % events)))
 
-  pub good : (k : ℕ) → Good next q (reachedBy next q k)
+  pub reach-invariant : (k : ℕ) → ReachInvariant next q (reachedBy next q k)
   unfolding reachedBy
-  good zero = good-start
-  good (suc k) = good-more (reachedBy next q k) (target next (reachedBy next q k) k) (good k) (target-reached (reachedBy next q k) k (good k))
+  reach-invariant zero = invariant-start
+  reach-invariant (suc k) = invariant-insert (reachedBy next q k) (target next (reachedBy next q k) k) (reach-invariant k) (target-reached (reachedBy next q k) k (reach-invariant k))
 
   -- the list of nodes only grows
   pub grows : (k d : ℕ) → More (reachedBy next q k) (reachedBy next q (k + d))
@@ -198,7 +198,7 @@ module _ (next : ℕ → ℕ → ℕ) (q : ℕ) (ok : Arrows next q) where
   some-state = omega (arith, ap length (from-start .is))
 
   apart : (i j : ℕ) → i < statesOf next q → j < statesOf next q → getD (nodes next q) i 0 ≡ getD (nodes next q) j 0 → i ≡ j
-  apart i j h l e = sym (good (events * mostStates) .own i h) ∙ ap (indexOf (nodes next q)) e ∙ good (events * mostStates) .own j l
+  apart i j h l e = sym (reach-invariant (events * mostStates) .own i h) ∙ ap (indexOf (nodes next q)) e ∙ reach-invariant (events * mostStates) .own j l
 
   numbered : nodesFit next q ≡ true → (x : ℕ) → Reached next q x → indexOf (nodes next q) x < statesOf next q
   numbered t x r =
@@ -208,12 +208,16 @@ module _ (next : ℕ → ℕ → ℕ) (q : ℕ) (ok : Arrows next q) where
   pub exactly : Exactly next q
   exactly =
       record {
-        reached = good (events * mostStates) .reached;
+        reached = reach-invariant (events * mostStates) .reached;
         once = apart;
         all = λ t x r. let p = numbered t x r in record { number = indexOf (nodes next q) x; below = p; is = place-at (nodes next q) x p };
         many = λ t.
             let n : mostStates < statesOf next q = leb-false (statesOf next q) mostStates t in
-            record { node = λ i. getD (nodes next q) i 0; reached = λ i h. good (events * mostStates) .reached i (omega arith); apart = λ i j h k e. apart i j (omega arith) (omega arith) e };
+            record {
+              node = λ i. getD (nodes next q) i 0;
+              reached = λ i h. reach-invariant (events * mostStates) .reached i (omega arith);
+              apart = λ i j h k e. apart i j (omega arith) (omega arith) e;
+            };
         not-many = λ t m.
             let s : statesOf next q ≤ mostStates = leb-true (statesOf next q) mostStates t in
             let below : (i : ℕ) → i ≤ mostStates → indexOf (nodes next q) (m .node i) < statesOf next q = λ i h. numbered t (m .node i) (m .reached i h) in
@@ -252,7 +256,7 @@ module _ (next : ℕ → ℕ → ℕ) (q : ℕ) where
 
     module _ (s : statesOf next q ≤ mostStates) where
       pub allowed-from : (es : List ℕ) (i : ℕ) → i < statesOf next q → allowedFrom (reachedPolicy next q) i es ≡ not (eqb (nodeAfter next (getD (nodes next q) i 0) es) 0)
-      allowed-from [] i h = rw (ne-eqb (getD (nodes next q) i 0) 0 (good next q ok (events * mostStates) .reached i h .node))
+      allowed-from [] i h = rw (ne-eqb (getD (nodes next q) i 0) 0 (reach-invariant next q ok (events * mostStates) .reached i h .node))
       allowed-from (e ∷ es) i h = ap goes (arrow-number i e h) ∙ go (next (getD (nodes next q) i 0) e) (leads next q ok s i e h) (allowed-from es)
         where
           goes : ℕ → Bool

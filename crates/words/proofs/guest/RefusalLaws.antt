@@ -11,7 +11,7 @@ use Rattle.types.specs.declared.Refusal.the-variants.{Taken}
 use Rattle.types.specs.Names.{guestRegisters, topGuest, topKind, numberOf}
 use Rattle.spec.specs.Words.{guestLimits, fieldsRefusal, fieldsOf, kindOf, dOf, aOf, bOf, zeroOf, wordRefusal}
 use Rattle.spec.proofs.Bools.{both, join}
-use Rattle.spec.proofs.WordLaws.{good, judged, bounds}
+use Rattle.spec.proofs.WordLaws.{valid-fields, judged, bounds}
 use Rattle.words.specs.fields.Strays.{strayOf}
 use Rattle.words.specs.fields.Guests.{onlyGuestRegisters}
 use Rattle.words.proofs.fields.Masks.{bool-ext, Within}
@@ -52,7 +52,7 @@ module _ (w k : ℕ) (e : k ≡ kindOf w) where
 
     good-clean : wordRefusal w ≡ 0 → (eqb (bitAnd w s) 0 && g) ≡ true
     good-clean z =
-        let o = good (ltb 0 (zeroOf w)) (fieldsOf w) z in
+        let o = valid-fields (ltb 0 (zeroOf w)) (fieldsOf w) z in
         let m = bounds (ltb 0 (zeroOf w)) (fieldsOf w) z in
         let i : Within (guestLimits (kindOf w)) w = record {
           kind = omega (arith, m .kind);
