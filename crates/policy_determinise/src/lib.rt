@@ -27,7 +27,7 @@ fn successors_in(x: u16, k: usize, m: u16) -> u16
 }
 
 // The set of states that event n leads to from the set x.
-fn next(states: usize, arrows: &[u16], x: u16, n: usize) -> u16
+fn set_after(states: usize, arrows: &[u16], x: u16, n: usize) -> u16
     requires { ⌜ (states ≤ mostStates) × (n < events) × (length (now arrows) ≡ events * states) ⌝ }
     ensures { λ r. ⌜ r ≡ unionOf (now (arrows .entry)) x n states ⌝ }
 {
@@ -89,7 +89,7 @@ fn explore(states: usize, starts: u16, arrows: &[u16]) -> Worklist
         found = policy_reachability::insert_target(
             found,
             k,
-            next(
+            set_after(
                 states,
                 arrows,
                 policy_reachability::node(found, k),

@@ -68,7 +68,7 @@ fn both(s: usize, t: usize) -> u16
 }
 
 // The pair after event n in pair x. Only the tables are needed.
-fn next(left: &[u8], right: &[u8], x: u16, n: usize) -> u16
+fn pair_after(left: &[u8], right: &[u8], x: u16, n: usize) -> u16
     requires { ⌜ n < events ⌝ }
     ensures { λ r. ⌜ r ≡ pairAfter (arrowsOf (now (left .entry))) (arrowsOf (now (right .entry))) x n ⌝ }
 {
@@ -93,7 +93,7 @@ fn explore(left: &[u8], right: &[u8], start: u16) -> Worklist
         found = policy_reachability::insert_target(
             found,
             k,
-            next(left, right, policy_reachability::node(found, k), k % EVENTS),
+            pair_after(left, right, policy_reachability::node(found, k), k % EVENTS),
         );
         k += 1;
     }

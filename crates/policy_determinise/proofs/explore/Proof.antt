@@ -26,8 +26,8 @@ low c = let at = c .before .before .loop in going (at .found) (at .k) _ (c .befo
 node-requires : tie.Need-node-requires Inv-loop μ-loop
 node-requires c κs = low c .1
 
-next-requires : tie.Need-next-requires Inv-loop μ-loop
-next-requires c κs = let fit = c .before .before .before .before .before .before .pre in (fit .few-states, omega arith, fit .size)
+set-after-requires : tie.Need-set-after-requires Inv-loop μ-loop
+set-after-requires c κs = let fit = c .before .before .before .before .before .before .pre in (fit .few-states, omega arith, fit .size)
 
 insert-target-requires : tie.Need-insert-target-requires Inv-loop μ-loop
 insert-target-requires c κs = let test = c .before .before in (test .before .before .loop .inv .sized, low test .0, low test .1)
@@ -44,7 +44,7 @@ loop-again c =
     let at = test .before .before .loop in
     let start = test .before .before .before .before .before in
     holds-more _ (start .args .starts) (arrows _ (start .pre)) (at .found) (at .k) (at .inv) _ (test .before .has-pending .ensures) (test .if1 .taken) _ _
-    (c .before .before .node .ensures) (c .before .next .ensures) _ (c .insert-target .ensures)
+    (c .before .before .node .ensures) (c .before .set-after .ensures) _ (c .insert-target .ensures)
 
 returns : tie.Need-returns Inv-loop μ-loop
 returns c =
@@ -62,7 +62,7 @@ explore-spec =
     loop-holds
     (λ c κs. c .loop .inv .sized)
     node-requires
-    next-requires
+    set-after-requires
     insert-target-requires
     add-k
     loop-less

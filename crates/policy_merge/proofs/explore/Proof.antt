@@ -28,8 +28,8 @@ low c = let at = c .before .before .loop in going (at .found) (at .k) _ (c .befo
 node-requires : tie.Need-node-requires Inv-loop μ-loop
 node-requires c κs = low c .1
 
-next-requires : tie.Need-next-requires Inv-loop μ-loop
-next-requires c κs = search needs
+pair-after-requires : tie.Need-pair-after-requires Inv-loop μ-loop
+pair-after-requires c κs = search needs
 
 insert-target-requires : tie.Need-insert-target-requires Inv-loop μ-loop
 insert-target-requires c κs = let test = c .before .before in (test .before .before .loop .inv .sized, low test .0, low test .1)
@@ -46,7 +46,7 @@ loop-again c =
     let at = test .before .before .loop in
     let start = test .before .before .before .before .before .before in
     holds-more _ (start .args .start) (pairs _ _ _ (λ z. omega (arith, start .pre))) (at .found) (at .k) (at .inv) _ (test .before .has-pending .ensures)
-    (test .if1 .taken) _ _ (c .before .before .node .ensures) (c .before .next .ensures) _ (c .insert-target .ensures)
+    (test .if1 .taken) _ _ (c .before .before .node .ensures) (c .before .pair-after .ensures) _ (c .insert-target .ensures)
 
 returns : tie.Need-returns Inv-loop μ-loop
 returns c =
@@ -64,7 +64,7 @@ explore-spec =
     loop-holds
     (λ c κs. c .loop .inv .sized)
     node-requires
-    next-requires
+    pair-after-requires
     insert-target-requires
     add-k
     loop-less

@@ -3,8 +3,8 @@ use mathlib.Core.Path.{_≡_}
 use borrow.Author.Needs.{needs}
 use Rattle.policy_determinise.specs.Drawings.{unionOf}
 use Rattle.policy_determinise.proofs.Laws.{union-start, union-more, union-done}
-use Rattle.policy_determinise.proofs.next.Statement.{statement}
-use Rattle.policy_determinise.proofs.next.Tie as tie
+use Rattle.policy_determinise.proofs.set_after.Statement.{statement}
+use Rattle.policy_determinise.proofs.set_after.Tie as tie
 
 -- invariant: the union over the states so far
 abbrev Inv-loop : tie.InvT-loop
@@ -13,8 +13,8 @@ Inv-loop states arrows x n set₀ k₀ set k = (set ≡ unionOf arrows x n k) ×
 abbrev μ-loop : tie.MeasureT-loop
 μ-loop states arrows x n set₀ k₀ set k = states - k
 
-pub next-spec : {M : Type 1} → statement M
-next-spec =
+pub set-after-spec : {M : Type 1} → statement M
+set-after-spec =
     tie.close
     (tie.spec
     Inv-loop
