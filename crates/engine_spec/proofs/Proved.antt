@@ -4,7 +4,7 @@ use Rattle.engine_spec.proofs.Rule.{engine-rule, engine-machine, engine
 use Rattle.engine_spec.proofs.StepTogether.{engine-next, engine-endings}
 use Rattle.engine_spec.proofs.Isolation.{engine-reaches, engine-recorded, engine-ceilings, engine-isolation, engine-cell}
 use Rattle.engine_spec.proofs.Continues.{entries-agree, continue-endings, reached-faults, entries-mix}
-use Rattle.engine_spec.proofs.Unjudged.{unjudged-words, unjudged-isolation}
+use Rattle.engine_spec.proofs.Unjudged.{unjudged-words, refused-calls, unjudged-isolation}
 use Rattle.engine_spec.proofs.Prefixes.{engine-runs-compose, engine-prefix-closed}
 use Rattle.engine_spec.proofs.Paused.{engine-pauses}
 use Rattle.engine_spec.proofs.Waits.{engine-waits}
@@ -37,5 +37,6 @@ proved =
       reachedFaults = reached-faults;
       unjudgedWords = unjudged-words;
       entriesMix = entries-mix;
+      refusedCalls = refused-calls;
       unjudgedIsolation = unjudged-isolation;
     }

@@ -1,4 +1,4 @@
--- The premises of the claims about calls of the engine can be met, and the definitions compute.
+-- The premises of the claims about a host's calls of the engine can be met, and the definitions compute.
 use Prim.Native.Nat.{ℕ}
 use mathlib.Core.Path.{_≡_, refl}
 use native.Mathlib.Omega.{arith}
@@ -48,6 +48,13 @@ sample-holds =
       answers = λ x. refl;
       mixed = kept;
       mixedAnswers = λ x. refl;
-      unjudged = λ x. (λ _. free-set l (firstLoad .memory) 9 x refl, tt);
+      unjudged = λ x. (λ _. free-set l (firstLoad .memory) 9 x refl, (λ _. free-set l (firstLoad .memory) 9 x refl, (λ _ i f. refl, tt)));
+      unjudgedAlike = λ x y. (
+        record { entry = refl; inputs = record { readings = refl; budget = refl; log = refl; memory = refl } },
+        (
+          record { entry = refl; inputs = record { readings = refl; budget = refl; log = refl; memory = refl } },
+          (record { entry = refl; inputs = record { readings = refl; budget = refl; log = refl; memory = refl } }, tt),
+        ),
+      );
       faulted = λ x. refl;
     }

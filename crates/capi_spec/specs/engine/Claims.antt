@@ -13,7 +13,7 @@ use Rattle.capi_spec.specs.Claims.{RoundTrips, callsOf, number, SameCall
 use Rattle.engine_spec.specs.Engines.{initialEngine, refusalOf}
 use Rattle.engine_spec.specs.Claims.{sessionOf, initialSession, MemoriesPreserved, HostPremise, allRuns, Isolated}
 use Rattle.capi_spec.specs.engine.Records.{engineFrom, engineTo, resultTo, engineFor, continueFor}
-use Rattle.engine_spec.specs.Continues.{Entry, judgesAll, judgesReached, Call, callAs, eachCall, EntriesPreserved, inputsOf, reachedCalls, UnjudgedIsolated}
+use Rattle.engine_spec.specs.Continues.{Entry, judgesAll, judgesReached, Call, callAs, eachCall, EntriesPreserved, inputsOf, SameEntryInputs, UnjudgedIsolated}
 
 -- the engine's record, of fifteen registers, survives the round trip
 abbrev pub EngineRoundTrips : Type 0
@@ -75,6 +75,10 @@ entryFor judgesReached lay ws xs mem budget rd log = continueFor lay ws xs mem b
 abbrev pub entryCall : List ℕ → List ℕ → List ℕ → Call → HostResult
 entryCall lay ws xs x = let g = x .input in entryFor (x .entry) lay ws xs (g .memory) (g .budget) (g .readings) (g .log)
 
+-- calls of both functions with these words, from a record of zeros. Each call gets the record's numbers and the memory that the last call left, except in free cells
+abbrev pub MixedPreserved : List ℕ → List ℕ → List ℕ → List Call → Type 0
+MixedPreserved lay ws left xs = EntriesPreserved (layoutFrom lay) ws (sessionOf initialEngine left [] [] 0) xs
+
 -- a list that mixes both functions in any order is isolated too: its calls are the same runs
 pub record MixedCallsIsolated (lay : List ℕ) (pol : Policy) (ws mem : List ℕ) (xs : List Call) : Type 0 where
   pub calls : callsOf (entryCall lay ws) zeros xs ≡ map (λ r. resultTo (r .result)) (allRuns (layoutFrom lay) pol ws mem (inputsOf xs))
@@ -85,24 +89,26 @@ abbrev pub HostEntriesMix : Type 0
 HostEntriesMix =
     (lay : List ℕ) (pol : Policy) (mem ws left : List ℕ) (xs : List Call) →
     InstalledMemory lay pol mem left → refusalOf (layoutFrom lay) ws left .number ≡ 0 →
-    EntriesPreserved (layoutFrom lay) ws (sessionOf initialEngine left [] [] 0) xs → MixedCallsIsolated lay pol ws mem xs
+    MixedPreserved lay ws left xs → MixedCallsIsolated lay pol ws mem xs
 
 -- ---- lists of calls with words that nobody judged
 
--- one call of hemdroas_engine_continue
-abbrev pub continueCall : List ℕ → List ℕ → List ℕ → RunInput → HostResult
-continueCall lay ws xs g = continueFor lay ws xs (g .memory) (g .budget) (g .readings) (g .log)
+-- these calls are calls of the two entries. Those that are not refused do what isolated runs of the repaired words do, except for the fault
+pub record UnjudgedCallsIsolated (lay : List ℕ) (pol : Policy) (ws mem : List ℕ) (xs : List Call) : Type 0 where
+  pub calls : let l = layoutFrom lay in callsOf (entryCall lay ws) zeros xs ≡ map (λ r. resultTo (r .result)) (eachCall (callAs l ws) l ws (initialSession l pol mem) xs)
+  pub unjudged : UnjudgedIsolated (layoutFrom lay) pol ws mem xs
 
--- these calls are runs of the second entry. They do what isolated runs of the repaired words do, except for a fault
-pub record UnjudgedCallsIsolated (lay : List ℕ) (pol : Policy) (ws mem : List ℕ) (gs : List RunInput) : Type 0 where
-  pub calls :
-      let l = layoutFrom lay in
-      callsOf (continueCall lay ws) zeros gs ≡ map (λ r. resultTo (r .result)) (eachCall (callAs l ws) l ws (initialSession l pol mem) (reachedCalls gs))
-  pub unjudged : UnjudgedIsolated (layoutFrom lay) pol ws mem gs
-
--- any words, at most 1,023; each call gets the record's numbers and the memory that the last call left, except in free cells
+-- any words, at most 1,023, and any list of calls of both functions
 abbrev pub HostUnjudgedIsolation : Type 0
 HostUnjudgedIsolation =
-    (lay : List ℕ) (pol : Policy) (mem ws left : List ℕ) (gs : List RunInput) →
-    InstalledMemory lay pol mem left → length ws ≤ mostInstructions →
-    EntriesPreserved (layoutFrom lay) ws (sessionOf initialEngine left [] [] 0) (reachedCalls gs) → UnjudgedCallsIsolated lay pol ws mem gs
+    (lay : List ℕ) (pol : Policy) (mem ws left : List ℕ) (xs : List Call) →
+    InstalledMemory lay pol mem left → length ws ≤ mostInstructions → MixedPreserved lay ws left xs → UnjudgedCallsIsolated lay pol ws mem xs
+
+-- noninterference of two such lists, as in `HostEngineNoninterference`
+abbrev pub HostUnjudgedNoninterference : Type 0
+HostUnjudgedNoninterference =
+    (lay : List ℕ) (pol pol′ : Policy) (mem mem′ ws left left′ : List ℕ) (xs xs′ : List Call) →
+    InstalledMemory lay pol mem left → InstalledMemory lay pol′ mem′ left′ → length ws ≤ mostInstructions →
+    MixedPreserved lay ws left xs → MixedPreserved lay ws left′ xs′ →
+    LowEqual (layoutFrom lay) left left′ → Pairwise SameEntryInputs xs xs′ →
+    Pairwise (SameCalls pairsPlace (layoutFrom lay)) (callsOf (entryCall lay ws) zeros xs) (callsOf (entryCall lay ws) zeros xs′)

@@ -1,4 +1,5 @@
--- Shows that the premises of HostEngineIsolation, HostEngineNoninterference, HostEntriesMix and HostUnjudgedIsolation can be met.
+-- Shows that the premises of HostEngineIsolation, HostEngineNoninterference, HostEntriesMix, HostUnjudgedIsolation and
+-- HostUnjudgedNoninterference can be met.
 -- The engine runs the routine of this crate's other sample, on its drum, in two calls with a refused one between.
 use Prim.Native.Nat.{ℕ}
 use mathlib.Core.Path.{_≡_}
@@ -14,8 +15,8 @@ use Rattle.capi_spec.specs.Claims.{callsOf}
 use Rattle.capi_spec.specs.Sample.{layout, policy, bytes, firstLoad, runInput}
 use Rattle.engine_spec.specs.Engines.{initialEngine, refusalOf}
 use Rattle.engine_spec.specs.Claims.{Session, sessionOf, afterRun}
-use Rattle.capi_spec.specs.engine.Claims.{zeros, engineCall, InstalledMemory, CallsPreserved, entryCall, continueCall}
-use Rattle.engine_spec.specs.Continues.{judgesAll, judgesReached, Call, callBy, EntriesPreserved, reachedCalls}
+use Rattle.capi_spec.specs.engine.Claims.{zeros, engineCall, InstalledMemory, CallsPreserved, entryCall, MixedPreserved}
+use Rattle.engine_spec.specs.Continues.{judgesAll, judgesReached, Call, callBy, EntriesPreserved, SameEntryInputs}
 
 -- SET r0, 70; EVENT 0; EVENT 2; EVENT 0
 abbrev pub words : List ℕ
@@ -50,6 +51,10 @@ threeAnswers = (25 ∷ 0 ∷ 2 ∷ 1 ∷ 0 ∷ []) ∷ (7 ∷ 0 ∷ 0 ∷ 0 ∷ 
 abbrev pub unknownWords : List ℕ
 unknownWords = packOf (guest .set) 0 0 0 0 70 ∷ packOf 13 0 0 0 0 0 ∷ []
 
+-- three calls with them: hemdroas_engine_run refuses them, hemdroas_engine_continue faults at the second, and again when it is called once more
+abbrev pub unknownCalls : ℕ → List Call
+unknownCalls x = map (λ n. callBy n (firstCall x)) (judgesAll ∷ judgesReached ∷ judgesReached ∷ [])
+
 -- for every x that the host writes
 pub record SampleHolds : Type 0 where
   pub installedMemory : InstalledMemory layout policy (replicate 128 0) (firstLoad .memory)
@@ -60,6 +65,7 @@ pub record SampleHolds : Type 0 where
   -- the premise of HostEntriesMix
   pub mixed : (x : ℕ) → EntriesPreserved (layoutFrom layout) words firstSession (mixedCalls x)
   pub mixedAnswers : (x : ℕ) → map (λ r. r .answer) (callsOf (entryCall layout words) zeros (mixedCalls x)) ≡ threeAnswers
-  -- the premise of HostUnjudgedIsolation: a call of hemdroas_engine_continue with words of which the second is no instruction
-  pub unjudged : (x : ℕ) → EntriesPreserved (layoutFrom layout) unknownWords firstSession (reachedCalls (firstCall x ∷ []))
-  pub faulted : (x : ℕ) → map (λ r. r .answer) (callsOf (continueCall layout unknownWords) zeros (firstCall x ∷ [])) ≡ (22 ∷ 0 ∷ 2 ∷ 0 ∷ 0 ∷ []) ∷ []
+  -- the premises of HostUnjudgedIsolation and HostUnjudgedNoninterference: words of which the second is no instruction
+  pub unjudged : (x : ℕ) → MixedPreserved layout unknownWords (firstLoad .memory) (unknownCalls x)
+  pub unjudgedAlike : (x y : ℕ) → Pairwise SameEntryInputs (unknownCalls x) (unknownCalls y)
+  pub faulted : (x : ℕ) → map (λ r. r .answer) (callsOf (entryCall layout unknownWords) zeros (unknownCalls x)) ≡ (3 ∷ 1 ∷ 0 ∷ 0 ∷ 0 ∷ []) ∷ (22 ∷ 0 ∷ 2 ∷ 0 ∷ 0 ∷ []) ∷ (22 ∷ 0 ∷ 0 ∷ 0 ∷ 0 ∷ []) ∷ []

@@ -81,7 +81,7 @@ pub record SampleHolds : Type 0 where
   -- mixed calls stop there too. The second entry runs unjudged words to the fault at the second
   pub mixed : (x : ℕ) → CallPremise layout policy code (memory x) (mixedCalls x)
   pub mixedAnswers : (x : ℕ) → answersIn (eachCall (callAs layout code) layout code (initialSession layout policy (memory x)) (mixedCalls x)) ≡ threeAnswers
-  pub unjudgedPremise : (x : ℕ) → UnjudgedPremise layout policy unjudged (memory x) (oneRun x ∷ [])
+  pub unjudgedPremise : (x : ℕ) → UnjudgedPremise layout policy unjudged (memory x) (reachedCalls (oneRun x ∷ []))
   pub faulted : (x : ℕ) → answersIn (eachCall (callAs layout unjudged) layout unjudged (initialSession layout policy (memory x)) (reachedCalls (oneRun x ∷ []))) ≡ answer 22 0 ∷ []
   -- refused: a kind above 12 in the second word, and a GOIF past the end
   pub unknown : refusalOf layout (packOf 1 0 0 0 0 70 ∷ packOf 13 0 0 0 0 0 ∷ []) (memory 0) ≡ answer 3 1
