@@ -1,10 +1,12 @@
 -- The premises can be met, and the definitions compute.
 use Prim.Native.Nat.{ℕ, zero, suc, _<_, _≤_}
-use mathlib.Core.Path.{_≡_, refl}
+use mathlib.Core.Path.{_≡_, refl, _∙_, ap}
+use mathlib.Core.Logic.{inl}
 use mathlib.Core.List.{List, [], _∷_}
 use native.Mathlib.Omega.{arith}
 use lib.Count.{ones, leadingZeros}
 use lib.Dec.{lit<, lit≤}
+use lib.ListN.{length, length-set}
 use Rattle.types.specs.declared.Status.the-variants.{Running, Ended}
 use Rattle.spec.specs.Layouts.{rightLayout, inBox}
 use Rattle.spec.specs.Policies.{rightPolicy}
@@ -13,15 +15,15 @@ use Rattle.spec.specs.Words.{fieldsRefusal, refusalAt, firstRefused, instrOf, r
 use Rattle.spec.specs.Commands.{isCommand, commandOf, wordOf, fetchOf, plainOf}
 use Rattle.spec.specs.Bundles.{shapeOf, valid, decodeBundle, bundleAt, isBundle, shapedAt, passesAt, checkFrom, checkAnswer, baseRoomAnswer, rewriteAnswer}
 use Rattle.spec.specs.Machines.{isLanding, installAnswer, installMemory, installMachine, effectOf, applyOf, runOf, loopFrom}
-use Rattle.spec.specs.Runs.{RunInput, begins, runOn, afterTaken, afterRun, after, LowEqual, MemoryPreserved, HostPremise, eachRun, afterAll}
-use Rattle.spec.specs.Claims.{Waiting}
+use Rattle.spec.specs.Runs.{RunInput, begins, runOn, afterTaken, afterRun, LowEqual, MemoryPreserved, HostPremise, eachRun, afterAll}
+use Rattle.spec.specs.Claims.{AtBoundary, Waiting}
 use Rattle.samples.specs.Sample.{layout, written}
 use Rattle.samples.proofs.Samples.{written-kept}
 use Rattle.engine_spec.specs.Engines.{checkedEvent, instrEffect, instrEffectAt, withState, applyEffect, refusalOf, refusalBy, runOf as engineRunOf}
-use Rattle.engine_spec.specs.Claims.{runOn as engineOn, afterTaken as engineTaken, afterRun as engineRun, after as engineAfter}
+use Rattle.engine_spec.specs.Claims.{runOn as engineOn, afterTaken as engineTaken, afterRun as engineRun}
 use Rattle.transparency.specs.Raw.{rawEvent, rawExec, rawStep, rawAfter, Behaves}
-use Rattle.transparency.specs.Claims.{IsPrefix, Behaved, ResumableAsRaw}
-use Rattle.transparency.specs.Sample.{policy, code, commands, memory, readings, run, pausedRun, resumedRun, engineResumedRun, rawAt, SampleHolds}
+use Rattle.transparency.specs.Claims.{IsPrefix, Behaved}
+use Rattle.transparency.specs.Sample.{policy, code, commands, memory, readings, run, pausedRun, cutRun, machineSession, engineSession, rawAt, CanGoOn, SampleHolds}
 
 passed : checkAnswer layout commands .number ≡ 0
 unfolding ones leadingZeros rightLayout instrOf routine bundlesFor wordOf shapeOf valid decodeBundle bundleAt isBundle shapedAt passesAt checkFrom checkAnswer
@@ -60,15 +62,32 @@ rewritten : rewriteAnswer layout code 64 .number ≡ 0
 unfolding ones leadingZeros rightLayout fieldsRefusal refusalAt firstRefused bundlesFor baseRoomAnswer rewriteAnswer
 rewritten = refl
 
--- the machine, to its end and to the pause
+-- after runs that used no reading
+can-go-on : (x : ℕ) (mem us : List ℕ) → length mem ≡ 1024 → us ≡ [] → CanGoOn x mem us
+can-go-on x mem us l e =
+    record {
+      preserved = λ _. written-kept x mem;
+      resumable = record { memory = length-set mem 650 x ∙ l; log = lit≤ tt; readings = lit≤ tt };
+      reading = rw e refl;
+    }
+
+unread : (us : List ℕ) → us ≡ [] → IsPrefix us readings
+unread us e i h = absurd (omega (arith, h, ap (λ (vs : List ℕ). length vs) e))
+
+-- the machine, to its end, to the pause and to the boundary before it
 record MachineHolds (x : ℕ) : Type 0 where
-  begun : after layout policy commands memory (run x ∷ []) .begun ≡ 8
-  over : after layout policy commands memory (run x ∷ []) .machine .status ≡ Ended
-  used : IsPrefix (after layout policy commands memory (run x ∷ []) .consumed) readings
-  pausedBegun : after layout policy commands memory (pausedRun x ∷ []) .begun ≡ 7
-  waiting : Waiting layout commands (after layout policy commands memory (pausedRun x ∷ []) .machine)
-  pausedUsed : IsPrefix (after layout policy commands memory (pausedRun x ∷ []) .consumed) readings
-  resumable : let c = after layout policy commands memory (pausedRun x ∷ []) in ResumableAsRaw layout (c .memory) (c .consumed) readings (resumedRun x)
+  begun : machineSession (run x) .begun ≡ 8
+  over : machineSession (run x) .machine .status ≡ Ended
+  used : IsPrefix (machineSession (run x) .consumed) readings
+  pausedBegun : machineSession (pausedRun x) .begun ≡ 7
+  waiting : Waiting layout commands (machineSession (pausedRun x) .machine)
+  pausedUsed : machineSession (pausedRun x) .consumed ≡ []
+  pausedSize : length (machineSession (pausedRun x) .memory) ≡ 1024
+  cutBegun : machineSession (cutRun x) .begun ≡ 6
+  boundary : AtBoundary layout (machineSession (cutRun x) .machine)
+  running : machineSession (cutRun x) .machine .status ≡ Running
+  cutUsed : machineSession (cutRun x) .consumed ≡ []
+  cutSize : length (machineSession (cutRun x) .memory) ≡ 1024
 
 machine-holds : (x : ℕ) → MachineHolds x
 unfolding ones leadingZeros rightLayout rightPolicy rightLandings bitsFrom landingsOf marked instrOf routine bundlesFor wordOf shapeOf decodeBundle bundleAt
@@ -81,44 +100,30 @@ machine-holds x =
       used = λ i h. refl;
       pausedBegun = refl;
       waiting = record { running = refl; event = 8; third = refl };
-      pausedUsed = λ i h. absurd (omega (arith, h));
-      resumable =
-          record {
-            preserved = λ l. written-kept x (after layout policy commands memory (pausedRun x ∷ []) .memory);
-            resumable = record { memory = refl; log = lit≤ tt; readings = lit≤ tt };
-            reading = refl;
-          };
+      pausedUsed = refl;
+      pausedSize = refl;
+      cutBegun = refl;
+      boundary = inl refl;
+      running = refl;
+      cutUsed = refl;
+      cutSize = refl;
     }
 
 -- and the engine
 record EngineHolds (x : ℕ) : Type 0 where
   taken : refusalOf layout code memory .number ≡ 0
-  counted : engineAfter layout policy code memory (run x ∷ []) .counted ≡ 8
-  over : engineAfter layout policy code memory (run x ∷ []) .engine .status ≡ Ended
-  used : IsPrefix (engineAfter layout policy code memory (run x ∷ []) .consumed) readings
-  pausedCounted : engineAfter layout policy code memory (pausedRun x ∷ []) .counted ≡ 6
-  pausedUsed : IsPrefix (engineAfter layout policy code memory (pausedRun x ∷ []) .consumed) readings
-  resumable : let c = engineAfter layout policy code memory (pausedRun x ∷ []) in ResumableAsRaw layout (c .memory) (c .consumed) readings (engineResumedRun x)
+  counted : engineSession (run x) .counted ≡ 8
+  over : engineSession (run x) .engine .status ≡ Ended
+  used : IsPrefix (engineSession (run x) .consumed) readings
+  pausedCounted : engineSession (pausedRun x) .counted ≡ 6
+  pausedUsed : engineSession (pausedRun x) .consumed ≡ []
+  pausedSize : length (engineSession (pausedRun x) .memory) ≡ 1024
 
 engine-holds : (x : ℕ) → EngineHolds x
 unfolding ones leadingZeros rightLayout rightPolicy rightLandings bitsFrom landingsOf marked fieldsRefusal refusalAt firstRefused instrOf routine bundlesFor
     plainOf installAnswer installMemory applyOf checkedEvent instrEffect instrEffectAt withState applyEffect loopFrom refusalBy engineRunOf engineOn
     engineTaken engineRun afterAll
-engine-holds x =
-    record {
-      taken = refl;
-      counted = refl;
-      over = refl;
-      used = λ i h. refl;
-      pausedCounted = refl;
-      pausedUsed = λ i h. absurd (omega (arith, h));
-      resumable =
-          record {
-            preserved = λ l. written-kept x (engineAfter layout policy code memory (pausedRun x ∷ []) .memory);
-            resumable = record { memory = refl; log = lit≤ tt; readings = lit≤ tt };
-            reading = refl;
-          };
-    }
+engine-holds x = record { taken = refl; counted = refl; over = refl; used = λ i h. refl; pausedCounted = refl; pausedUsed = refl; pausedSize = refl }
 
 pub sample-holds : SampleHolds
 unfolding instrOf routine plainOf rawEvent rawExec rawStep rawAfter eachRun
@@ -126,23 +131,27 @@ sample-holds =
     let m = machine-holds in
     let e = engine-holds in
     record {
-      sandboxed = λ x. record { taken = rewritten; premise = premise (run x) (λ l. kept x); behaved = behaved _ 8 (lit≤ tt) (m x .used) };
+      sandboxed = λ x k l. record { taken = rewritten; premise = premise (run x) (λ _. kept x); behaved = behaved _ k l (m x .used) };
       begun = λ x. m x .begun;
       over = λ x. m x .over;
       recorded = refl;
       ended = refl;
-      pausedSandboxed = λ x. record { taken = rewritten; premise = premise (pausedRun x) (λ l. kept x); behaved = behaved _ 6 (lit≤ tt) (m x .pausedUsed) };
+      rawGoesOn = refl;
+      pausedSandboxed = λ x k l. record { taken = rewritten; premise = premise (pausedRun x) (λ _. kept x); behaved = behaved _ k l (unread _ (m x .pausedUsed)) };
       pausedBegun = λ x. m x .pausedBegun;
       waiting = λ x. m x .waiting;
-      resumedSandboxed = λ x. record { taken = rewritten; premise = premise (pausedRun x) (λ l. kept x); behaved = behaved _ 7 (lit≤ tt) (m x .pausedUsed) };
-      resumable = λ x. m x .resumable;
+      resumable = λ x. can-go-on x _ _ (m x .pausedSize) (m x .pausedUsed);
+      cutSandboxed = λ x k l. record { taken = rewritten; premise = premise (cutRun x) (λ _. kept x); behaved = behaved _ k l (unread _ (m x .cutUsed)) };
+      cutBegun = λ x. m x .cutBegun;
+      boundary = λ x. m x .boundary;
+      running = λ x. m x .running;
+      cutResumable = λ x. can-go-on x _ _ (m x .cutSize) (m x .cutUsed);
       enginePremise = λ x. record { taken = e x .taken; installed = installed; preserved = (λ l. kept x, tt) };
-      engineBehaved = λ x. behaved _ 8 (lit≤ tt) (e x .used);
+      engineBehaved = λ x k l. behaved _ k l (e x .used);
       counted = λ x. e x .counted;
       engineOver = λ x. e x .over;
       enginePausedPremise = λ x. record { taken = e x .taken; installed = installed; preserved = (λ l. kept x, tt) };
       enginePausedCounted = λ x. e x .pausedCounted;
-      enginePausedBehaved = λ x. behaved _ 7 (lit≤ tt) (e x .pausedUsed);
-      rawGoesOn = refl;
-      engineResumable = λ x. e x .resumable;
+      enginePausedBehaved = λ x k l. behaved _ k l (unread _ (e x .pausedUsed));
+      engineResumable = λ x. can-go-on x _ _ (e x .pausedSize) (e x .pausedUsed);
     }

@@ -1,5 +1,5 @@
 -- Shows that the premises can be met: a well-behaved routine with STORE, LOAD, GOX, an order and a reading.
-use Prim.Native.Nat.{ℕ}
+use Prim.Native.Nat.{ℕ, _≤_}
 use mathlib.Core.Path.{_≡_}
 use mathlib.Core.List.{List, [], _∷_, _++_}
 use lib.ListN.{replicate}
@@ -9,10 +9,10 @@ use Rattle.spec.specs.Words.{packOf}
 use Rattle.spec.specs.Bundles.{commandsOf}
 use Rattle.spec.specs.Machines.{installMemory}
 use Rattle.spec.specs.Guests.{pairOf}
-use Rattle.spec.specs.Runs.{RunInput, after}
-use Rattle.spec.specs.Claims.{Waiting}
+use Rattle.spec.specs.Runs.{RunInput, Session, after}
+use Rattle.spec.specs.Claims.{AtBoundary, Waiting}
 use Rattle.samples.specs.Sample.{layout, written}
-use Rattle.engine_spec.specs.Claims.{HostPremise as EnginePremise, after as engineAfter}
+use Rattle.engine_spec.specs.Claims.{Session as EngineSession, HostPremise as EnginePremise, after as afterEngine}
 use Rattle.transparency.specs.Raw.{Raw, rawRun}
 use Rattle.transparency.specs.Claims.{Behaved, Sandboxed, ResumableAsRaw}
 
@@ -43,38 +43,53 @@ run x = record { memory = written x (installMemory layout policy memory); budget
 abbrev pub rawAt : ℕ → Raw
 rawAt k = rawRun layout code memory readings k
 
--- with a log of one pair the machine waits at the second event
+-- a run with a log of one pair. Before it the host writes x to a free cell
+abbrev pub onePair : ℕ → List ℕ → ℕ → RunInput
+onePair x mem budget = record { memory = written x mem; budget = budget; readings = readings; log = replicate 2 0 }
+
+-- such a run of the machine waits at the second event. One of 24 steps ends before that event's bundle, after six whole ones
 abbrev pub pausedRun : ℕ → RunInput
-pausedRun x = record { memory = written x (installMemory layout policy memory); budget = 1000; readings = readings; log = replicate 2 0 }
+pausedRun x = onePair x (installMemory layout policy memory) 1000
 
--- and this run resumes it
-abbrev pub resumedRun : ℕ → RunInput
-resumedRun x = record { memory = written x (after layout policy commands memory (pausedRun x ∷ []) .memory); budget = 1000; readings = readings; log = replicate 2 0 }
+abbrev pub cutRun : ℕ → RunInput
+cutRun x = onePair x (installMemory layout policy memory) 24
 
--- the engine waits there too, and this run resumes it
-abbrev pub engineResumedRun : ℕ → RunInput
-engineResumedRun x = record { memory = written x (engineAfter layout policy code memory (pausedRun x ∷ []) .memory); budget = 1000; readings = readings; log = replicate 2 0 }
+-- what the machine and the engine hold after one run
+abbrev pub machineSession : RunInput → Session
+machineSession g = after layout policy commands memory (g ∷ [])
 
--- for every x that the host writes, the premises of Transparent are met: the sandboxed run ends after eight bundles, the raw run after eight instructions.
--- The premises of TransparentPaused and TransparentResumed are met with seven bundles begun. Those of EngineTransparent are met too, and at the pause
--- those of EngineTransparentStep
+abbrev pub engineSession : RunInput → EngineSession
+engineSession g = afterEngine layout policy code memory (g ∷ [])
+
+-- one more run can follow, with the raw run's next reading
+abbrev pub CanGoOn : ℕ → List ℕ → List ℕ → Type 0
+CanGoOn x mem used = ResumableAsRaw layout mem used readings (onePair x mem 1000)
+
+-- for every x that the host writes, and every number of instructions up to eight, the routine behaves. The premises of Transparent are met: the
+-- sandboxed run ends after eight bundles, the raw run after eight instructions. Those of TransparentPaused and TransparentResumed are met with seven
+-- bundles begun, those of TransparentNext and TransparentStep after six whole bundles. Those of EngineTransparent are met too, and at the pause those
+-- of EngineTransparentNext and EngineTransparentStep
 pub record SampleHolds : Type 0 where
-  pub sandboxed : (x : ℕ) → Sandboxed layout policy code memory memory readings 64 (run x ∷ []) 8
-  pub begun : (x : ℕ) → after layout policy commands memory (run x ∷ []) .begun ≡ 8
-  pub over : (x : ℕ) → after layout policy commands memory (run x ∷ []) .machine .status ≡ Ended
+  pub sandboxed : (x k : ℕ) → k ≤ 8 → Sandboxed layout policy code memory memory readings 64 (run x ∷ []) k
+  pub begun : (x : ℕ) → machineSession (run x) .begun ≡ 8
+  pub over : (x : ℕ) → machineSession (run x) .machine .status ≡ Ended
   pub recorded : rawAt 8 .records ≡ pairOf 0 6 ∷ pairOf 8 1800 ∷ []
   pub ended : rawAt 8 .status ≡ Ended
-  pub pausedSandboxed : (x : ℕ) → Sandboxed layout policy code memory memory readings 64 (pausedRun x ∷ []) 6
-  pub pausedBegun : (x : ℕ) → after layout policy commands memory (pausedRun x ∷ []) .begun ≡ 7
-  pub waiting : (x : ℕ) → Waiting layout commands (after layout policy commands memory (pausedRun x ∷ []) .machine)
-  pub resumedSandboxed : (x : ℕ) → Sandboxed layout policy code memory memory readings 64 (pausedRun x ∷ []) 7
-  pub resumable : (x : ℕ) → let c = after layout policy commands memory (pausedRun x ∷ []) in ResumableAsRaw layout (c .memory) (c .consumed) readings (resumedRun x)
-  pub enginePremise : (x : ℕ) → EnginePremise layout policy code memory (run x ∷ [])
-  pub engineBehaved : (x : ℕ) → Behaved layout policy code memory memory (engineAfter layout policy code memory (run x ∷ []) .consumed) readings 8
-  pub counted : (x : ℕ) → engineAfter layout policy code memory (run x ∷ []) .counted ≡ 8
-  pub engineOver : (x : ℕ) → engineAfter layout policy code memory (run x ∷ []) .engine .status ≡ Ended
-  pub enginePausedPremise : (x : ℕ) → EnginePremise layout policy code memory (pausedRun x ∷ [])
-  pub enginePausedCounted : (x : ℕ) → engineAfter layout policy code memory (pausedRun x ∷ []) .counted ≡ 6
-  pub enginePausedBehaved : (x : ℕ) → Behaved layout policy code memory memory (engineAfter layout policy code memory (pausedRun x ∷ []) .consumed) readings 7
   pub rawGoesOn : rawAt 6 .status ≡ Running
-  pub engineResumable : (x : ℕ) → let c = engineAfter layout policy code memory (pausedRun x ∷ []) in ResumableAsRaw layout (c .memory) (c .consumed) readings (engineResumedRun x)
+  pub pausedSandboxed : (x k : ℕ) → k ≤ 8 → Sandboxed layout policy code memory memory readings 64 (pausedRun x ∷ []) k
+  pub pausedBegun : (x : ℕ) → machineSession (pausedRun x) .begun ≡ 7
+  pub waiting : (x : ℕ) → Waiting layout commands (machineSession (pausedRun x) .machine)
+  pub resumable : (x : ℕ) → let c = machineSession (pausedRun x) in CanGoOn x (c .memory) (c .consumed)
+  pub cutSandboxed : (x k : ℕ) → k ≤ 8 → Sandboxed layout policy code memory memory readings 64 (cutRun x ∷ []) k
+  pub cutBegun : (x : ℕ) → machineSession (cutRun x) .begun ≡ 6
+  pub boundary : (x : ℕ) → AtBoundary layout (machineSession (cutRun x) .machine)
+  pub running : (x : ℕ) → machineSession (cutRun x) .machine .status ≡ Running
+  pub cutResumable : (x : ℕ) → let c = machineSession (cutRun x) in CanGoOn x (c .memory) (c .consumed)
+  pub enginePremise : (x : ℕ) → EnginePremise layout policy code memory (run x ∷ [])
+  pub engineBehaved : (x k : ℕ) → k ≤ 8 → Behaved layout policy code memory memory (engineSession (run x) .consumed) readings k
+  pub counted : (x : ℕ) → engineSession (run x) .counted ≡ 8
+  pub engineOver : (x : ℕ) → engineSession (run x) .engine .status ≡ Ended
+  pub enginePausedPremise : (x : ℕ) → EnginePremise layout policy code memory (pausedRun x ∷ [])
+  pub enginePausedCounted : (x : ℕ) → engineSession (pausedRun x) .counted ≡ 6
+  pub enginePausedBehaved : (x k : ℕ) → k ≤ 8 → Behaved layout policy code memory memory (engineSession (pausedRun x) .consumed) readings k
+  pub engineResumable : (x : ℕ) → let c = engineSession (pausedRun x) in CanGoOn x (c .memory) (c .consumed)
