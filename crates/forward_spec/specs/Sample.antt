@@ -1,10 +1,12 @@
--- Samples: answers of the two checks, and routines that satisfy the premises of Bounded, AlwaysFinish and FinishesResumed.
+-- Samples: answers of the two checks, and routines that satisfy the premises of the claims about runs.
 use Prim.Native.Nat.{ℕ, _*_, _≤_}
 use mathlib.Core.Path.{_≡_}
 use mathlib.Core.Bool.{Bool, true, false, cond}
 use mathlib.Core.List.{List, [], _∷_, map}
 use lib.ListN.{length, set, replicate}
 use Rattle.types.specs.declared.Layout.{Layout}
+use Rattle.types.specs.declared.RunAnswer.{RunAnswer}
+use Rattle.types.specs.declared.Status.the-variants.{Running}
 use Rattle.types.specs.declared.Ending.the-variants.{Done, LogFull, Spent}
 use Rattle.types.specs.Names.{answer}
 use Rattle.types.specs.Records.{layoutOf, runAnswer}
@@ -13,10 +15,10 @@ use Rattle.spec.specs.Policies.{Policy, policyOf}
 use Rattle.spec.specs.Words.{packOf, bundlesFor}
 use Rattle.spec.specs.Bundles.{commandsOf, rewriteAnswer}
 use Rattle.spec.specs.Machines.{installMemory}
-use Rattle.spec.specs.Runs.{RunInput, Session, initialSession, afterRun, HostPremise, allRuns, Every}
-use Rattle.spec.specs.Claims.{Resumable}
+use Rattle.spec.specs.Runs.{RunInput, Session, initialSession, afterRun, HostPremise, allRuns, after, Every}
+use Rattle.spec.specs.Claims.{Resumable, withBudget}
 use Rattle.forward_spec.specs.Forward.{forwardAnswer, checkForwardAnswer}
-use Rattle.forward_spec.specs.Claims.{mostSteps, stepsIn, ResumedAfter, stepsCharged}
+use Rattle.forward_spec.specs.Claims.{mostSteps, stepsIn, ResumedAfter, stepsCharged, SufficesFor}
 
 -- SET r0, 70; a GOIF that always goes to v; GOX on r0; order v
 abbrev pub plain : ℕ
@@ -85,10 +87,14 @@ left x = afterRun layout commands (initialSession layout policy memory) (firstRu
 abbrev pub runs : ℕ → List RunInput
 runs x = firstRun x ∷ runInput (written x (left x)) ∷ []
 
--- for every x that the host writes
+-- for every x that the host writes, these runs satisfy the premises of Bounded, Finishes and AlwaysFinish. The first one pauses; after it
+-- those of TakesStep are satisfied
 pub record SampleReaches : Type 0 where
   pub rewritten : rewriteAnswer layout code 16 ≡ answer 0 16
   pub forward : forwardAnswer code ≡ answer 0 0
+  pub forwardList : checkForwardAnswer layout commands ≡ answer 0 0
+  pub pausedPremise : (x : ℕ) → HostPremise layout policy commands memory (firstRun x ∷ [])
+  pub running : (x : ℕ) → after layout policy commands memory (firstRun x ∷ []) .machine .status ≡ Running
   pub premise : (x : ℕ) → HostPremise layout policy commands memory (runs x)
   pub resumed : (x : ℕ) → Every (Resumable layout) (runs x)
   pub charged : (x : ℕ) → mostSteps 4 ≤ stepsCharged (allRuns layout policy commands memory (runs x))
@@ -110,12 +116,27 @@ abbrev pub oneStepEach : ℕ → Session → List Bool → List RunInput
 oneStepEach x c [] = []
 oneStepEach x c (b ∷ bs) = oneStep x (c .memory) b ∷ oneStepEach x (afterRun layout shortCommands c (oneStep x (c .memory) b)) bs
 
+-- such runs from the installation on
+abbrev pub shortRuns : ℕ → List Bool → List RunInput
+shortRuns x bs = oneStepEach x (initialSession layout policy memory) bs
+
 -- the third run pauses and the fourth resumes it; the sixth ends, and four more follow
 abbrev pub fourthAlone : List Bool
 fourthAlone = false ∷ false ∷ false ∷ true ∷ replicate 6 false
 
 abbrev pub stepwise : ℕ → List RunInput
-stepwise x = oneStepEach x (initialSession layout policy memory) fourthAlone
+stepwise x = shortRuns x fourthAlone
+
+-- five runs, each with a free pair and a reading
+abbrev pub fiveRuns : ℕ → List RunInput
+fiveRuns x = shortRuns x (replicate 5 true)
+
+-- one run with such a log and a budget of five steps
+abbrev pub wholeRun : ℕ → RunInput
+wholeRun x = withBudget (oneStep x (installMemory layout policy memory) true) 5
+
+abbrev pub answersOf : List RunInput → List RunAnswer
+answersOf gs = map (λ r. r .result .outcome .answer) (allRuns layout policy shortCommands memory gs)
 
 -- for every x these runs satisfy the premises of FinishesResumed
 pub record Stepwise : Type 0 where
@@ -128,5 +149,17 @@ pub record Stepwise : Type 0 where
   pub enough : (x : ℕ) → 2 * mostSteps (bundlesFor (length short)) ≤ length (stepwise x)
   pub answers :
       (x : ℕ) →
-      map (λ r. r .result .outcome .answer) (allRuns layout policy shortCommands memory (stepwise x))
+      answersOf (stepwise x)
       ≡ runAnswer Spent 1 0 0 ∷ runAnswer Spent 1 0 0 ∷ runAnswer LogFull 0 0 0 ∷ runAnswer Spent 1 1 0 ∷ runAnswer Spent 1 0 0 ∷ runAnswer Done 1 0 0 ∷ replicate 4 (runAnswer Done 0 0 0)
+  -- the five runs satisfy those of RewrittenFinishesIn and, since the list is forward too, of FinishesIn
+  pub forwardList : checkForwardAnswer layout shortCommands ≡ answer 0 0
+  pub fivePremise : (x : ℕ) → HostPremise layout policy shortCommands memory (fiveRuns x)
+  pub fiveResumable : (x : ℕ) → Every (Resumable layout) (fiveRuns x)
+  pub fiveBudgets : (x : ℕ) → Every (λ (g : RunInput). 1 ≤ g .budget) (fiveRuns x)
+  pub fiveEnough : (x : ℕ) → mostSteps 2 ≤ length (fiveRuns x)
+  pub fiveAnswers :
+      (x : ℕ) → answersOf (fiveRuns x) ≡ runAnswer Spent 1 0 0 ∷ runAnswer Spent 1 0 0 ∷ runAnswer Spent 1 1 0 ∷ runAnswer Spent 1 0 0 ∷ runAnswer Done 1 0 0 ∷ []
+  -- the one run satisfies those of FinishesAtOnce
+  pub wholePremise : (x : ℕ) → HostPremise layout policy shortCommands memory (wholeRun x ∷ [])
+  pub suffices : (x : ℕ) → SufficesFor layout 2 (wholeRun x)
+  pub wholeAnswers : (x : ℕ) → answersOf (wholeRun x ∷ []) ≡ runAnswer Done 5 1 0 ∷ []
