@@ -5,6 +5,7 @@ use mathlib.Core.List.{List, [], _∷_}
 use Prim.Native.Nat.{ℕ, _<_}
 use native.Mathlib.Omega.{arith}
 use lib.Count.{ones, leadingZeros}
+use lib.Dec.{lit≤}
 use lib.ListN.{length}
 use Rattle.types.specs.declared.Status.the-variants.{Running}
 use Rattle.spec.specs.Layouts.{rightLayout, inBox, inTable, inLandings, protected}
@@ -17,7 +18,7 @@ use Rattle.spec.specs.Machines.{effectOf, installAnswer, installMemory, install
 use Rattle.spec.specs.Runs.{RunInput, eachRun, afterAll, MemoryPreserved, begins, runOn as machineOn, afterTaken as machineTaken, afterRun as machineRun, after as machineAfter}
 use Rattle.spec.specs.Claims.{AtBoundary, Waiting}
 use Rattle.spec.proofs.Noninterference.{free-set}
-use Rattle.samples.specs.Sample.{layout, policy, code, commands, memory, runs as machineRuns, pausedRun}
+use Rattle.samples.specs.Sample.{layout, policy, code, commands, memory, firstMemory, runs as machineRuns, pausedRun}
 use Rattle.samples.proofs.Samples.{first-kept, sample-holds as machine-holds}
 use Rattle.engine_spec.specs.Engines.{checkedEvent, instrEffect, instrEffectAt, withState, applyEffect, refusalBy, runOf}
 use Rattle.engine_spec.specs.Claims.{runOn, afterTaken, afterRun, after, HostPremise, PairedRuns}
@@ -67,11 +68,12 @@ unfolding ones leadingZeros rightLayout rightPolicy rightLandings bitsFrom landi
 machine-waits x = (record { running = refl; event = 0; third = refl }, refl)
 
 -- the machine after SET
-machine-boundary : (x : ℕ) → let c = machineAfter layout policy commands (memory x) (machineOne x ∷ []) in AtBoundary layout (c .machine) × (c .machine .status ≡ Running) × (c .begun ≡ 1)
+machine-boundary : (x : ℕ) → let c = machineAfter layout policy commands (memory x) (machineOne x ∷ []) in
+    AtBoundary layout (c .machine) × (c .machine .status ≡ Running) × (c .begun ≡ 1) × (c .memory ≡ firstMemory x)
 unfolding ones leadingZeros rightLayout rightPolicy rightLandings bitsFrom landingsOf instrOf routine bundlesFor wordOf shapeOf decodeBundle bundleAt isCommand
     commandOf fetchOf plainOf installAnswer installMemory installMachine effectOf applyOf loopFrom machineRunOf begins machineOn machineTaken machineRun
     afterAll
-machine-boundary x = (inl refl, refl, refl)
+machine-boundary x = (inl refl, refl, refl, refl)
 
 -- the engine's run uses no reading
 unread : (x : ℕ) → (after layout policy code (memory x) (pausedRun x ∷ []) .consumed ≡ []) × (after layout policy code (memory x) (engineOne x ∷ []) .consumed ≡ [])
@@ -99,6 +101,10 @@ unfolding reachedEffect continueRefusal continueOf callOf callRefusal callOn aft
 sample-holds =
     record {
       premise = λ x. premise-with x x;
+      alike = λ x y. (
+        record { readings = refl; budget = refl; log = refl; memory = refl },
+        (record { readings = refl; budget = refl; log = refl; memory = refl }, (record { readings = refl; budget = refl; log = refl; memory = refl }, tt)),
+      );
       paired = paired-with;
       answers = λ x. refl;
       counted = λ x. refl;
@@ -108,11 +114,16 @@ sample-holds =
       third = λ x. machine-waits x .0;
       behind = λ x. machine-waits x .1;
       paused = λ x. refl;
+      pausedKept = λ x l i s. refl;
       level = λ x. one-each x (machineOne x) (engineOne x) (λ l. first-kept x) (λ l. first-kept x) (unread x .1);
       boundary = λ x. machine-boundary x .0;
       running = λ x. machine-boundary x .1;
       even = λ x. machine-boundary x .2;
       pauses = λ x. inl refl;
+      machineKept = λ x l. rw (machine-boundary x .3) (λ i s. refl);
+      engineKept = λ x l i s. refl;
+      resumable = λ x. record { memory = refl; log = lit≤ tt; readings = lit≤ tt };
+      ample = λ x. (lit≤ tt, lit≤ tt);
       mixed = mixed-with;
       mixedAnswers = λ x. refl;
       unjudgedPremise = λ x. record { most = omega arith; installed = premise-with x x .installed; preserved = (λ l. first-kept x, tt) };

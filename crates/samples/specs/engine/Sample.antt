@@ -1,15 +1,15 @@
 -- Shows that the premises of the engine's claims can be met: document 01's sample routine in two runs with a refused one between.
-use Prim.Native.Nat.{ℕ, _+_}
+use Prim.Native.Nat.{ℕ, _+_, _*_, _≤_}
 use mathlib.Core.Path.{_≡_}
 use mathlib.Core.List.{List, [], _∷_, map}
-use lib.ListN.{getD, set}
+use lib.ListN.{length, getD, set}
 use Rattle.types.specs.declared.Answer.{Answer}
 use Rattle.types.specs.declared.Status.the-variants.{Running}
-use Rattle.types.specs.Names.{guest, answer}
+use Rattle.types.specs.Names.{guest, pairCells, answer}
 use Rattle.spec.specs.Words.{packOf}
 use Rattle.spec.specs.Guests.{pairOf}
-use Rattle.spec.specs.Runs.{RunInput, Run, recordedIn, after as machineAfter}
-use Rattle.spec.specs.Claims.{AtBoundary, Waiting, withBudget}
+use Rattle.spec.specs.Runs.{RunInput, Pairwise, Run, recordedIn, MemoryPreserved, after as machineAfter}
+use Rattle.spec.specs.Claims.{AtBoundary, Waiting, withBudget, Resumable, SameInputs}
 use Rattle.samples.specs.Sample.{layout, policy, code, commands, memory, firstMemory, runInput, runs as machineRuns, pausedRun}
 use Rattle.engine_spec.specs.declared.EngineOutcome.{EngineOutcome}
 use Rattle.engine_spec.specs.Engines.{refusalOf}
@@ -62,6 +62,7 @@ countsIn rs = map (λ r. r .result .outcome .steps) rs
 -- They take four instructions, and the last run stops where gas has no arrow
 pub record SampleHolds : Type 0 where
   pub premise : (x : ℕ) → HostPremise layout policy code (memory x) (runs x)
+  pub alike : (x y : ℕ) → Pairwise SameInputs (runs x) (runs y)
   pub paired : (x y : ℕ) → PairedRuns layout policy code (memory x) 32 (machineRuns x) (runs y)
   pub answers : (x : ℕ) → answersIn (allRuns layout policy code (memory x) (runs x)) ≡ threeAnswers
   pub counted : (x : ℕ) → countsIn (allRuns layout policy code (memory x) (runs x)) ≡ 2 ∷ 0 ∷ 2 ∷ []
@@ -72,12 +73,18 @@ pub record SampleHolds : Type 0 where
   pub third : (x : ℕ) → Waiting layout commands (machineAfter layout policy commands (memory x) (pausedRun x ∷ []) .machine)
   pub behind : (x : ℕ) → machineAfter layout policy commands (memory x) (pausedRun x ∷ []) .begun ≡ after layout policy code (memory x) (pausedRun x ∷ []) .counted + 1
   pub paused : (x : ℕ) → answersIn (allRuns layout policy code (memory x) (pausedRun x ∷ [])) ≡ answer 23 0 ∷ []
+  pub pausedKept : (x : ℕ) → MemoryPreserved layout (after layout policy code (memory x) (pausedRun x ∷ []) .memory) (pausedRun x)
   -- after SET both are before the first event; without a log the engine pauses there
   pub level : (x : ℕ) → PairedRuns layout policy code (memory x) 32 (machineOne x ∷ []) (engineOne x ∷ [])
   pub boundary : (x : ℕ) → AtBoundary layout (machineAfter layout policy commands (memory x) (machineOne x ∷ []) .machine)
   pub running : (x : ℕ) → machineAfter layout policy commands (memory x) (machineOne x ∷ []) .machine .status ≡ Running
   pub even : (x : ℕ) → machineAfter layout policy commands (memory x) (machineOne x ∷ []) .begun ≡ after layout policy code (memory x) (engineOne x ∷ []) .counted
   pub pauses : (x : ℕ) → PausedBy (runOn layout code (after layout policy code (memory x) (engineOne x ∷ [])) (withBudget (pausedRun x) 1) .outcome .answer .number)
+  -- both still have the memory that they were lent, so such runs can follow, and `firstRun` with log and readings for its two instructions
+  pub machineKept : (x : ℕ) → MemoryPreserved layout (machineAfter layout policy commands (memory x) (machineOne x ∷ []) .memory) (firstRun x)
+  pub engineKept : (x : ℕ) → MemoryPreserved layout (after layout policy code (memory x) (engineOne x ∷ []) .memory) (firstRun x)
+  pub resumable : (x : ℕ) → Resumable layout (firstRun x)
+  pub ample : (x : ℕ) → (pairCells * firstRun x .budget ≤ length (firstRun x .log)) × (firstRun x .budget ≤ length (firstRun x .readings))
   -- mixed calls stop there too. The second entry runs unjudged words to the fault at the second
   pub mixed : (x : ℕ) → CallPremise layout policy code (memory x) (mixedCalls x)
   pub mixedAnswers : (x : ℕ) → answersIn (eachCall (callAs layout code) layout code (initialSession layout policy (memory x)) (mixedCalls x)) ≡ threeAnswers
