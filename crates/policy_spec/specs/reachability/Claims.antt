@@ -64,9 +64,9 @@ ReachRight = (next : ℕ → ℕ → ℕ) (q : ℕ) (lay : Layout) → Arrows ne
 abbrev pub AllowedReaches : Type 0
 AllowedReaches = (next : ℕ → ℕ → ℕ) (q : ℕ) (es : List ℕ) → Arrows next q → nodesFit next q ≡ true → allowed (reachedPolicy next q) es ≡ not (eqb (nodeAfter next q es) 0)
 
--- an example: node 1 leads to 5 by event 0 and to 3 by event 1; 5 leads to 7, and 3 back to 1
+-- an example: node 1 leads to 5 by event 0 and to 3 by event 1; 5 leads to 7, and 3 back to 1 and to 9
 abbrev pub sample : ℕ → ℕ → ℕ
-sample x e = first ((eqb x 1 && eqb e 0, 5) ∷ (eqb x 1 && eqb e 1, 3) ∷ (eqb x 5 && eqb e 0, 7) ∷ (eqb x 3 && eqb e 0, 1) ∷ []) 0
+sample x e = first ((eqb x 1 && eqb e 0, 5) ∷ (eqb x 1 && eqb e 1, 3) ∷ (eqb x 5 && eqb e 0, 7) ∷ (eqb x 3 && eqb e 0, 1) ∷ (eqb x 3 && eqb e 1, 9) ∷ []) 0
 
 -- a row with arrows for events 0 and 1 only
 abbrev pub row : ℕ → ℕ → List ℕ
@@ -74,5 +74,5 @@ row a b = a ∷ b ∷ replicate 14 noArrow
 
 -- 'numbered as first met, events taken in rising order from the lowest numbered'
 pub record WorkedExamples : Type 0 where
-  pub nodes : nodes sample 1 ≡ 1 ∷ 5 ∷ 3 ∷ 7 ∷ []
-  pub rows : tableOf sample 1 ≡ row 1 2 ++ row 3 255 ++ row 0 255 ++ row 255 255
+  pub nodes : nodes sample 1 ≡ 1 ∷ 5 ∷ 3 ∷ 7 ∷ 9 ∷ []
+  pub rows : tableOf sample 1 ≡ row 1 2 ++ row 3 255 ++ row 0 4 ++ row 255 255 ++ row 255 255
