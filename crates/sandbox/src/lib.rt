@@ -1,7 +1,7 @@
 // Joins the parts: loads a routine's bytes into an installed machine, then runs or steps it.
-pub mod answers;
+mod answers;
 pub mod loading;
-pub mod writing;
+mod writing;
 
 pub use crate::loading::load;
 pub use machine_lent::run;
