@@ -366,9 +366,9 @@ void hemdroas_load(const struct hemdroas_layout *layout, uint32_t states, uint32
 /* ---- running */
 
 /* Runs n commands until the routine ends, stops or pauses. It pauses at the
- * latest after budget commands. A machine that has ended, stopped or faulted
- * answers its ending again, with 0 steps. Each event is written to the log as
- * two numbers, event and value, from log[0] on. Readings are used from
+ * latest after budget commands. A machine whose status is not running (0) stays
+ * as it was, and answers its ending again, with 0 steps. Each event is written to
+ * the log as two numbers, event and value, from log[0] on. Readings are used from
  * readings[0] on. r is the length of readings, g that of log.
  *
  * To resume after a pause, call again with the same machine and memory. After log
