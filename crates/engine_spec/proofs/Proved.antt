@@ -2,7 +2,7 @@
 use Rattle.engine_spec.specs.Proved.{Proved}
 use Rattle.engine_spec.proofs.Rule.{engine-rule, engine-machine, engine-paused}
 use Rattle.engine_spec.proofs.StepTogether.{engine-next, engine-endings}
-use Rattle.engine_spec.proofs.Isolation.{engine-reaches, engine-recorded, engine-ceilings, engine-isolation, engine-cell}
+use Rattle.engine_spec.proofs.Isolation.{engine-reaches, engine-ample, engine-recorded, engine-ceilings, engine-isolation, engine-cell}
 use Rattle.engine_spec.proofs.Continues.{entries-agree, continue-endings, reached-faults, entries-mix}
 use Rattle.engine_spec.proofs.Unjudged.{unjudged-words, refused-calls, unjudged-isolation}
 use Rattle.engine_spec.proofs.Prefixes.{engine-runs-compose, engine-prefix-closed}
@@ -25,6 +25,7 @@ proved =
       engineWaits = engine-waits;
       engineNext = engine-next;
       engineReaches = engine-reaches;
+      engineAmple = engine-ample;
       engineRunsCompose = engine-runs-compose;
       enginePrefixClosed = engine-prefix-closed;
       engineEndings = engine-endings;

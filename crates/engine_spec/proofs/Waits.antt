@@ -1,7 +1,6 @@
 -- If the engine pauses before its next instruction, the machine pauses within the bundle.
 use mathlib.Core.Path.{_≡_, refl, sym, _∙_, ap, ap₂, subst}
 use mathlib.Core.Bool.{true}
-use mathlib.Core.Logic.{inl, inr}
 use mathlib.Core.List.{List, [], _∷_, _++_, append-nil}
 use Prim.Native.Nat.{ℕ, suc, _+_, _-_, _*_, _%_, _^_, _<_, _≤_}
 use native.Mathlib.Omega.{arith}
@@ -11,8 +10,7 @@ use lib.ListN.{length, getD, take, set}
 use lib.Seq.{getD-set-same}
 use Rattle.types.specs.declared.Layout.{Layout}
 use Rattle.types.specs.declared.Machine.{Machine}
-use Rattle.types.specs.declared.Status.{Status}
-use Rattle.types.specs.declared.Status.the-variants.{Running, Ended, Stopped, Faulted, Strayed}
+use Rattle.types.specs.declared.Status.the-variants.{Running}
 use Rattle.types.specs.declared.Ending.{Ending}
 use Rattle.types.specs.declared.Instr.{Instr}
 use Rattle.types.specs.declared.Instr.the-variants.{HALT, PLAIN, LOAD, STORE, GOIF, GOX, EVENT}
@@ -27,7 +25,7 @@ use Rattle.spec.specs.Landings.{marked}
 use Rattle.spec.specs.Words.{routine, bundlesFor}
 use Rattle.spec.specs.Commands.{fetchOf, holdsOf}
 use Rattle.spec.specs.Bundles.{shapeOf, addressOf, commandsOf, rewriteAnswer}
-use Rattle.spec.specs.Machines.{View, regAt, cellAt, entryOf, State, stateOf, nextPc, applyOf, effectOf, eventEffect, endingOf, viewAt, fits}
+use Rattle.spec.specs.Machines.{View, regAt, cellAt, entryOf, State, stateOf, nextPc, applyOf, effectOf, eventEffect, viewAt, fits}
 use Rattle.spec.specs.Machines.{nextOf as machineNext, RunResult as MachineResult, resultIn as machineEnded, startOf as machineStart}
 use Rattle.spec.specs.Machines.{runFrom as machineFrom, runOf as machineRunOf, installMemory}
 use Rattle.types.specs.Records.{machineOf}
@@ -44,25 +42,12 @@ use Rattle.spec.proofs.Isolation.{guest-rule, routine-simulated}
 use Rattle.engine_spec.specs.Engines.{checkedEvent, instrEffect, instrEffectAt, nextOf, stepOf, entryAddress, RunResult, resultIn, startOf, runFrom, runOf, refusalOf, refusalBy}
 use Rattle.engine_spec.specs.Claims.{Session, sessionOf, runOn, afterTaken, afterRun, after, EngineSimulates, SameReadings, Corresponds, AfterBoth, PausedBy, EngineWaits}
 use Rattle.engine_spec.proofs.Steps.{Memory}
-use Rattle.engine_spec.proofs.Runs.{engineLoop, taken-size, enter}
+use Rattle.engine_spec.proofs.Runs.{status-answers, engineLoop, taken-size, enter}
 use Rattle.engine_spec.proofs.Rule.{taken-of, ready-of, routine-of, stays, engine-rule, engine-machine, engine-paused, meet}
 use Rattle.engine_spec.proofs.StepTogether.{machine-more, engine-more, paired-more}
 use Rattle.engine_spec.proofs.Paused.{machine-next}
 
 -- ---- the engine: if a run of one instruction pauses, it is before an event that the policy allows
-
--- no status answers a pause
-status-answers : (t : Status) → PausedBy (endingNumber (endingOf t)) → ⊥
-status-answers Running (inl h) = omega arith
-status-answers Running (inr h) = omega arith
-status-answers Ended (inl h) = omega arith
-status-answers Ended (inr h) = omega arith
-status-answers Stopped (inl h) = omega arith
-status-answers Stopped (inr h) = omega arith
-status-answers Faulted (inl h) = omega arith
-status-answers Faulted (inr h) = omega arith
-status-answers Strayed (inl h) = omega arith
-status-answers Strayed (inr h) = omega arith
 
 paused-waits : (lay : Layout) (ws rd : List ℕ) (s : State) → s .status ≡ Running → PausedBy (runFrom lay ws rd 1 0 s .outcome .answer .number) → (w : Ending) × (nextOf lay ws rd s ≡ Wait w)
 paused-waits lay ws rd s run =

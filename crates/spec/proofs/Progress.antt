@@ -1,4 +1,4 @@
--- A running machine at a bundle boundary reaches the next one within four steps, if log and readings suffice.
+-- A running machine at a bundle boundary reaches the next one within four steps, unless it pauses.
 -- So whatever the guest does in its next instruction, the machine does too.
 use mathlib.Core.Path.{_≡_, refl, sym, _∙_, ap, subst}
 use mathlib.Core.Bool.{Bool, true, false, cond}
@@ -6,7 +6,7 @@ use mathlib.Core.Logic.{_⊎_, inl, inr, ⊎-elim}
 use mathlib.Core.List.{List}
 use Prim.Native.Nat.{ℕ, zero, suc, _+_, _-_, _*_, _%_, _^_, _<_, _≤_}
 use native.Mathlib.Omega.{arith}
-use borrow.Author.Tests.{ltb-true, ltb-false, eq-eqb}
+use borrow.Author.Tests.{ltb-true, ltb-false, eqb-true, eqb-false, eq-eqb}
 use lib.Dec.{eqb, ltb}
 use lib.ListN.{length, getD}
 use Rattle.types.specs.declared.Layout.{Layout}
@@ -22,19 +22,19 @@ use Rattle.types.specs.declared.Effect.the-variants.{Go, SetReg, SetCell, Order
 use Rattle.types.specs.Names.{orders, noArrow, bundleLength, hidden}
 use Rattle.spec.specs.Policies.{Policy}
 use Rattle.spec.specs.Commands.{fetchOf, holdsOf}
-use Rattle.spec.specs.Bundles.{at4, addressOf, positionOf, shapeOf}
+use Rattle.spec.specs.Bundles.{at4, addressOf, positionOf, shapeOf, checkAnswer}
 use Rattle.spec.specs.Machines.{State, RunResult, View, regAt, ifCell, isLanding, ifLanding, ifRoom, entryOf, nextPc, effectOf, applyOf, viewAt}
-use Rattle.spec.specs.Machines.{nextOf, stepOf, runFrom, startOf, runOf, fits, loopFrom}
+use Rattle.spec.specs.Machines.{nextOf, stepOf, endingOf, runFrom, startOf, runOf, fits, loopFrom}
 use Rattle.spec.specs.Guests.{Pair, Guest, guestReg}
 use Rattle.spec.specs.Runs.{RunInput, Session, begins, begunFrom, runOn, afterTaken, afterRun, after}
-use Rattle.spec.specs.Claims.{AtBoundary, ReachesBoundary, Resumes, Progress}
+use Rattle.spec.specs.Claims.{AtBoundary, withBudget, Paused, ReachesBoundary, ResumableNoPause, Resumes, Progress}
 use Rattle.spec.proofs.Facts.{Right, Bundled}
 use Rattle.spec.proofs.Bools.{no, cases, join, cond-ind}
 use Rattle.spec.proofs.Conditions.{layout-of}
 use Rattle.spec.proofs.Simulation.{MidBundle, start, rest, load1, load2, store1, store2, gox1, gox2, gox3, event1, event2, event3, InBundle, over, live, RunInvariant}
 use Rattle.spec.proofs.RunSimulation.{first-yes, first-no, fetched, sim-invariant, step-known, enter}
-use Rattle.spec.proofs.Loops.{Goes, go-from, machineLoop, begunLoop}
-use Rattle.spec.proofs.Endings.{goes}
+use Rattle.spec.proofs.Loops.{Goes, go-from, wait-from, keeps, machineLoop, begunLoop}
+use Rattle.spec.proofs.Endings.{Pauses, pauses, goes}
 use Rattle.spec.proofs.Isolation.{list-simulated}
 
 -- ---- commands other than EVENT, and effects that neither pause nor record
@@ -201,6 +201,23 @@ module _ (lay : Layout) (ws rd : List ℕ) (s : State) (run : s .status ≡ Runn
   begun-step : (j b : ℕ) → begunFrom lay ws rd (suc j) b s ≡ begunFrom lay ws rd j (b + begins lay (s .pc)) (stepOf lay ws rd s)
   begun-step j b = ap (λ r. r .1) (go-from (begunLoop lay ws rd) j (0, b) s run go)
 
+-- ---- a run that does not pause
+abbrev NoPauseIn : Layout → List ℕ → List ℕ → ℕ → ℕ → State → Type 0
+NoPauseIn lay ws rd n k s = Paused (runFrom lay ws rd n k s .outcome .answer .ending) → ⊥
+
+unpaused-goes : (lay : Layout) (ws rd : List ℕ) (n k : ℕ) (s : State) → 1 ≤ n → s .status ≡ Running → NoPauseIn lay ws rd n k s → Goes (nextOf lay ws rd s)
+unpaused-goes lay ws rd zero k s l run none w z = absurd (omega (arith, l))
+unpaused-goes lay ws rd (suc n) k s l run none w z =
+    none (rw (wait-from (machineLoop lay ws rd) n k s w run z) (⊎-elim (λ x. inl (x .0)) (λ x. inr (x .0)) (subst (Pauses (viewAt lay rd s)) z (pauses _ _))))
+
+unpaused-next : (lay : Layout) (ws rd : List ℕ) (n k : ℕ) (s : State) → 1 ≤ n → s .status ≡ Running → Goes (nextOf lay ws rd s) → NoPauseIn lay ws rd n k s
+    → NoPauseIn lay ws rd (n - 1) (k + 1) (stepOf lay ws rd s)
+unpaused-next lay ws rd zero k s l run go none = absurd (omega (arith, l))
+unpaused-next lay ws rd (suc n) k s l run go none =
+    let e : n ≡ suc n - 1 = omega arith in
+    subst (λ (m : ℕ). NoPauseIn lay ws rd m (k + 1) (stepOf lay ws rd s)) e
+    (subst (λ (r : RunResult). Paused (r .outcome .answer .ending) → ⊥) (run-step lay ws rd s run go n k) none)
+
 -- a run of at most so many steps that ends at a boundary
 record BoundaryReached (lay : Layout) (ws rd : List ℕ) (most k b b₂ : ℕ) (s : State) : Type 0 where
   j : ℕ
@@ -225,6 +242,19 @@ came-then lay ws rd most k b b₁ b₂ s run go z c =
       boundary = subst (λ (r : RunResult). AtBoundary lay (r .outcome .machine)) (sym (run-step lay ws rd s run go (c .j) k)) (c .boundary);
       begun = begun-step lay ws rd s run go (c .j) b ∙ ap (λ (x : ℕ). begunFrom lay ws rd (c .j) x (stepOf lay ws rd s)) z ∙ c .begun;
     }
+
+-- a run that ends by its status has not paused
+status-unpaused : (t : Status) → Paused (endingOf t) → ⊥
+status-unpaused Running (inl e) = no (cc)
+status-unpaused Running (inr e) = no (cc)
+status-unpaused Ended (inl e) = no (cc)
+status-unpaused Ended (inr e) = no (cc)
+status-unpaused Stopped (inl e) = no (cc)
+status-unpaused Stopped (inr e) = no (cc)
+status-unpaused Faulted (inl e) = no (cc)
+status-unpaused Faulted (inr e) = no (cc)
+status-unpaused Strayed (inl e) = no (cc)
+status-unpaused Strayed (inr e) = no (cc)
 
 pub running : (t : Status) → (t ≡ Running) ⊎ (t ≡ Running → ⊥)
 running Running = inl refl
@@ -253,8 +283,9 @@ left r p e = omega arith
 left-in : (r p : ℕ) → p + suc r ≡ bundleLength → p < bundleLength
 left-in r p e = omega arith
 
-up-to : (p : ℕ) → suc p ≤ 2 → p ≤ 2
-up-to p l = omega arith
+-- a position in a bundle is the only one
+same-position : (base h h′ p p′ pc : ℕ) → p < bundleLength → p′ < bundleLength → pc ≡ base + bundleLength * h + p → pc ≡ base + bundleLength * h′ + p′ → p ≡ p′
+same-position base h h′ p p′ pc l l′ e e′ = omega arith
 
 more-left : (r p : ℕ) → p + suc (suc r) ≡ bundleLength → p < 3
 more-left r p e = omega arith
@@ -264,13 +295,12 @@ module _ (lay : Layout) (pol : Policy) (ws : List ℕ) (n : ℕ) (is : ℕ → I
   sim-moves s g k b run (over f st h p lh lp si pc q bk) = absurd (f .0 (sym st ∙ run))
   sim-moves s g k b run (live gg st h p lh lp pc m) = rw (fetched lay pol ws n is ok bs s h p lh lp pc) (mid-moves lay rd s pol n g h k b (is h) p m)
 
-  -- with room up to the third command, no command of the bundle pauses; none before the third uses the room
-  goes-at : (s : State) (h p : ℕ) → h < n → p < bundleLength → s .pc ≡ addressOf lay h + p → (p ≤ 2 → Room rd s) → Goes (nextOf lay ws rd s)
-  goes-at s h p lh lp pc r =
-      ⊎-elim
-      (λ e. goes-in lay rd (fetchOf ws (lay .base) (s .pc)) s (r (omega (arith, ltb-true p 3 e))))
-      (λ e. still-goes _ (rw (fetched lay pol ws n is ok bs s h p lh lp pc) (still (shapeOf lay n (is h) p) (viewAt lay rd s) (quiet lay n (is h) p (λ z. omega (arith, ltb-false p 3 e))))))
-      (cases (ltb p 3))
+  -- only the third command of a bundle can pause
+  goes-at : (s : State) (h p : ℕ) → h < n → p < bundleLength → s .pc ≡ addressOf lay h + p → (p ≡ 2 → Goes (nextOf lay ws rd s)) → Goes (nextOf lay ws rd s)
+  goes-at s h p lh lp pc third =
+      ⊎-elim (λ e. third (eqb-true p 2 e))
+      (λ e. still-goes _ (rw (fetched lay pol ws n is ok bs s h p lh lp pc) (still (shapeOf lay n (is h) p) (viewAt lay rd s) (quiet lay n (is h) p (eqb-false p 2 e)))))
+      (cases (eqb p 2))
 
   room-on : (s : State) (h p : ℕ) → h < n → p < 2 → s .pc ≡ addressOf lay h + p → Room rd s → Room rd (stepOf lay ws rd s)
   room-on s h p lh lp pc r =
@@ -280,14 +310,14 @@ module _ (lay : Layout) (pol : Policy) (ws : List ℕ) (n : ℕ) (is : ℕ → I
 
   -- from position p of bundle h, with r more commands after this one
   reach : (r p h k b b₂ : ℕ) (s : State) → p + suc r ≡ bundleLength → h < n → b + begins lay (s .pc) ≡ b₂ → RunInvariant lay pol n is past u0 rd g0 b s
-      → s .status ≡ Running → s .pc ≡ addressOf lay h + p → (p ≤ 2 → Room rd s) → BoundaryReached lay ws rd (suc r) k b b₂ s
-  reach zero p h k b b₂ s e lh z w run pc room =
-      let go = goes-at s h p lh (left-in _ p e) pc room in
+      → s .status ≡ Running → s .pc ≡ addressOf lay h + p → (m : ℕ) → 3 ≤ p + m → NoPauseIn lay ws rd m k s → BoundaryReached lay ws rd (suc r) k b b₂ s
+  reach zero p h k b b₂ s e lh z w run pc m enough none =
+      let go = goes-at s h p lh (left-in _ p e) pc (λ y. unpaused-goes lay ws rd m k s (omega arith) run none) in
       let t = sim-invariant lay pol ws n is ok bs past u0 rd g0 b s w in
       came-then lay ws rd 0 k b b₂ b₂ s run go z
       (came-now lay ws rd 0 (k + 1) b₂ (stepOf lay ws rd s) (⊎-elim (λ y. inl (goes-next (lay .base) n h p (s .pc) _ (ok .room) lh e pc y)) (λ y. y) (sim-moves s _ (t .0) b run (t .1 .sim) go)))
-  reach (suc r) p h k b b₂ s e lh z w run pc room =
-      let go = goes-at s h p lh (left-in _ p e) pc room in
+  reach (suc r) p h k b b₂ s e lh z w run pc m enough none =
+      let go = goes-at s h p lh (left-in _ p e) pc (λ y. unpaused-goes lay ws rd m k s (omega arith) run none) in
       let t = sim-invariant lay pol ws n is ok bs past u0 rd g0 b s w in
       let lp = more-left r p e in
       let now : AtBoundaryIn lay (stepOf lay ws rd s) → BoundaryReached lay ws rd (suc r) (k + 1) b₂ b₂ (stepOf lay ws rd s) = λ y. came-now lay ws rd (suc r) (k + 1) b₂ (stepOf lay ws rd s) y in
@@ -297,17 +327,63 @@ module _ (lay : Layout) (pol : Policy) (ws : List ℕ) (n : ℕ) (is : ℕ → I
       reach r (suc p) h (k + 1) b₂ b₂ (stepOf lay ws rd s) (left r p e) lh
       (plus-none b₂ _ (first-no lay (stepOf lay ws rd s .pc) (within (lay .base) h p _ lp to)))
       (subst (λ (x : ℕ). RunInvariant lay pol n is past u0 rd g0 x (stepOf lay ws rd s)) z (step-known lay pol ws n is ok bs past u0 rd g0 b s w run go))
-      l to (λ m. room-on s h p lh m pc (room (up-to p m))) in
+      l to (m - 1) (omega arith) (unpaused-next lay ws rd m k s (omega arith) run go none) in
       came-then lay ws rd (suc r) k b b₂ b₂ s run go z
       (⊎-elim (λ y. ⊎-elim (λ l. more y l) (λ l. now (inr l)) (running (stepOf lay ws rd s .status))) (λ y. now y) (sim-moves s _ (t .0) b run (t .1 .sim) go))
 
   -- from any position
-  from-here : (b : ℕ) (s : State) (g : Guest) (k : ℕ) → RunInvariant lay pol n is past u0 rd g0 b s → s .status ≡ Running → Room rd s
+  from-here : (b : ℕ) (s : State) (g : Guest) (k : ℕ) → RunInvariant lay pol n is past u0 rd g0 b s → s .status ≡ Running → NoPauseIn lay ws rd 3 0 s
       → InBundle lay pol n is g k b s → BoundaryReached lay ws rd bundleLength 0 b (b + begins lay (s .pc)) s
-  from-here b s g k w run room (over f st h p lh lp si pc q bk) = absurd (f .0 (sym st ∙ run))
-  from-here b s g k w run room (live gg st h p lh lp pc m) =
-      let y = reach (3 - p) p h 0 b (b + begins lay (s .pc)) s (omega arith) lh refl w run pc (λ _. room) in
+  from-here b s g k w run none (over f st h p lh lp si pc q bk) = absurd (f .0 (sym st ∙ run))
+  from-here b s g k w run none (live gg st h p lh lp pc m) =
+      let y = reach (3 - p) p h 0 b (b + begins lay (s .pc)) s (omega arith) lh refl w run pc 3 (omega arith) none in
       record { j = y .j; few = omega (arith, y .few); boundary = y .boundary; begun = y .begun }
+
+  -- ---- with a free pair and a reading it does not pause within three steps: they reach the third command of one bundle at most
+  -- n steps are left; where these reach the third command of this bundle, there is room
+  record RoomLeft (m : ℕ) (s : State) : Type 0 where
+    begun : ℕ
+    known : RunInvariant lay pol n is past u0 rd g0 begun s
+    few : m ≤ 3
+    room : s .status ≡ Running → (h p : ℕ) → p ≤ 2 → s .pc ≡ addressOf lay h + p → 3 ≤ p + m → Room rd s
+
+  left-goes : (m : ℕ) (s : State) (g : Guest) (k b : ℕ) → RoomLeft (suc m) s → s .status ≡ Running → InBundle lay pol n is g k b s → Goes (nextOf lay ws rd s)
+  left-goes m s g k b i run (over f st h p lh lp si pc q bk) = absurd (f .0 (sym st ∙ run))
+  left-goes m s g k b i run (live gg st h p lh lp pc x) =
+      goes-at s h p lh lp pc (λ y. goes-in lay rd (fetchOf ws (lay .base) (s .pc)) s (i .room run h p (omega arith) pc (omega arith)))
+
+  room-next : (m : ℕ) (s : State) (g : Guest) (k b : ℕ) → RoomLeft (suc m) s → s .status ≡ Running → Goes (nextOf lay ws rd s) → InBundle lay pol n is g k b s
+      → stepOf lay ws rd s .status ≡ Running → (h p : ℕ) → p ≤ 2 → stepOf lay ws rd s .pc ≡ addressOf lay h + p → 3 ≤ p + m → Room rd (stepOf lay ws rd s)
+  room-next m s g k b i run go (over f st h p lh lp si pc q bk) on h′ p′ lp′ pc′ enough = absurd (f .0 (sym st ∙ run))
+  room-next m s g k b i run go (live gg st h p lh lp pc x) on h′ p′ lp′ pc′ enough =
+      let few = i .few in
+      let first : (stepOf lay ws rd s .pc - lay .base) % bundleLength ≡ 0 → Room rd (stepOf lay ws rd s) = λ y. absurd (omega (arith, y)) in
+      ⊎-elim
+      (λ y.
+      ⊎-elim
+      (λ t.
+      let low = ltb-true p 3 t in
+      let to : stepOf lay ws rd s .pc ≡ addressOf lay h + suc p = takes-step (lay .base) n h p (s .pc) _ (ok .room) lh low pc y in
+      let e : suc p ≡ p′ = same-position (lay .base) h h′ (suc p) p′ _ (omega arith) (omega arith) to pc′ in
+      room-on s h p lh (omega arith) pc (i .room run h p (omega arith) pc (omega arith)))
+      (λ f. first (goes-next (lay .base) n h p (s .pc) _ (ok .room) lh (omega (arith, ltb-false p 3 f)) pc y))
+      (cases (ltb p 3)))
+      (λ y. ⊎-elim first (λ o. absurd (o on)) y)
+      (sim-moves s g k b run (live gg st h p lh lp pc x) go)
+
+  room-unpaused : (s : State) → RoomLeft 3 s → NoPauseIn lay ws rd 3 0 s
+  room-unpaused =
+      keeps (machineLoop lay ws rd) (λ m k s. RoomLeft m s) (λ (r : RunResult). Paused (r .outcome .answer .ending) → ⊥)
+      (λ m k s i o. status-unpaused (s .status))
+      (λ m k s i run w z. absurd (let t = sim-invariant lay pol ws n is ok bs past u0 rd g0 (i .begun) s (i .known) in left-goes m s _ (t .0) (i .begun) i run (t .1 .sim) w z))
+      (λ m k s i run go.
+      let t = sim-invariant lay pol ws n is ok bs past u0 rd g0 (i .begun) s (i .known) in
+      record {
+        begun = i .begun + begins lay (s .pc);
+        known = step-known lay pol ws n is ok bs past u0 rd g0 (i .begun) s (i .known) run go;
+        few = omega (arith, i .few);
+        room = room-next m s _ (t .0) (i .begun) i run go (t .1 .sim);
+      }) 3 0
 
 -- so does the run with that budget, if it is not refused
 reaches-boundary : (lay : Layout) (ws : List ℕ) (c : Session) (g : RunInput) (b : ℕ) → fits lay (g .memory) ≡ true
@@ -315,15 +391,29 @@ reaches-boundary : (lay : Layout) (ws : List ℕ) (c : Session) (g : RunInput) (
 unfolding afterRun afterTaken runOn runOf
 reaches-boundary lay ws c g b fit y = record { budget = y .j; few = y .few; boundary = rw fit (y .boundary); begun = rw fit (y .begun) }
 
+-- a run that is not refused, from its first state
+module _ (lay : Layout) (ws : List ℕ) (c : Session) (g : RunInput) (fit : fits lay (g .memory) ≡ true) where
+  unpaused-from : (Paused (runOn lay ws c (withBudget g 3) .outcome .answer .ending) → ⊥) → NoPauseIn lay ws (g .readings) 3 0 (startOf (c .machine) (g .memory) (g .log))
+  unfolding runOn runOf
+  unpaused-from none = rw fit at none
+
+  unpaused-on : NoPauseIn lay ws (g .readings) 3 0 (startOf (c .machine) (g .memory) (g .log)) → Paused (runOn lay ws c (withBudget g 3) .outcome .answer .ending) → ⊥
+  unfolding runOn runOf
+  unpaused-on none = rw fit none
+
+fit-of : (lay : Layout) (ws : List ℕ) (g : RunInput) → checkAnswer lay ws .number ≡ 0 → length (g .memory) ≡ lay .size → fits lay (g .memory) ≡ true
+fit-of lay ws g passed size = join _ _ (layout-of lay ws passed) (eq-eqb (length (g .memory)) (lay .size) size)
+
 pub resumes : Resumes
 resumes lay pol ws mem gs v run g lent n =
     let t = list-simulated lay pol ws mem gs v in
     let c = after lay pol ws mem gs in
     let s = startOf (c .machine) (g .memory) (g .log) in
+    let fit = fit-of lay ws g (v .passed) (n .memory) in
     let w = enter lay pol ws _ _ (t .right) (t .bundled) _ c g (n .memory) lent (t .last) in
     let k = sim-invariant lay pol ws _ _ (t .right) (t .bundled) (c .records) (c .consumed) (g .readings) _ (c .begun) s w in
-    reaches-boundary lay ws c g _ (join _ _ (layout-of lay ws (v .passed)) (eq-eqb (length (g .memory)) (lay .size) (n .memory)))
-    (from-here lay pol ws _ _ (t .right) (t .bundled) (c .records) (c .consumed) (g .readings) _ (c .begun) s _ (k .0) w run (omega (arith, n .log), omega (arith, n .readings)) (k .1 .sim))
+    reaches-boundary lay ws c g _ fit
+    (from-here lay pol ws _ _ (t .right) (t .bundled) (c .records) (c .consumed) (g .readings) _ (c .begun) s _ (k .0) w run (unpaused-from lay ws c g fit (n .goes)) (k .1 .sim))
 
 pub progress : Progress
 progress lay pol ws mem gs v x run g lent n =
@@ -331,3 +421,16 @@ progress lay pol ws mem gs v x run g lent n =
     let y = resumes lay pol ws mem gs v run g lent n in
     let one : begins lay (c .machine .pc) ≡ 1 = ⊎-elim (λ z. first-yes lay (c .machine .pc) z) (λ z. absurd (z run)) x in
     record { budget = y .budget; few = y .few; boundary = y .boundary; begun = y .begun ∙ ap (λ (k : ℕ). c .begun + k) one }
+
+pub resumable-no-pause : ResumableNoPause
+resumable-no-pause lay pol ws mem gs v g lent n =
+    let t = list-simulated lay pol ws mem gs v in
+    let c = after lay pol ws mem gs in
+    let w = enter lay pol ws _ _ (t .right) (t .bundled) _ c g (n .memory) lent (t .last) in
+    record {
+      memory = n .memory;
+      goes =
+          unpaused-on lay ws c g (fit-of lay ws g (v .passed) (n .memory))
+          (room-unpaused lay pol ws _ _ (t .right) (t .bundled) (c .records) (c .consumed) (g .readings) _ (startOf (c .machine) (g .memory) (g .log))
+          (record { begun = c .begun; known = w; few = omega arith; room = λ _ h p l e m. (omega (arith, n .log), omega (arith, n .readings)) }));
+    }

@@ -11,7 +11,7 @@ use Rattle.spec.proofs.Endings.{ending-status, previews}
 use Rattle.spec.proofs.Ordered.{machine-order, terminal-is-absorbing, ends-only-when}
 use Rattle.spec.proofs.Isolation.{guest-rule, recorded, isolation, no-wrap}
 use Rattle.spec.proofs.Ceilings.{ceilings}
-use Rattle.spec.proofs.Progress.{resumes, progress}
+use Rattle.spec.proofs.Progress.{resumable-no-pause, resumes, progress}
 use Rattle.spec.proofs.Pauses.{state-cell, paused-waits, pause-rule}
 use Rattle.spec.proofs.Prefixes.{runs-compose, prefix-closed, every-moment}
 
@@ -40,6 +40,7 @@ proved =
       prefixClosed = prefix-closed;
       guestRule = guest-rule;
       everyMoment = every-moment;
+      resumableNoPause = resumable-no-pause;
       resumes = resumes;
       progress = progress;
       recorded = recorded;

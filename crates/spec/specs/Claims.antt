@@ -263,7 +263,7 @@ EveryMoment =
     (lay : Layout) (pol : Policy) (code mem : List ℕ) (room : ℕ) (xs ys : List RunInput) (g : RunInput) (j : ℕ) → rewriteAnswer lay code room .number ≡ 0 →
     HostPremise lay pol (commandsOf lay code) mem (xs ++ (g ∷ ys)) → MomentLaws lay pol code mem (after lay pol (commandsOf lay code) mem xs) g j
 
--- ---- progress: a running machine reaches the next boundary within four steps
+-- ---- progress: a running machine reaches the next boundary within four steps, or pauses
 
 -- after at most four steps the machine is at a boundary, and b bundles have been begun
 pub record ReachesBoundary (lay : Layout) (ws : List ℕ) (c : Session) (g : RunInput) (b : ℕ) : Type 0 where
@@ -272,27 +272,44 @@ pub record ReachesBoundary (lay : Layout) (ws : List ℕ) (c : Session) (g : Run
   pub boundary : AtBoundary lay (afterRun lay ws c (withBudget g budget) .machine)
   pub begun : afterRun lay ws c (withBudget g budget) .begun ≡ b
 
--- a run's input with memory of the right length, a free pair in the log and a reading
+-- a run answers log full (23) or probe silent (24)
+abbrev pub Paused : Ending → Type 0
+Paused e = (e ≡ LogFull) ⊎ (e ≡ Silent)
+
+-- a run's input with memory of U cells, and log and readings enough: the machine does not pause before the next boundary.
+-- Only the third command of a bundle can pause, so a budget of 3 shows it
+pub record NoPause (lay : Layout) (ws : List ℕ) (c : Session) (g : RunInput) : Type 0 where
+  pub memory : length (g .memory) ≡ lay .size
+  pub goes : Paused (runOn lay ws c (withBudget g 3) .outcome .answer .ending) → ⊥
+
+-- a run's input with memory of U cells, a free pair in the log and a reading
 pub record Resumable (lay : Layout) (g : RunInput) : Type 0 where
   pub memory : length (g .memory) ≡ lay .size
   pub log : pairCells ≤ length (g .log)
   pub readings : 1 ≤ length (g .readings)
 
--- a running machine with such an input reaches the next boundary within four steps, also after a pause. It begins at most one bundle
+-- that is always enough, whatever the next instruction is
+abbrev pub ResumableNoPause : Type 0
+ResumableNoPause =
+    (lay : Layout) (pol : Policy) (ws mem : List ℕ) (gs : List RunInput) → HostPremise lay pol ws mem gs →
+    let c = after lay pol ws mem gs in
+    (g : RunInput) → MemoryPreserved lay (c .memory) g → Resumable lay g → NoPause lay ws c g
+
+-- a running machine that does not pause reaches the next boundary within four steps, also after a pause. It begins at most one bundle
 abbrev pub Resumes : Type 0
 Resumes =
     (lay : Layout) (pol : Policy) (ws mem : List ℕ) (gs : List RunInput) → HostPremise lay pol ws mem gs →
     let c = after lay pol ws mem gs in
-    c .machine .status ≡ Running → (g : RunInput) → MemoryPreserved lay (c .memory) g → Resumable lay g →
+    c .machine .status ≡ Running → (g : RunInput) → MemoryPreserved lay (c .memory) g → NoPause lay ws c g →
     ReachesBoundary lay ws c g (c .begun + begins lay (c .machine .pc))
 
--- from a boundary, a running machine executes one whole bundle
+-- from a boundary, a running machine that does not pause executes one whole bundle
 abbrev pub Progress : Type 0
 Progress =
     (lay : Layout) (pol : Policy) (ws mem : List ℕ) (gs : List RunInput) → HostPremise lay pol ws mem gs →
     let c = after lay pol ws mem gs in
     AtBoundary lay (c .machine) → c .machine .status ≡ Running →
-    (g : RunInput) → MemoryPreserved lay (c .memory) g → Resumable lay g → ReachesBoundary lay ws c g (c .begun + 1)
+    (g : RunInput) → MemoryPreserved lay (c .memory) g → NoPause lay ws c g → ReachesBoundary lay ws c g (c .begun + 1)
 
 -- ---- isolation
 
@@ -391,10 +408,6 @@ StateCell =
     CellLaws lay pol ws (after lay pol ws mem gs) × Every (OnlySpent lay ws) (allRuns lay pol ws mem gs)
 
 -- ---- pauses for log or probe
-
--- a run answers log full (23) or probe silent (24)
-abbrev pub Paused : Ending → Type 0
-Paused e = (e ≡ LogFull) ⊎ (e ≡ Silent)
 
 -- a run that pauses leaves the machine running, on the third command of an event bundle
 pub record Waiting (lay : Layout) (ws : List ℕ) (m : Machine) : Type 0 where

@@ -1,6 +1,6 @@
 -- All claims of this crate, one field each. Their proof is `proved` in proofs/Proved.antt.
 use Rattle.spec.specs.Endings.{MachineOrder, TerminalIsAbsorbing, EndsOnlyWhen}
-use Rattle.spec.specs.Claims.{Masks, LandingBits, Installs, Sizes, Signs, WordsRoundTrip, BytesRoundTrip, RewriteLeaves, RewrittenPasses, PassedRewrites, Shapes, Checks, PassedDecodes, EndingStatus, Previews, RunsCompose, PrefixClosed, GuestRule, EveryMoment, Resumes, Progress, Recorded, Ceilings, Isolation, NoWrap, StateCell, PausedWaits, PauseRule}
+use Rattle.spec.specs.Claims.{Masks, LandingBits, Installs, Sizes, Signs, WordsRoundTrip, BytesRoundTrip, RewriteLeaves, RewrittenPasses, PassedRewrites, Shapes, Checks, PassedDecodes, EndingStatus, Previews, RunsCompose, PrefixClosed, GuestRule, EveryMoment, ResumableNoPause, Resumes, Progress, Recorded, Ceilings, Isolation, NoWrap, StateCell, PausedWaits, PauseRule}
 
 pub record Proved : Type 0 where
   pub masks : Masks
@@ -25,6 +25,7 @@ pub record Proved : Type 0 where
   pub prefixClosed : PrefixClosed
   pub guestRule : GuestRule
   pub everyMoment : EveryMoment
+  pub resumableNoPause : ResumableNoPause
   pub resumes : Resumes
   pub progress : Progress
   pub recorded : Recorded

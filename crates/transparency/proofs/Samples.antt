@@ -16,14 +16,16 @@ use Rattle.spec.specs.Commands.{isCommand, commandOf, wordOf, fetchOf, plainOf}
 use Rattle.spec.specs.Bundles.{shapeOf, valid, decodeBundle, bundleAt, isBundle, shapedAt, passesAt, checkFrom, checkAnswer, baseRoomAnswer, rewriteAnswer}
 use Rattle.spec.specs.Machines.{isLanding, installAnswer, installMemory, installMachine, effectOf, applyOf, runOf, loopFrom}
 use Rattle.spec.specs.Runs.{RunInput, begins, runOn, afterTaken, afterRun, LowEqual, MemoryPreserved, HostPremise, eachRun, afterAll}
-use Rattle.spec.specs.Claims.{AtBoundary, Waiting}
+use Rattle.spec.specs.Claims.{AtBoundary, Waiting, NoPause}
+use Rattle.spec.proofs.Progress.{resumable-no-pause}
 use Rattle.samples.specs.Sample.{layout, written}
 use Rattle.samples.proofs.Samples.{written-kept}
 use Rattle.engine_spec.specs.Engines.{checkedEvent, instrEffect, instrEffectAt, withState, applyEffect, refusalOf, refusalBy, runOf as engineRunOf}
-use Rattle.engine_spec.specs.Claims.{runOn as engineOn, afterTaken as engineTaken, afterRun as engineRun}
+use Rattle.engine_spec.specs.Claims.{runOn as engineOn, afterTaken as engineTaken, afterRun as engineRun, HostPremise as EnginePremise, EngineNoPause}
+use Rattle.engine_spec.proofs.Isolation.{engine-ample}
 use Rattle.transparency.specs.Raw.{rawEvent, rawExec, rawStep, rawAfter, Behaves}
 use Rattle.transparency.specs.Claims.{IsPrefix, Behaved}
-use Rattle.transparency.specs.Sample.{policy, code, commands, memory, readings, run, pausedRun, cutRun, machineSession, engineSession, rawAt, CanGoOn, SampleHolds}
+use Rattle.transparency.specs.Sample.{policy, code, commands, memory, readings, run, onePair, pausedRun, cutRun, machineSession, engineSession, rawAt, CanGoOn, SampleHolds}
 
 passed : checkAnswer layout commands .number ≡ 0
 unfolding ones leadingZeros rightLayout instrOf routine bundlesFor wordOf shapeOf valid decodeBundle bundleAt isBundle shapedAt passesAt checkFrom checkAnswer
@@ -63,13 +65,28 @@ unfolding ones leadingZeros rightLayout fieldsRefusal refusalAt firstRefused bun
 rewritten = refl
 
 -- after runs that used no reading
-can-go-on : (x : ℕ) (mem us : List ℕ) → length mem ≡ 1024 → us ≡ [] → CanGoOn x mem us
-can-go-on x mem us l e =
+can-go-on : (x : ℕ) (mem us : List ℕ) → us ≡ [] → CanGoOn x mem us
+can-go-on x mem us e =
     record {
       preserved = λ _. written-kept x mem;
-      resumable = record { memory = length-set mem 650 x ∙ l; log = lit≤ tt; readings = lit≤ tt };
-      reading = rw e refl;
+      reading = λ _. rw e refl;
     }
+
+-- with a free pair and a reading it does not pause
+machine-goes : (x : ℕ) (g : RunInput) → MemoryPreserved layout (installMemory layout policy memory) g →
+    let c = machineSession g in
+    length (c .memory) ≡ 1024 → NoPause layout commands c (onePair x (c .memory) 1000)
+machine-goes x g e l =
+    let mem = machineSession g .memory in
+    resumable-no-pause layout policy commands memory (g ∷ []) (premise g e) (onePair x mem 1000) (λ _. written-kept x mem)
+    (record { memory = length-set mem 650 x ∙ l; log = lit≤ tt; readings = lit≤ tt })
+
+engine-goes : (x : ℕ) (g : RunInput) → EnginePremise layout policy code memory (g ∷ []) →
+    let c = engineSession g in
+    length (c .memory) ≡ 1024 → EngineNoPause layout code c (onePair x (c .memory) 1)
+engine-goes x g v l =
+    let mem = engineSession g .memory in
+    engine-ample layout policy code memory (g ∷ []) v (onePair x mem 1) (length-set mem 650 x ∙ l) (lit≤ tt) (lit≤ tt)
 
 unread : (us : List ℕ) → us ≡ [] → IsPrefix us readings
 unread us e i h = absurd (omega (arith, h, ap (λ (vs : List ℕ). length vs) e))
@@ -125,6 +142,10 @@ unfolding ones leadingZeros rightLayout rightPolicy rightLandings bitsFrom landi
     engineTaken engineRun afterAll
 engine-holds x = record { taken = refl; counted = refl; over = refl; used = λ i h. refl; pausedCounted = refl; pausedUsed = refl; pausedSize = refl }
 
+engine-premise : (x : ℕ) → EnginePremise layout policy code memory (pausedRun x ∷ [])
+unfolding eachRun
+engine-premise x = record { taken = engine-holds x .taken; installed = installed; preserved = (λ l. kept x, tt) }
+
 pub sample-holds : SampleHolds
 unfolding instrOf routine plainOf rawEvent rawExec rawStep rawAfter eachRun
 sample-holds =
@@ -140,18 +161,18 @@ sample-holds =
       pausedSandboxed = λ x k l. record { taken = rewritten; premise = premise (pausedRun x) (λ _. kept x); behaved = behaved _ k l (unread _ (m x .pausedUsed)) };
       pausedBegun = λ x. m x .pausedBegun;
       waiting = λ x. m x .waiting;
-      resumable = λ x. can-go-on x _ _ (m x .pausedSize) (m x .pausedUsed);
+      resumed = λ x. (can-go-on x _ _ (m x .pausedUsed), machine-goes x (pausedRun x) (λ _. kept x) (m x .pausedSize));
       cutSandboxed = λ x k l. record { taken = rewritten; premise = premise (cutRun x) (λ _. kept x); behaved = behaved _ k l (unread _ (m x .cutUsed)) };
       cutBegun = λ x. m x .cutBegun;
       boundary = λ x. m x .boundary;
       running = λ x. m x .running;
-      cutResumable = λ x. can-go-on x _ _ (m x .cutSize) (m x .cutUsed);
+      cutResumed = λ x. (can-go-on x _ _ (m x .cutUsed), machine-goes x (cutRun x) (λ _. kept x) (m x .cutSize));
       enginePremise = λ x. record { taken = e x .taken; installed = installed; preserved = (λ l. kept x, tt) };
       engineBehaved = λ x k l. behaved _ k l (e x .used);
       counted = λ x. e x .counted;
       engineOver = λ x. e x .over;
-      enginePausedPremise = λ x. record { taken = e x .taken; installed = installed; preserved = (λ l. kept x, tt) };
+      enginePausedPremise = engine-premise;
       enginePausedCounted = λ x. e x .pausedCounted;
       enginePausedBehaved = λ x k l. behaved _ k l (unread _ (e x .pausedUsed));
-      engineResumable = λ x. can-go-on x _ _ (e x .pausedSize) (e x .pausedUsed);
+      engineResumed = λ x. (can-go-on x _ _ (e x .pausedUsed), engine-goes x (pausedRun x) (engine-premise x) (e x .pausedSize));
     }

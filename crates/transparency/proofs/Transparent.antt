@@ -33,12 +33,12 @@ use Rattle.spec.proofs.Pauses.{pause-rule}
 use Rattle.spec.proofs.Progress.{resumes, progress}
 use Rattle.engine_spec.specs.Claims.{Session as EngineSession, HostPremise as EnginePremise, after as engineAfter}
 use Rattle.engine_spec.specs.Claims.{initialSession as initialEngine, runOn as engineOn, afterTaken as engineTaken, afterRun as engineRun}
-use Rattle.engine_spec.specs.Engines.{refusalOf, refusalBy}
+use Rattle.engine_spec.specs.Engines.{refusalOf}
 use Rattle.engine_spec.proofs.Rule.{engine-rule, same-guest, step-uses}
-use Rattle.engine_spec.proofs.StepTogether.{run-counts-one, machine-uses}
+use Rattle.engine_spec.proofs.StepTogether.{takes, run-counts-one, machine-uses}
 use Rattle.transparency.specs.Raw.{rawStart, rawRun}
 use Rattle.transparency.specs.Claims.{IsPrefix, Behaved, SameAsRaw, Sandboxed, MachineSameAsRaw, Transparent, EngineTransparent}
-use Rattle.transparency.specs.Claims.{TransparentPaused, TransparentNext, ResumableAsRaw, ReachesSameAsRaw, TransparentStep, TransparentResumed}
+use Rattle.transparency.specs.Claims.{TransparentPaused, TransparentNext, ContinuesAsRaw, ReachesSameAsRaw, TransparentStep, TransparentResumed}
 use Rattle.transparency.specs.Claims.{EngineSameAsRaw, EngineTransparentNext, EngineTransparentStep}
 use Rattle.transparency.proofs.RawSimulation.{RawSimulates, after-like}
 
@@ -145,7 +145,7 @@ module _ (lay : Layout) (pol : Policy) (code mem raw reads : List ℕ) (room : �
 
   -- the readings used after one more instruction are the raw run's
   prefix-more : (us : List ℕ) (j u : ℕ) (rd : List ℕ) → length us ≡ guestGiven us j .used → length (us ++ take u rd) ≡ guestGiven (us ++ take u rd) (suc j) .used
-      → IsPrefix us reads → getD rd 0 0 ≡ getD reads (length us) 0 → IsPrefix (us ++ take u rd) reads
+      → IsPrefix us reads → (1 ≤ length rd → getD rd 0 0 ≡ getD reads (length us) 0) → IsPrefix (us ++ take u rd) reads
   unfolding guestAfter
   prefix-more us j u rd before later given next i h =
       let vs = us ++ take u rd in
@@ -159,11 +159,11 @@ module _ (lay : Layout) (pol : Policy) (code mem raw reads : List ℕ) (room : �
       let e : i ≡ length us + 0 = omega arith in
       let some : 0 < u = omega (arith, length-take u rd) in
       let at : length us + 0 ≡ length us = omega arith in
-      ap (λ (j : ℕ). getD vs j 0) e ∙ getD-append-add us (take u rd) 0 0 ∙ getD-take u rd 0 0 some ∙ next ∙ ap (λ (j : ℕ). getD reads j 0) (sym at ∙ sym e))
+      ap (λ (j : ℕ). getD vs j 0) e ∙ getD-append-add us (take u rd) 0 0 ∙ getD-take u rd 0 0 some ∙ next (omega (arith, length-take u rd)) ∙ ap (λ (j : ℕ). getD reads j 0) (sym at ∙ sym e))
       (cases (ltb i (length us)))
 
   follows : (j p : ℕ) → Sandboxed lay pol code mem raw reads room gs (suc j) → SimulatesAt lay p (guestFor lay pol code mem now j) now
-      → (g : RunInput) → ResumableAsRaw lay (now .memory) (now .consumed) reads g → ReachesBoundary lay commands now g (suc j) → ReachesSameAsRaw lay code raw reads now g (suc j)
+      → (g : RunInput) → ContinuesAsRaw lay (now .memory) (now .consumed) reads g → ReachesBoundary lay commands now g (suc j) → ReachesSameAsRaw lay code raw reads now g (suc j)
   follows j p x a g o r =
       let h = withBudget g (r .budget) in
       let more : after lay pol commands mem (gs ++ (h ∷ [])) ≡ afterRun lay commands now h = after-more (afterRun lay commands) (initialSession lay pol mem) gs h in
@@ -193,18 +193,18 @@ module _ (lay : Layout) (pol : Policy) (code mem raw reads : List ℕ) (room : �
 
   -- the same with the count written as k
   follows-at : (k j p : ℕ) → suc j ≡ k → Sandboxed lay pol code mem raw reads room gs k → SimulatesAt lay p (guestFor lay pol code mem now j) now
-      → (g : RunInput) → ResumableAsRaw lay (now .memory) (now .consumed) reads g → ReachesBoundary lay commands now g k → ReachesSameAsRaw lay code raw reads now g k
+      → (g : RunInput) → ContinuesAsRaw lay (now .memory) (now .consumed) reads g → ReachesBoundary lay commands now g k → ReachesSameAsRaw lay code raw reads now g k
   follows-at k j p e x a g o r =
       subst (ReachesSameAsRaw lay code raw reads now g) e (follows j p (subst (Sandboxed lay pol code mem raw reads room gs) (sym e) x) a g o (subst (ReachesBoundary lay commands now g) (sym e) r))
 
 pub transparent-step : TransparentStep
-transparent-step lay pol code mem raw reads room gs x s t g o =
+transparent-step lay pol code mem raw reads room gs x s t g o n =
     let c = after lay pol (commandsOf lay code) mem gs in
     let b = x .behaved in
     let y : Sandboxed lay pol code mem raw reads room gs (c .begun) =
     record { taken = x .taken; premise = x .premise; behaved = record { box = b .box; readings = b .readings; behaves = λ j m. b .behaves j (omega arith) } } in
     follows-at lay pol code mem raw reads room gs (c .begun + 1) (c .begun) 0 (omega arith) x (guest-rule lay pol code mem room gs (x .taken) (x .premise) s) g o
-    (transparent-next lay pol code mem raw reads room gs y s t g (o .preserved) (o .resumable))
+    (transparent-next lay pol code mem raw reads room gs y s t g (o .preserved) n)
 
 -- on the third command no bundle begins
 begins-none : (lay : Layout) (ws : List ℕ) (m : Machine) → Waiting lay ws m → begins lay (m .pc) ≡ 0
@@ -213,31 +213,24 @@ begins-none lay ws m w =
     ⊎-elim (λ t. rw (eqb-true (positionOf lay (m .pc)) 2 t)) (λ f. let none : waitingAt lay ws m ≡ [] = rw f in let e = w .third in no (cc)) (cases (eqb (positionOf lay (m .pc)) 2))
 
 pub transparent-resumed : TransparentResumed
-transparent-resumed lay pol code mem raw reads room gs x w g o =
+transparent-resumed lay pol code mem raw reads room gs x w g o n =
     let ws = commandsOf lay code in
     let c = after lay pol ws mem gs in
     let q = pause-rule lay pol code mem room gs (x .taken) (x .premise) w in
     let e : suc (c .begun - 1) ≡ c .begun = omega (arith, q .begun) in
     let none : c .begun + begins lay (c .machine .pc) ≡ c .begun = omega (arith, begins-none lay ws (c .machine) w) in
     follows-at lay pol code mem raw reads room gs (c .begun) (c .begun - 1) 2 e x (q .simulates) g o
-    (subst (ReachesBoundary lay ws c g) none (resumes lay pol ws mem gs (x .premise) (w .running) g (o .preserved) (o .resumable)))
+    (subst (ReachesBoundary lay ws c g) none (resumes lay pol ws mem gs (x .premise) (w .running) g (o .preserved) n))
 
 pub engine-transparent : EngineTransparent
 engine-transparent lay pol code mem raw reads gs v b =
     let a = engine-rule lay pol code mem gs v in
     alike lay pol code mem raw _ reads _ (v .installed) b _ (engineAfter lay pol code mem gs .memory) _ _ (a .ending) (a .regs) (a .box) (a .records) (a .used)
 
--- a run with a memory of U cells is not refused
-engine-taken : (lay : Layout) (pol : Policy) (code mem : List ℕ) (gs : List RunInput) → EnginePremise lay pol code mem gs → (g : RunInput) → length (g .memory) ≡ lay .size
-    → refusalOf lay code (g .memory) .number ≡ 0
-engine-taken lay pol code mem gs v g size =
-    let fit = eqb-true _ _ (both (rightLayout lay) _ (fits-of lay pol mem (v .installed) .0) .1) in
-    ap (λ (k : ℕ). refusalBy lay code k .number) (size ∙ sym fit) ∙ v .taken
-
 pub engine-transparent-next : EngineTransparentNext
-engine-transparent-next lay pol code mem raw reads gs v b t g lg n =
+engine-transparent-next lay pol code mem raw reads gs v b t g n =
     let u = engine-transparent lay pol code mem raw reads gs v b in
-    run-counts-one lay code (engineAfter lay pol code mem gs) g (engine-taken lay pol code mem gs v g (n .memory)) (u .ending ∙ t) (n .log) (n .readings)
+    run-counts-one lay code (engineAfter lay pol code mem gs) g (takes lay pol code mem gs v g (n .memory)) (u .ending ∙ t) (n .goes)
 
 -- the readings used after a run
 engine-uses : (lay : Layout) (ws : List ℕ) (c : EngineSession) (g : RunInput) → refusalOf lay ws (g .memory) .number ≡ 0
@@ -246,7 +239,7 @@ unfolding engineRun engineTaken
 engine-uses lay ws c g z = rw (eq-eqb _ _ z)
 
 pub engine-transparent-step : EngineTransparentStep
-engine-transparent-step lay pol code mem raw reads gs v b t g o =
+engine-transparent-step lay pol code mem raw reads gs v b t g o none =
     let c = engineAfter lay pol code mem gs in
     let h = withBudget g 1 in
     let d = engineAfter lay pol code mem (gs ++ (h ∷ [])) in
@@ -259,12 +252,12 @@ engine-transparent-step lay pol code mem raw reads gs v b t g o =
       installed = v .installed;
       preserved = lends-more (engineRun lay code) lay (λ (x : EngineSession). x .memory) start gs h (v .preserved) (o .preserved);
     } in
-    let one : engineRun lay code c h .counted ≡ c .counted + 1 = engine-transparent-next lay pol code mem raw reads gs v less t g (o .preserved) (o .resumable) in
+    let one : engineRun lay code c h .counted ≡ c .counted + 1 = engine-transparent-next lay pol code mem raw reads gs v less t g none in
     let next : c .counted + 1 ≡ suc (c .counted) = omega arith in
     let k : d .counted ≡ suc (c .counted) = ap (λ (x : EngineSession). x .counted) more ∙ one ∙ next in
     let n = engineOn lay code c h .outcome .used in
     let used : d .consumed ≡ c .consumed ++ take n (g .readings) =
-    ap (λ (x : EngineSession). x .consumed) more ∙ engine-uses lay code c h (engine-taken lay pol code mem gs v h (o .resumable .memory)) in
+    ap (λ (x : EngineSession). x .consumed) more ∙ engine-uses lay code c h (takes lay pol code mem gs v h (none .memory)) in
     let later = subst (λ (us : List ℕ). length us ≡ guestGiven lay pol code mem raw reads 0 gs us (suc (c .counted)) .used) used
     (subst (λ (i : ℕ). length (d .consumed) ≡ guestGiven lay pol code mem raw reads 0 gs (d .consumed) i .used) k (engine-rule lay pol code mem (gs ++ (h ∷ [])) w .used)) in
     let given : IsPrefix (d .consumed) reads =

@@ -1,5 +1,5 @@
 -- Claims that the sandbox does not alter a well-behaved routine, in the machine and in the engine.
-use Prim.Native.Nat.{ℕ, _+_, _-_, _<_}
+use Prim.Native.Nat.{ℕ, _+_, _-_, _<_, _≤_}
 use mathlib.Core.Path.{_≡_}
 use mathlib.Core.Bool.{true}
 use mathlib.Core.List.{List}
@@ -14,8 +14,8 @@ use Rattle.spec.specs.Words.{routine, bundlesFor}
 use Rattle.spec.specs.Bundles.{rewriteAnswer, commandsOf}
 use Rattle.spec.specs.Guests.{Pair}
 use Rattle.spec.specs.Runs.{RunInput, Session, afterRun, MemoryPreserved, HostPremise, after}
-use Rattle.spec.specs.Claims.{AtBoundary, Waiting, ReachesBoundary, withBudget, Resumable}
-use Rattle.engine_spec.specs.Claims.{Session as EngineSession, HostPremise as EnginePremise, after as engineAfter, afterRun as engineRun}
+use Rattle.spec.specs.Claims.{AtBoundary, Waiting, ReachesBoundary, withBudget, NoPause}
+use Rattle.engine_spec.specs.Claims.{Session as EngineSession, HostPremise as EnginePremise, after as engineAfter, afterRun as engineRun, EngineNoPause}
 use Rattle.transparency.specs.Raw.{Raw, rawStart, rawRun, BehavesFor}
 
 -- a memory for the raw run that has the same cells in the sandbox
@@ -70,40 +70,39 @@ TransparentPaused =
     Sandboxed lay pol code mem raw reads room gs (c .begun - 1) → Waiting lay (commandsOf lay code) (c .machine) → MachineSameAsRaw lay (rawRun lay code raw reads (c .begun - 1)) c
 
 -- 'A pause is no instruction, and a run that can go on follows it'. If the raw run has not ended, the sandboxed one executes one bundle
--- within four steps, if it is lent its memory, two log cells and a reading
+-- within four steps, if it is lent its memory and does not pause
 abbrev pub TransparentNext : Type 0
 TransparentNext =
     (lay : Layout) (pol : Policy) (code mem raw reads : List ℕ) (room : ℕ) (gs : List RunInput) →
     let c = after lay pol (commandsOf lay code) mem gs in
     Sandboxed lay pol code mem raw reads room gs (c .begun) → AtBoundary lay (c .machine) → rawRun lay code raw reads (c .begun) .status ≡ Running →
-    (g : RunInput) → MemoryPreserved lay (c .memory) g → Resumable lay g → ReachesBoundary lay (commandsOf lay code) c g (c .begun + 1)
+    (g : RunInput) → MemoryPreserved lay (c .memory) g → NoPause lay (commandsOf lay code) c g → ReachesBoundary lay (commandsOf lay code) c g (c .begun + 1)
 
--- a run's input with the last memory, two log cells and, after the readings used, the raw run's next one
-pub record ResumableAsRaw (lay : Layout) (mem used reads : List ℕ) (g : RunInput) : Type 0 where
+-- a run's input with the last memory. Its first reading, if it has one, is the raw run's next one after the readings used
+pub record ContinuesAsRaw (lay : Layout) (mem used reads : List ℕ) (g : RunInput) : Type 0 where
   pub preserved : MemoryPreserved lay mem g
-  pub resumable : Resumable lay g
-  pub reading : getD (g .readings) 0 0 ≡ getD reads (length used) 0
+  pub reading : 1 ≤ length (g .readings) → getD (g .readings) 0 0 ≡ getD reads (length used) 0
 
 -- within four steps the machine is at a boundary with k bundles begun, and agrees with the raw run after k instructions
 pub record ReachesSameAsRaw (lay : Layout) (code raw reads : List ℕ) (c : Session) (g : RunInput) (k : ℕ) : Type 0 where
   pub reaches : ReachesBoundary lay (commandsOf lay code) c g k
   pub same : MachineSameAsRaw lay (rawRun lay code raw reads k) (afterRun lay (commandsOf lay code) c (withBudget g (reaches .budget)))
 
--- from a boundary, the machine follows the raw run's next instruction, if that behaves well too
+-- from a boundary, the machine follows the raw run's next instruction, if that behaves well too and the machine does not pause
 abbrev pub TransparentStep : Type 0
 TransparentStep =
     (lay : Layout) (pol : Policy) (code mem raw reads : List ℕ) (room : ℕ) (gs : List RunInput) →
     let c = after lay pol (commandsOf lay code) mem gs in
     Sandboxed lay pol code mem raw reads room gs (c .begun + 1) → AtBoundary lay (c .machine) → rawRun lay code raw reads (c .begun) .status ≡ Running →
-    (g : RunInput) → ResumableAsRaw lay (c .memory) (c .consumed) reads g → ReachesSameAsRaw lay code raw reads c g (c .begun + 1)
+    (g : RunInput) → ContinuesAsRaw lay (c .memory) (c .consumed) reads g → NoPause lay (commandsOf lay code) c g → ReachesSameAsRaw lay code raw reads c g (c .begun + 1)
 
--- from a pause, it follows the instruction whose bundle it had begun
+-- from a pause, it follows the instruction whose bundle it had begun, if it does not pause again
 abbrev pub TransparentResumed : Type 0
 TransparentResumed =
     (lay : Layout) (pol : Policy) (code mem raw reads : List ℕ) (room : ℕ) (gs : List RunInput) →
     let c = after lay pol (commandsOf lay code) mem gs in
     Sandboxed lay pol code mem raw reads room gs (c .begun) → Waiting lay (commandsOf lay code) (c .machine) →
-    (g : RunInput) → ResumableAsRaw lay (c .memory) (c .consumed) reads g → ReachesSameAsRaw lay code raw reads c g (c .begun)
+    (g : RunInput) → ContinuesAsRaw lay (c .memory) (c .consumed) reads g → NoPause lay (commandsOf lay code) c g → ReachesSameAsRaw lay code raw reads c g (c .begun)
 
 -- ---- the engine
 
@@ -119,23 +118,24 @@ EngineTransparent =
     Behaved lay pol code mem raw (c .consumed) reads (c .counted) →
     EngineSameAsRaw lay (rawRun lay code raw reads (c .counted)) c
 
--- if the raw run has not ended, the engine executes one more instruction
+-- if the raw run has not ended, an engine that does not pause executes one more instruction
 abbrev pub EngineTransparentNext : Type 0
 EngineTransparentNext =
     (lay : Layout) (pol : Policy) (code mem raw reads : List ℕ) (gs : List RunInput) → EnginePremise lay pol code mem gs →
     let c = engineAfter lay pol code mem gs in
     Behaved lay pol code mem raw (c .consumed) reads (c .counted) → rawRun lay code raw reads (c .counted) .status ≡ Running →
-    (g : RunInput) → MemoryPreserved lay (c .memory) g → Resumable lay g → engineRun lay code c (withBudget g 1) .counted ≡ c .counted + 1
+    (g : RunInput) → EngineNoPause lay code c (withBudget g 1) → engineRun lay code c (withBudget g 1) .counted ≡ c .counted + 1
 
 -- the engine has counted k instructions, and agrees with the raw run after k
 pub record FollowsRaw (lay : Layout) (code raw reads : List ℕ) (c : EngineSession) (k : ℕ) : Type 0 where
   pub counted : c .counted ≡ k
   pub same : EngineSameAsRaw lay (rawRun lay code raw reads k) c
 
--- from any moment, after a pause too, the engine follows the raw run's next instruction, if that behaves well
+-- from any moment, after a pause too, the engine follows the raw run's next instruction, if that behaves well and the engine does not pause
 abbrev pub EngineTransparentStep : Type 0
 EngineTransparentStep =
     (lay : Layout) (pol : Policy) (code mem raw reads : List ℕ) (gs : List RunInput) → EnginePremise lay pol code mem gs →
     let c = engineAfter lay pol code mem gs in
     Behaved lay pol code mem raw (c .consumed) reads (c .counted + 1) → rawRun lay code raw reads (c .counted) .status ≡ Running →
-    (g : RunInput) → ResumableAsRaw lay (c .memory) (c .consumed) reads g → FollowsRaw lay code raw reads (engineRun lay code c (withBudget g 1)) (c .counted + 1)
+    (g : RunInput) → ContinuesAsRaw lay (c .memory) (c .consumed) reads g → EngineNoPause lay code c (withBudget g 1) →
+    FollowsRaw lay code raw reads (engineRun lay code c (withBudget g 1)) (c .counted + 1)

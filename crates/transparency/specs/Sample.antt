@@ -10,11 +10,11 @@ use Rattle.spec.specs.Bundles.{commandsOf}
 use Rattle.spec.specs.Machines.{installMemory}
 use Rattle.spec.specs.Guests.{pairOf}
 use Rattle.spec.specs.Runs.{RunInput, Session, after}
-use Rattle.spec.specs.Claims.{AtBoundary, Waiting}
+use Rattle.spec.specs.Claims.{AtBoundary, Waiting, NoPause}
 use Rattle.samples.specs.Sample.{layout, written}
-use Rattle.engine_spec.specs.Claims.{Session as EngineSession, HostPremise as EnginePremise, after as afterEngine}
+use Rattle.engine_spec.specs.Claims.{Session as EngineSession, HostPremise as EnginePremise, after as afterEngine, EngineNoPause}
 use Rattle.transparency.specs.Raw.{Raw, rawRun}
-use Rattle.transparency.specs.Claims.{Behaved, Sandboxed, ResumableAsRaw}
+use Rattle.transparency.specs.Claims.{Behaved, Sandboxed, ContinuesAsRaw}
 
 -- the policy of `samples`, with instruction 6 as its only landing
 abbrev pub policy : Policy
@@ -63,7 +63,7 @@ engineSession g = afterEngine layout policy code memory (g ∷ [])
 
 -- one more run can follow, with the raw run's next reading
 abbrev pub CanGoOn : ℕ → List ℕ → List ℕ → Type 0
-CanGoOn x mem used = ResumableAsRaw layout mem used readings (onePair x mem 1000)
+CanGoOn x mem used = ContinuesAsRaw layout mem used readings (onePair x mem 1000)
 
 -- for every x that the host writes, and every number of instructions up to eight, the routine behaves. The premises of Transparent are met: the
 -- sandboxed run ends after eight bundles, the raw run after eight instructions. Those of TransparentPaused and TransparentResumed are met with seven
@@ -79,12 +79,12 @@ pub record SampleHolds : Type 0 where
   pub pausedSandboxed : (x k : ℕ) → k ≤ 8 → Sandboxed layout policy code memory memory readings 64 (pausedRun x ∷ []) k
   pub pausedBegun : (x : ℕ) → machineSession (pausedRun x) .begun ≡ 7
   pub waiting : (x : ℕ) → Waiting layout commands (machineSession (pausedRun x) .machine)
-  pub resumable : (x : ℕ) → let c = machineSession (pausedRun x) in CanGoOn x (c .memory) (c .consumed)
+  pub resumed : (x : ℕ) → let c = machineSession (pausedRun x) in CanGoOn x (c .memory) (c .consumed) × NoPause layout commands c (onePair x (c .memory) 1000)
   pub cutSandboxed : (x k : ℕ) → k ≤ 8 → Sandboxed layout policy code memory memory readings 64 (cutRun x ∷ []) k
   pub cutBegun : (x : ℕ) → machineSession (cutRun x) .begun ≡ 6
   pub boundary : (x : ℕ) → AtBoundary layout (machineSession (cutRun x) .machine)
   pub running : (x : ℕ) → machineSession (cutRun x) .machine .status ≡ Running
-  pub cutResumable : (x : ℕ) → let c = machineSession (cutRun x) in CanGoOn x (c .memory) (c .consumed)
+  pub cutResumed : (x : ℕ) → let c = machineSession (cutRun x) in CanGoOn x (c .memory) (c .consumed) × NoPause layout commands c (onePair x (c .memory) 1000)
   pub enginePremise : (x : ℕ) → EnginePremise layout policy code memory (run x ∷ [])
   pub engineBehaved : (x k : ℕ) → k ≤ 8 → Behaved layout policy code memory memory (engineSession (run x) .consumed) readings k
   pub counted : (x : ℕ) → engineSession (run x) .counted ≡ 8
@@ -92,4 +92,4 @@ pub record SampleHolds : Type 0 where
   pub enginePausedPremise : (x : ℕ) → EnginePremise layout policy code memory (pausedRun x ∷ [])
   pub enginePausedCounted : (x : ℕ) → engineSession (pausedRun x) .counted ≡ 6
   pub enginePausedBehaved : (x k : ℕ) → k ≤ 8 → Behaved layout policy code memory memory (engineSession (pausedRun x) .consumed) readings k
-  pub engineResumable : (x : ℕ) → let c = engineSession (pausedRun x) in CanGoOn x (c .memory) (c .consumed)
+  pub engineResumed : (x : ℕ) → let c = engineSession (pausedRun x) in CanGoOn x (c .memory) (c .consumed) × EngineNoPause layout code c (onePair x (c .memory) 1)

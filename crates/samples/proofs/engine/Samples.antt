@@ -1,6 +1,6 @@
 -- The premises of the claims can be met, and the definitions compute.
 use mathlib.Core.Path.{_≡_, refl, _∙_, ap}
-use mathlib.Core.Logic.{inl}
+use mathlib.Core.Logic.{inl, ⊎-elim}
 use mathlib.Core.List.{List, [], _∷_}
 use Prim.Native.Nat.{ℕ, _<_}
 use native.Mathlib.Omega.{arith}
@@ -16,14 +16,15 @@ use Rattle.spec.specs.Commands.{wordOf, isCommand, commandOf, fetchOf, plainOf}
 use Rattle.spec.specs.Bundles.{shapeOf, decodeBundle, bundleAt, rewriteAnswer, baseRoomAnswer}
 use Rattle.spec.specs.Machines.{effectOf, installAnswer, installMemory, installMachine, applyOf, runOf as machineRunOf, loopFrom}
 use Rattle.spec.specs.Runs.{RunInput, eachRun, afterAll, MemoryPreserved, begins, runOn as machineOn, afterTaken as machineTaken, afterRun as machineRun, after as machineAfter}
-use Rattle.spec.specs.Claims.{AtBoundary, Waiting}
+use Rattle.spec.specs.Claims.{AtBoundary, Waiting, NoPause}
+use Rattle.spec.proofs.Bools.{no}
 use Rattle.spec.proofs.Noninterference.{free-set}
 use Rattle.samples.specs.Sample.{layout, policy, code, commands, memory, firstMemory, runs as machineRuns, pausedRun}
 use Rattle.samples.proofs.Samples.{first-kept, sample-holds as machine-holds}
 use Rattle.engine_spec.specs.Engines.{checkedEvent, instrEffect, instrEffectAt, withState, applyEffect, refusalBy, runOf}
 use Rattle.engine_spec.specs.Claims.{runOn, afterTaken, afterRun, after, HostPremise, PairedRuns}
 use Rattle.engine_spec.specs.Continues.{reachedEffect, continueRefusal, continueOf, callOf, callRefusal, callOn, afterCall, eachCall, CallPremise}
-use Rattle.samples.specs.engine.Sample.{left, runs, mixedCalls, machineOne, engineOne, SampleHolds}
+use Rattle.samples.specs.engine.Sample.{left, runs, mixedCalls, machineOne, engineOne, orderRun, SampleHolds}
 
 premise-with : (x y : ℕ) → HostPremise layout policy code (memory x) (runs y)
 unfolding ones rightLayout rightPolicy rightLandings installAnswer inBox inTable inLandings protected installMemory landingsOf runOn afterTaken afterRun
@@ -75,6 +76,13 @@ unfolding ones leadingZeros rightLayout rightPolicy rightLandings bitsFrom landi
     afterAll
 machine-boundary x = (inl refl, refl, refl, refl)
 
+-- it does not pause at the order, though it has no reading
+machine-goes : (x : ℕ) → NoPause layout commands (machineAfter layout policy commands (memory x) (machineOne x ∷ [])) (orderRun x)
+unfolding ones leadingZeros rightLayout rightPolicy rightLandings bitsFrom landingsOf instrOf routine bundlesFor wordOf shapeOf decodeBundle bundleAt isCommand
+    commandOf fetchOf plainOf installAnswer installMemory installMachine effectOf applyOf loopFrom machineRunOf begins machineOn machineTaken machineRun
+    afterAll
+machine-goes x = record { memory = refl; goes = λ p. ⊎-elim (λ e. no (cc)) (λ e. no (cc)) p }
+
 -- the engine's run uses no reading
 unread : (x : ℕ) → (after layout policy code (memory x) (pausedRun x ∷ []) .consumed ≡ []) × (after layout policy code (memory x) (engineOne x ∷ []) .consumed ≡ [])
 unfolding ones leadingZeros rightLayout rightPolicy rightLandings bitsFrom landingsOf fieldsRefusal refusalAt firstRefused instrOf routine bundlesFor plainOf
@@ -122,7 +130,8 @@ sample-holds =
       pauses = λ x. inl refl;
       machineKept = λ x l. rw (machine-boundary x .3) (λ i s. refl);
       engineKept = λ x l i s. refl;
-      resumable = λ x. record { memory = refl; log = lit≤ tt; readings = lit≤ tt };
+      machineGoes = machine-goes;
+      engineGoes = λ x. record { memory = refl; goes = λ p. ⊎-elim (λ e. omega (arith, e)) (λ e. omega (arith, e)) p };
       ample = λ x. (lit≤ tt, lit≤ tt);
       mixed = mixed-with;
       mixedAnswers = λ x. refl;

@@ -2,18 +2,18 @@
 use Prim.Native.Nat.{ℕ, _+_, _*_, _≤_}
 use mathlib.Core.Path.{_≡_}
 use mathlib.Core.List.{List, [], _∷_, map}
-use lib.ListN.{length, getD, set}
+use lib.ListN.{length, getD, set, replicate}
 use Rattle.types.specs.declared.Answer.{Answer}
 use Rattle.types.specs.declared.Status.the-variants.{Running}
 use Rattle.types.specs.Names.{guest, pairCells, answer}
 use Rattle.spec.specs.Words.{packOf}
 use Rattle.spec.specs.Guests.{pairOf}
 use Rattle.spec.specs.Runs.{RunInput, Pairwise, Run, recordedIn, MemoryPreserved, after as machineAfter}
-use Rattle.spec.specs.Claims.{AtBoundary, Waiting, withBudget, Resumable, SameInputs}
+use Rattle.spec.specs.Claims.{AtBoundary, Waiting, withBudget, NoPause, SameInputs}
 use Rattle.samples.specs.Sample.{layout, policy, code, commands, memory, firstMemory, runInput, runs as machineRuns, pausedRun}
 use Rattle.engine_spec.specs.declared.EngineOutcome.{EngineOutcome}
 use Rattle.engine_spec.specs.Engines.{refusalOf}
-use Rattle.engine_spec.specs.Claims.{initialSession, runOn, afterRun, after, HostPremise, PairedRuns, PausedBy, allRuns}
+use Rattle.engine_spec.specs.Claims.{initialSession, runOn, afterRun, after, HostPremise, PairedRuns, PausedBy, EngineNoPause, allRuns}
 use Rattle.engine_spec.specs.Continues.{judgesAll, judgesReached, Call, callBy, callAs, eachCall, CallPremise, reachedCalls, UnjudgedPremise}
 
 -- three runs. The first has two instructions. The second has a memory that is too short.
@@ -44,6 +44,10 @@ machineOne x = runInput (firstMemory x) 4 x
 
 abbrev pub engineOne : ℕ → RunInput
 engineOne x = runInput (firstMemory x) 1 x
+
+-- a free pair and no reading: enough for an order
+abbrev pub orderRun : ℕ → RunInput
+orderRun x = record { memory = firstMemory x; budget = 1; readings = []; log = replicate pairCells x }
 
 -- words that nobody judged: SET r0, 70, then a word of kind 13. A run of them
 abbrev pub unjudged : List ℕ
@@ -80,10 +84,12 @@ pub record SampleHolds : Type 0 where
   pub running : (x : ℕ) → machineAfter layout policy commands (memory x) (machineOne x ∷ []) .machine .status ≡ Running
   pub even : (x : ℕ) → machineAfter layout policy commands (memory x) (machineOne x ∷ []) .begun ≡ after layout policy code (memory x) (engineOne x ∷ []) .counted
   pub pauses : (x : ℕ) → PausedBy (runOn layout code (after layout policy code (memory x) (engineOne x ∷ [])) (withBudget (pausedRun x) 1) .outcome .answer .number)
-  -- both still have the memory that they were lent, so such runs can follow, and `firstRun` with log and readings for its two instructions
-  pub machineKept : (x : ℕ) → MemoryPreserved layout (machineAfter layout policy commands (memory x) (machineOne x ∷ []) .memory) (firstRun x)
-  pub engineKept : (x : ℕ) → MemoryPreserved layout (after layout policy code (memory x) (engineOne x ∷ []) .memory) (firstRun x)
-  pub resumable : (x : ℕ) → Resumable layout (firstRun x)
+  -- both still have the memory that they were lent, so such runs can follow. Without a reading neither pauses at the order
+  pub machineKept : (x : ℕ) → MemoryPreserved layout (machineAfter layout policy commands (memory x) (machineOne x ∷ []) .memory) (orderRun x)
+  pub engineKept : (x : ℕ) → MemoryPreserved layout (after layout policy code (memory x) (engineOne x ∷ []) .memory) (orderRun x)
+  pub machineGoes : (x : ℕ) → NoPause layout commands (machineAfter layout policy commands (memory x) (machineOne x ∷ [])) (orderRun x)
+  pub engineGoes : (x : ℕ) → EngineNoPause layout code (after layout policy code (memory x) (engineOne x ∷ [])) (orderRun x)
+  -- `firstRun` has log and readings for its two instructions
   pub ample : (x : ℕ) → (pairCells * firstRun x .budget ≤ length (firstRun x .log)) × (firstRun x .budget ≤ length (firstRun x .readings))
   -- mixed calls stop there too. The second entry runs unjudged words to the fault at the second
   pub mixed : (x : ℕ) → CallPremise layout policy code (memory x) (mixedCalls x)
