@@ -113,13 +113,13 @@ module _ (lay : Layout) (ws rd : List ℕ) (most : length ws ≤ mostInstruction
       rw (length-map (λ w. cond (eqb (refusalAt (length ws) w) 0) w 0) ws, repaired-at ws (s .pc), t, lt-ltb (s .pc) (bundlesFor (length ws)) b)
 
   -- ---- a run
-  abbrev Beside : ℕ → ℕ → State → Type 0
-  Beside n k s = continueFrom lay ws rd n k (reachedState ws s) ≡ reachedResult ws (runFrom lay (repaired ws) rd n k s)
+  abbrev SameWithFault : ℕ → ℕ → State → Type 0
+  SameWithFault n k s = continueFrom lay ws rd n k (reachedState ws s) ≡ reachedResult ws (runFrom lay (repaired ws) rd n k s)
 
   over-beside : (k : ℕ) (s : State) → resultIn (endingOf (reachedStatus ws (s .pc) (s .status))) k (reachedState ws s) ≡ reachedResult ws (resultIn (endingOf (s .status)) k s)
   over-beside k s = rw (answer-of ws (s .pc) (s .status))
 
-  both-over : (n k : ℕ) (s : State) → (s .status ≡ Running → ⊥) → Beside n k s
+  both-over : (n k : ℕ) (s : State) → (s .status ≡ Running → ⊥) → SameWithFault n k s
   both-over n k s o =
       over-from (continueLoop lay ws rd) n k (reachedState ws s) (λ e. o (status-runs ws (s .pc) (s .status) e))
       ∙ over-beside k s
@@ -153,7 +153,7 @@ module _ (lay : Layout) (ws rd : List ℕ) (most : length ws ≤ mostInstruction
   after-same s (End u) r t = status-same ws (s .pc) u t
   after-same s (Wait w) r t = rw r
 
-  taken : (n k : ℕ) (s : State) → ((j : ℕ) (u : State) → Beside n j u) → s .status ≡ Running → isInstructionAt ws (s .pc) ≡ true
+  taken : (n k : ℕ) (s : State) → ((j : ℕ) (u : State) → SameWithFault n j u) → s .status ≡ Running → isInstructionAt ws (s .pc) ≡ true
       → continueFrom lay ws rd (suc n) k s ≡ reachedResult ws (runFrom lay (repaired ws) rd (suc n) k s)
   taken n k s more run t =
       let e = engineLoop lay (repaired ws) rd in
@@ -167,7 +167,7 @@ module _ (lay : Layout) (ws rd : List ℕ) (most : length ws ≤ mostInstruction
       ∙ more (k + 1) u
       ∙ ap (reachedResult ws) (sym (go-from e n k s r (subst Goes (sym q) g) ∙ ap (λ (f : Effect). runFrom lay (repaired ws) rd n (k + 1) (applyEffect lay rd f s)) q)))
 
-  does-same : (n k : ℕ) (s : State) → Beside n k s
+  does-same : (n k : ℕ) (s : State) → SameWithFault n k s
   does-same zero k s = continueLoop lay ws rd .none k (reachedState ws s) ∙ over-beside k s ∙ ap (reachedResult ws) (sym (engineLoop lay (repaired ws) rd .none k s))
   does-same (suc n) k s =
       ⊎-elim

@@ -214,7 +214,8 @@ unjudged-premise {lay} ws xs laid most lends =
 pub host-unjudged-isolation : HostUnjudgedIsolation
 host-unjudged-isolation lay pol mem ws left xs laid most lends =
     let l = layoutFrom lay in
-    record { calls = entry-calls lay ws (initialSession l pol mem) xs refl; unjudged = unjudged-isolation l pol ws mem xs (unjudged-premise ws xs laid most lends) }
+    let v = unjudged-premise ws xs laid most lends in
+    record { calls = entry-calls lay ws (initialSession l pol mem) xs refl; premise = v; unjudged = unjudged-isolation l pol ws mem xs v }
 
 -- ---- two lists of such calls
 module _ (lay : Layout) (ws : List ℕ) where

@@ -13,7 +13,7 @@ use Rattle.capi_spec.specs.Claims.{RoundTrips, callsOf, number, SameCall
 use Rattle.engine_spec.specs.Engines.{initialEngine, refusalOf}
 use Rattle.engine_spec.specs.Claims.{sessionOf, initialSession, MemoriesPreserved, HostPremise, allRuns, Isolated}
 use Rattle.capi_spec.specs.engine.Records.{engineFrom, engineTo, resultTo, engineFor, continueFor}
-use Rattle.engine_spec.specs.Continues.{Entry, judgesAll, judgesReached, Call, callAs, eachCall, EntriesPreserved, inputsOf, SameEntryInputs, UnjudgedIsolated}
+use Rattle.engine_spec.specs.Continues.{Entry, judgesAll, judgesReached, Call, callAs, eachCall, EntriesPreserved, inputsOf, SameEntryInputs, UnjudgedPremise, UnjudgedIsolated}
 
 -- the engine's record, of fifteen registers, survives the round trip
 abbrev pub EngineRoundTrips : Type 0
@@ -93,9 +93,10 @@ HostEntriesMix =
 
 -- ---- lists of calls with words that nobody judged
 
--- these calls are calls of the two entries. Those that are not refused do what isolated runs of the repaired words do, except for the fault
+-- these calls are calls of the two entries, on the premise. Those that are not refused do what isolated runs of the repaired words do, except for the fault
 pub record UnjudgedCallsIsolated (lay : List ℕ) (pol : Policy) (ws mem : List ℕ) (xs : List Call) : Type 0 where
   pub calls : let l = layoutFrom lay in callsOf (entryCall lay ws) zeros xs ≡ map (λ r. resultTo (r .result)) (eachCall (callAs l ws) l ws (initialSession l pol mem) xs)
+  pub premise : UnjudgedPremise (layoutFrom lay) pol ws mem xs
   pub unjudged : UnjudgedIsolated (layoutFrom lay) pol ws mem xs
 
 -- any words, at most 1,023, and any list of calls of both functions
