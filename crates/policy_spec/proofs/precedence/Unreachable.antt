@@ -168,10 +168,10 @@ module _ (ps : List ℕ) (m : ℕ) (fit : ValidPairs ps m) where
       (cases (firstsIn ps s e (pairsIn ps)))
 
   module _ (e : ℕ) (k : e < events) (blocked-full : blocked ps (fixpointOf ps) e ≡ true) (es : List ℕ) where
-    unheard-from : (d s i : ℕ) → i + d ≡ length es → s < statesOf ps → Within s (fixpointOf ps) → allowedFrom (madePolicy ps) s (drop i es) ≡ true
+    unreachable-from : (d s i : ℕ) → i + d ≡ length es → s < statesOf ps → Within s (fixpointOf ps) → allowedFrom (madePolicy ps) s (drop i es) ≡ true
         → (j : ℕ) → i ≤ j → j < length es → getD es j 0 ≡ e → ⊥
-    unheard-from zero s i q h w a j g l v = absurd (omega arith)
-    unheard-from (suc d) s i q h w a j g l v =
+    unreachable-from zero s i q h w a j g l v = absurd (omega arith)
+    unreachable-from (suc d) s i q h w a j g l v =
         let x = getD es i 0 in
         let c : i < length es = omega arith in
         let f = both (not (eqb (arrow (madePolicy ps) s x) noArrow)) _ (rw (drop-cons es i 0 c) at a) in
@@ -186,7 +186,7 @@ module _ (ps : List ℕ) (m : ℕ) (fit : ValidPairs ps m) where
         let y : x ≡ e = ap (λ (z : ℕ). getD es z 0) (sym (eqb-true j i r)) ∙ v in
         no (sym o ∙ ap (blocked ps s) y ∙ blocked-within s e h k w blocked-full))
         (λ r.
-        unheard-from d (arrowOf ps s x) (suc i) (omega arith) (moves-below ps m fit s x h b o) (stays-within s x h b w o)
+        unreachable-from d (arrowOf ps s x) (suc i) (omega arith) (moves-below ps m fit s x h b o) (stays-within s x h b w o)
         (ap (λ (y : ℕ). allowedFrom (madePolicy ps) y (drop (suc i) es)) (sym is) ∙ f .1) j (omega (arith, eqb-false j i r)) l v)
         (cases (eqb j i)))
         (λ t. no (sym (sym (ap (λ (y : ℕ). eqb y noArrow) (arrow-above (madePolicy ps) s x (ltb-false x events t))) ∙ has)))
@@ -246,7 +246,7 @@ module _ (ps : List ℕ) (m : ℕ) (fit : ValidPairs ps m) where
   unfolding allowed
   never-laws e = record {
     event = λ t. low t;
-    unreachable = λ t es a r. unheard-from e (low t) (sym (bit-map (blocked ps (fixpointOf ps)) events e (low t))
+    unreachable = λ t es a r. unreachable-from e (low t) (sym (bit-map (blocked ps (fixpointOf ps)) events e (low t))
         ∙ t) es (length es) 0 0 (omega arith) (pow-pos (namedCount ps)) starts-within a (r .at) (omega arith) (r .below) (r .is);
     complete = λ k u. bit-map (blocked ps (fixpointOf ps)) events e k ∙ ⊎-elim (λ t. t) (λ t. absurd (heard e k t u)) (cases (blocked ps (fixpointOf ps) e));
   }
