@@ -37,7 +37,8 @@ pub const CELLS: usize = Layout::LANDING_CELLS as usize;
 // Sets the bit of landing x.
 fn mark(cells: &mut [u32; CELLS], x: u32)
     requires { ⌜ (x < mostBundles) × (length (now cells) ≡ landingCells) ⌝ }
-    ensures { λ _. ⌜ now (cells .exit) ≡ set (now (cells .entry)) (x / cellBits) (bitOr (getD (now (cells .entry)) (x / cellBits) 0) (2 ^ (x % cellBits))) ⌝ }
+    ensures { λ _. ⌜ now (cells .exit) ≡ set (now (cells .entry)) (x / cellBits)
+        (bitOr (getD (now (cells .entry)) (x / cellBits) 0) (2 ^ (x % cellBits))) ⌝ }
 {
     let k = (x / Layout::CELL_BITS) as usize;
     cells[k] = cells[k] | (1u32 << (x % Layout::CELL_BITS));

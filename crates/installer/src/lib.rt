@@ -66,7 +66,8 @@ pub fn install(
     memory: &mut [u32],
 ) -> Installed
     ensures { λ r. ⌜ r ≡ installOf layout (lentPolicy policy (now (table .entry)) (now (landings .entry))) (now (memory .entry)) ⌝ }
-    ensures leaves { λ _. ⌜ now (memory .exit) ≡ installMemory layout (lentPolicy policy (now (table .entry)) (now (landings .entry))) (now (memory .entry)) ⌝ }
+    ensures leaves { λ _. ⌜ now (memory .exit)
+        ≡ installMemory layout (lentPolicy policy (now (table .entry)) (now (landings .entry))) (now (memory .entry)) ⌝ }
 {
     let answer = install_answer(layout, policy, table, landings, memory);
     let refused = answer.number;
