@@ -1,4 +1,6 @@
 // The C interface of include/hemdroas.h: a module for each part. Functions take numbers, arrays and slices.
+#![tactic(auto)]
+
 pub mod bytes;
 pub mod commands;
 pub mod determinise;

@@ -1,4 +1,6 @@
 // Checks a command list, whoever wrote it: each bundle must have a shape that the rewriter could have written, and the last must be HALT.
+#![tactic(auto)]
+
 pub mod event;
 pub mod indirect_jump;
 pub mod masked_access;

@@ -1,4 +1,6 @@
 // Reads a routine's bytes into words.
+#![tactic(auto)]
+
 pub mod bytes;
 pub mod decode;
 pub mod fast_path;

@@ -1,4 +1,6 @@
 // Writes a routine's words as bytes.
+#![tactic(auto)]
+
 pub mod encode;
 
 ghost use Rattle.std.specs.Prelude.{◌≡◌, ◌+◌, ◌≤◌, length};

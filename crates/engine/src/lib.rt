@@ -1,4 +1,6 @@
 // The engine of request 5. It runs guest words as they are written, under the guest rule. To judge a word is to test whether it is an instruction.
+#![tactic(auto)]
+
 pub mod refusal;
 pub mod run_loop;
 

@@ -1,4 +1,6 @@
 // The types of the engine of request 5, which runs guest words as they are written. Its definitions and claims are in specs/.
+#![tactic(auto)]
+
 use types::{Answer, Machine, Status};
 
 // The engine's record: the guest's registers, the index of the next instruction, the status.

@@ -1,4 +1,6 @@
 // One instruction of the engine: decides its effect and applies it.
+#![tactic(auto)]
+
 pub mod apply;
 pub mod effects;
 pub mod events;

@@ -1,4 +1,6 @@
 // Checks that a routine's words are forward, so that it always finishes: no GOX, and each GOIF goes to a higher instruction.
+#![tactic(auto)]
+
 pub mod list;
 
 ghost use Rattle.std.specs.Prelude.{◌≡◌, length};

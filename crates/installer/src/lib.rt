@@ -1,4 +1,6 @@
 // Installs a policy: writes its start state, table and landing bits into memory, and yields a fresh machine record.
+#![tactic(auto)]
+
 pub mod landings;
 pub mod table;
 pub mod table_words;

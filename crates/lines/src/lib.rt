@@ -1,4 +1,6 @@
 // Prints lines of text and numbers for the programs `trial` and `tray`.
+#![tactic(auto)]
+
 use libc::STDOUT_FILENO;
 use types::Answer;
 

@@ -1,4 +1,6 @@
 // Runs the machine, or takes one step. The record goes in and out by value; `machine_lent` has the same by `&mut`.
+#![tactic(auto)]
+
 pub mod answers;
 pub mod run_loop;
 pub mod tiers;

@@ -1,5 +1,7 @@
 // Runs a machine whose record is lent by `&mut`. Each function calls the one by value, then stores the new record back.
 // The proofs follow the compiled code by hand, which is long, so this crate holds nothing else.
+#![tactic(auto)]
+
 ghost use Rattle.spec.specs.Machines.{MatchesResult, run_of};
 ghost use Rattle.machine_lent.specs.Outcomes.{as_outcome};
 

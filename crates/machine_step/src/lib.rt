@@ -1,4 +1,6 @@
 // One step of the machine: decides the effect of the word at pc and applies it. Also tells how a run ends.
+#![tactic(auto)]
+
 pub mod apply;
 pub mod effects;
 pub mod endings;

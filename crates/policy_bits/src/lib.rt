@@ -1,4 +1,6 @@
 // Tests one bit of a set that is stored as a number.
+#![tactic(auto)]
+
 ghost use Rattle.std.specs.Prelude.{◌≡◌, ◌<◌};
 ghost use Rattle.types.specs.Names.{events};
 ghost use Rattle.policy_spec.specs.maps.Maps.{bit};

@@ -1,4 +1,6 @@
 // Request 8, 'Policies drawn with several arrows': makes a deterministic policy by the subset construction.
+#![tactic(auto)]
+
 ghost use Rattle.std.specs.Prelude.{◌≡◌, cond, ◌*◌, ◌^◌, ◌≤◌, ◌<◌, length, ltb};
 ghost use Rattle.types.specs.Names.{events, most_states};
 ghost use Rattle.policy_spec.specs.maps.Maps.{bit};

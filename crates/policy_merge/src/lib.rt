@@ -1,5 +1,7 @@
 // Request 7, 'Two policies at once': merges two policies. A state is a pair of states s and t.
 // The search stores the pair as 16 × s + t + 1; 0 means no pair.
+#![tactic(auto)]
+
 ghost use Rattle.std.specs.Prelude.{◌≡◌, ◌+◌, ◌*◌, ◌^◌, ◌<◌, min, length, get_or};
 ghost use Rattle.types.specs.Names.{events, no_arrow};
 ghost use Rattle.policy_spec.specs.reachability.Worklists.{Explored};

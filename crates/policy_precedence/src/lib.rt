@@ -1,4 +1,6 @@
 // Request 11, 'This before that': makes a policy from pairs of events, in which the first must come before the second.
+#![tactic(auto)]
+
 pub mod arrows;
 pub mod unreachable;
 

@@ -1,4 +1,6 @@
 // A work list of the nodes that events lead to. The caller's loop takes the next arrow and says where it leads.
+#![tactic(auto)]
+
 pub mod writing;
 
 ghost use Rattle.std.specs.Prelude.{◌≡◌, ◌+◌, ◌*◌, ◌/◌, ◌≤◌, ◌<◌, length, get_or, take};

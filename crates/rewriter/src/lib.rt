@@ -1,4 +1,6 @@
 // Rewrites a routine's words into bundles of four commands. One pass validates, one writes the bundles over a copy of the words.
+#![tactic(auto)]
+
 pub mod answers;
 pub mod bundles;
 

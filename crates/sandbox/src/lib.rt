@@ -1,4 +1,6 @@
 // Joins the parts: loads a routine's bytes into an installed machine, then runs or steps it.
+#![tactic(auto)]
+
 mod answers;
 pub mod loading;
 mod writing;

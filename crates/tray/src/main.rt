@@ -1,5 +1,7 @@
 // Tries the paper's sample cases that are not theorems, and a damaged routine for each refusal of reading and rewriting.
 // Prints a line for each case: its name, the answer's number and its place.
+#![tactic(auto)]
+
 pub mod reading;
 
 use lines::print_case;

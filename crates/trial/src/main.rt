@@ -1,5 +1,7 @@
 // Loads the routine on standard input, with document 01's layout and policy, and runs it once.
 // Prints the answer and, if it is 0, the events and how the run ended.
+#![tactic(auto)]
+
 ghost use Rattle.std.specs.Prelude.{◌*◌, ◌≤◌, length};
 ghost use Rattle.types.specs.Names.{pair_cells};
 

@@ -1,4 +1,6 @@
 // Defines the types and named numbers that all crates share: layouts, policies, instructions, commands, machines, refusals and answers.
+#![tactic(auto)]
+
 ghost use Rattle.std.specs.Prelude.{◌≡◌};
 ghost use Rattle.types.specs.declared.Ending.TheVariants.{Refused};
 ghost use Rattle.types.specs.declared.Refusal.TheVariants.{Taken};

@@ -1,5 +1,7 @@
 // Guest words, which are a routine's instructions, and command words, which are the machine's: their fields, and why a word is refused.
 // It re-exports the modules of `layout`, `arith` and `buffers` that rewriter and checker need.
+#![tactic(auto)]
+
 pub mod command;
 pub mod fields;
 pub mod guest;

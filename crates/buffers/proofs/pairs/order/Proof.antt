@@ -9,4 +9,4 @@ order_spec =
     (λ c κs. search rules)
     (λ c κs. search rules)
     (λ c. search rules)
-    (λ c. simp (c.before.before.write-pair.ensures, c.before.before.before.before.limited.ensures)))
+    (λ c. simp (c.before.before.write_pair.ensures, c.before.before.before.before.limited.ensures)))
