@@ -13,7 +13,7 @@ use words::guest::is_instruction;
 const NO_ANSWER: u8 = Refusal::TAKEN;
 
 // A field's value, the index after it, and whether it is present but 0.
-#[derive(Drop)]
+#[derive(Clone, Copy)]
 struct Part {
     value: u64,
     next: usize,

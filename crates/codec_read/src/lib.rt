@@ -20,7 +20,7 @@ use types::{Answer, Decoded, Instr, Refusal};
 use words::routine::bad_landing;
 
 // What reading n instructions answers, and the index of the first GOIF that jumps past them, or n if there is none.
-#[derive(Drop)]
+#[derive(Clone, Copy)]
 pub struct Scanned {
     pub answer: Answer,
     pub past: usize,

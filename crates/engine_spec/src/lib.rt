@@ -4,7 +4,7 @@
 use types::{Answer, Machine, Status};
 
 // The engine's record: the guest's registers, the index of the next instruction, the status.
-#[derive(Drop)]
+#[derive(Clone, Copy)]
 pub struct Engine {
     pub regs: [u32; Engine::REGISTERS],
     pub at: u32,
@@ -18,7 +18,7 @@ impl Engine {
 
 // The record that a run of the engine leaves, and its answer: the number of its refusal or ending, with a place.
 // Then how many instructions it counted, pairs it recorded and readings it used.
-#[derive(Drop)]
+#[derive(Clone, Copy)]
 pub struct EngineOutcome {
     pub engine: Engine,
     pub answer: Answer,

@@ -8,7 +8,7 @@ use machine_step::installed::entry_in;
 use types::{Effect, Layout, PolicyNumbers, Status};
 
 // What an event depends on: the present state, which the state cell has too, free log cells, and readings left.
-#[derive(Drop)]
+#[derive(Clone, Copy)]
 pub struct EventContext {
     pub state: u32,
     pub free: usize,

@@ -9,7 +9,7 @@ use types::{Bundle, Ending, Status};
 pub const BUNDLE_LENGTH: u32 = Bundle::LENGTH as u32;
 
 // A run's state except registers, memory and log. In the engine, pc is the index of the next instruction.
-#[derive(Drop)]
+#[derive(Clone, Copy)]
 pub struct Point {
     pub pc: u32,
     pub status: Status,
@@ -18,7 +18,7 @@ pub struct Point {
 }
 
 // What a loop of steps leaves: the point where the run is, its ending, and how many steps it has taken. While the run goes on, the ending is spent (25).
-#[derive(Drop)]
+#[derive(Clone, Copy)]
 pub struct LoopExit {
     pub at: Point,
     pub ending: Ending,

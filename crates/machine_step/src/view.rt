@@ -7,7 +7,7 @@ use crate::program_point::Point;
 use types::{Layout, RunAnswer};
 
 // pc; the addresses M, P, B and Q; how many log cells are free, and how many readings are left.
-#[derive(Drop)]
+#[derive(Clone, Copy)]
 pub struct ViewNumbers {
     pub pc: u32,
     pub cell: u32,

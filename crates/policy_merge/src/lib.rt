@@ -15,14 +15,14 @@ use policy_spec::tables::{EVENTS, MOST_STATES, NO_ARROW};
 use types::{Answer, Layout, PolicyNumbers, Refusal};
 
 // One of the two policies: its numbers and ceilings. Its table is passed beside it.
-#[derive(Drop)]
+#[derive(Clone, Copy)]
 pub struct Side {
     pub policy: PolicyNumbers,
     pub ceilings: [u32; Layout::CEILINGS],
 }
 
 // The result of merging: bytes written as place, the policy's numbers, and the ceilings.
-#[derive(Drop)]
+#[derive(Clone, Copy)]
 pub struct Merged {
     pub answer: Answer,
     pub policy: PolicyNumbers,

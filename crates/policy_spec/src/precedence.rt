@@ -5,7 +5,7 @@ use types::{Answer, PolicyNumbers};
 pub const MOST_NAMED: usize = 4;
 
 // The result of making a policy: bytes written as place, the policy's numbers, and the set of events that it never allows.
-#[derive(Drop)]
+#[derive(Clone, Copy)]
 pub struct PrecedenceResult {
     pub answer: Answer,
     pub policy: PolicyNumbers,

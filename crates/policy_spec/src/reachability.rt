@@ -9,7 +9,7 @@ pub const NODES: usize = MOST_STATES + 1;
 pub const ARROWS: usize = EVENTS * MOST_STATES;
 
 // The work list: the nodes found so far, with room for one too many, their count, and for each arrow the number of the node that it leads to.
-#[derive(Drop)]
+#[derive(Clone, Copy)]
 pub struct Worklist {
     pub nodes: [u16; NODES],
     pub count: usize,
@@ -17,7 +17,7 @@ pub struct Worklist {
 }
 
 // The result of making a policy: bytes written as place, and the policy's numbers.
-#[derive(Drop)]
+#[derive(Clone, Copy)]
 pub struct Made {
     pub answer: Answer,
     pub policy: PolicyNumbers,

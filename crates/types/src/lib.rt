@@ -8,7 +8,7 @@ ghost use Rattle.types.specs.Names.{number_of, answer};
 ghost use Rattle.types.specs.Records.{layout_of, machine_of, machine_at, machine_refused, outcome_of};
 
 // Where things lie in a drum's memory. U, SL, SH, M, P, S, B and Q are the paper's letters. Orders 0 to 7 have a ceiling each.
-#[derive(Drop)]
+#[derive(Clone, Copy)]
 pub struct Layout {
     pub size: u32,
     pub low: u32,
@@ -62,7 +62,7 @@ impl Layout {
 }
 
 // A policy's state count and start state. Its table, 16 bytes a state, and its landings are passed beside it as slices.
-#[derive(Drop)]
+#[derive(Clone, Copy)]
 pub struct PolicyNumbers {
     pub states: u32,
     pub start: u32,
@@ -78,7 +78,7 @@ impl PolicyNumbers {
 }
 
 // The six fields of a word.
-#[derive(Drop)]
+#[derive(Clone, Copy)]
 pub struct Fields {
     pub kind: u64,
     pub d: u64,
@@ -89,7 +89,7 @@ pub struct Fields {
 }
 
 // The largest value of each field of a kind; 0 for a field that it lacks.
-#[derive(Drop)]
+#[derive(Clone, Copy)]
 pub struct Limits {
     pub d: u64,
     pub a: u64,
@@ -99,7 +99,7 @@ pub struct Limits {
 }
 
 // A guest instruction. PLAIN covers the kinds SET to SAR; its fields are kind, d, a, b, v.
-#[derive(Drop)]
+#[derive(Clone, Copy)]
 pub enum Instr {
     HALT,
     PLAIN(u64, u64, u64, u64, u64),
@@ -148,7 +148,7 @@ impl Instr {
 }
 
 // A command of the machine. Plain covers the kinds SET to SHL; its fields are kind, d, a, b, v. Invalid is any word that is no command.
-#[derive(Drop)]
+#[derive(Clone, Copy)]
 pub enum Command {
     Nop,
     Halt,
@@ -210,7 +210,7 @@ impl Command {
 }
 
 // The four command words of one instruction.
-#[derive(Drop)]
+#[derive(Clone, Copy)]
 pub struct Bundle {
     pub words: [u64; Bundle::LENGTH],
 }
@@ -228,7 +228,7 @@ impl Bundle {
     pub const SHIFT: u64 = 2;
 }
 
-#[derive(Drop)]
+#[derive(Clone, Copy)]
 pub enum Status {
     Running,
     Ended,
@@ -253,7 +253,7 @@ impl Status {
 }
 
 // The machine's record: what is carried from run to run, except memory.
-#[derive(Drop)]
+#[derive(Clone, Copy)]
 pub struct Machine {
     pub regs: [u32; Machine::REGISTERS],
     pub pc: u32,
@@ -288,7 +288,7 @@ impl Machine {
 }
 
 // Why a call was refused, in the order of the numbers. Those from 14 on come from the change requests, the others from document 01.
-#[derive(Drop)]
+#[derive(Clone, Copy)]
 pub enum Refusal {
     Taken,
     Short,
@@ -352,7 +352,7 @@ impl Refusal {
 }
 
 // What a call answers: the refusal's number or 0, and a place. On success the place is how much was written.
-#[derive(Drop)]
+#[derive(Clone, Copy)]
 pub struct Answer {
     pub number: u8,
     pub place: usize,
@@ -385,14 +385,14 @@ impl Answer {
 }
 
 // The result of reading one instruction: its word and how many bytes it took, or the refusal's number.
-#[derive(Drop)]
+#[derive(Clone, Copy)]
 pub enum Decoded {
     Word(u64, usize),
     RefusedWith(u8),
 }
 
 // How a run ends. Refused means that the layout or the memory was refused.
-#[derive(Drop)]
+#[derive(Clone, Copy)]
 pub enum Ending {
     Done,
     NoArrow,
@@ -422,7 +422,7 @@ impl Ending {
 }
 
 // What a run answers: its ending, and how many steps it took, pairs it recorded and readings it used.
-#[derive(Drop)]
+#[derive(Clone, Copy)]
 pub struct RunAnswer {
     pub ending: Ending,
     pub steps: u32,
@@ -436,7 +436,7 @@ impl RunAnswer {
 }
 
 // A run's answer, and the record after the run.
-#[derive(Drop)]
+#[derive(Clone, Copy)]
 pub struct Outcome {
     pub machine: Machine,
     pub answer: RunAnswer,
@@ -460,14 +460,14 @@ impl Outcome {
 }
 
 // What installing answers, and the record that it yields.
-#[derive(Drop)]
+#[derive(Clone, Copy)]
 pub struct Installed {
     pub machine: Machine,
     pub answer: Answer,
 }
 
 // What one word does to a machine: jump, set a register or a cell, record an order, take a reading, end with a status, or pause.
-#[derive(Drop)]
+#[derive(Clone, Copy)]
 pub enum Effect {
     Go(u32),
     SetReg(usize, u32),

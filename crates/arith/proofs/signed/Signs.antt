@@ -37,8 +37,8 @@ sign_left (negsuc n) v h = ap negsuc (none_left n v h)
 pub shifted : (x v s : ℕ) (z : ℤ) → Fits w32 x → SFits w32 z → z ≡ twos x → s ≡ min v top_shift
     → to_z w32 (of_z w32 (shr_z (to_z w32 (of_z w32 z)) (2 ^ s))) ≡ shr_z (twos x) (2 ^ v)
 shifted x v s z f g e m =
-    ap (λ (y : ℤ). to_z w32 (of_z w32 (shr_z y (2 ^ s)))) (to_z-of_z g ∙ e)
-    ∙ to_z-of_z (sfits_of (lt_of_le_of_lt (mag_shr (twos x) (2 ^ s)) (sfits_to_z f).sfits))
+    ap (λ (y : ℤ). to_z w32 (of_z w32 (shr_z y (2 ^ s)))) (to_z-of_z {w = w32} g ∙ e)
+    ∙ to_z-of_z {w = w32} (sfits_of (lt_of_le_of_lt (mag_shr (twos x) (2 ^ s)) (sfits_to_z f).sfits))
     ∙ ap (λ (y : ℕ). shr_z (twos x) (2 ^ y)) m
     ∙ sign_left (twos x) v (sfits_to_z f).sfits
 

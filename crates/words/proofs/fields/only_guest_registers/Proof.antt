@@ -1,4 +1,4 @@
-use Rattle.words.proofs.fields.Hidden.{guests_are}
+use Rattle.words.proofs.fields.HiddenRegister.{guests_are}
 use Rattle.words.proofs.fields.only_guest_registers.Statement.{statement}
 use Rattle.words.proofs.fields.only_guest_registers.Tie as tie
 
