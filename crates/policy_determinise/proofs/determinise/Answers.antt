@@ -1,22 +1,17 @@
 -- `crate::determinise` meets its contract: bad drawing (16), or the policy is written.
 use mathlib.Core.Path.{sym, ◌∙◌}
-use borrow.Author.Tests.{not-false}
 use Rattle.policy_determinise.proofs.Laws.{bad_drawing, makes}
 use Rattle.policy_determinise.proofs.Runs.{fit_of}
 use Rattle.policy_determinise.proofs.determinise.Goals as goal
 
 pub returns-then-not-drawing_right : goal.returns-then-not-drawing_right
-returns-then-not-drawing_right c = let judged = c in
-    let start = judged in
-    let both = bad_drawing _ _ judged.drawing_right.ensures start.args.table.now _ c.if-not-drawing_right.true c.refused.ensures in record { made = both.0; table = both.1 }
+returns-then-not-drawing_right c =
+    let both = bad_drawing _ _ c.drawing_right.ensures c.args.table.now _ c.if-not-drawing_right.true c.refused.ensures in record { made = both.0; table = both.1 }
 
 pub explore-requires : goal.explore-requires
-explore-requires c = fit_of _ (sym c.drawing_right.ensures ∙ not-false _ c.if-not-drawing_right.false)
+explore-requires c = fit_of _ (sym c.drawing_right.ensures ∙ c.if-not-drawing_right.false)
 
 pub returns : goal.returns
-returns c = let written = c in
-    let explored = written in
-    let judged = explored in
-    let start = judged in
-    let both = makes _ _ judged.drawing_right.ensures start.args.table.now _ _ _ explored.if-not-drawing_right.false explored.explore.ensures
-    written.write_policy.ensures.made written.write_policy.ensures.table in record { made = both.0; table = both.1 }
+returns c =
+    let both = makes _ _ c.drawing_right.ensures c.args.table.now _ _ _ c.if-not-drawing_right.false c.explore.ensures
+        c.write_policy.ensures.made c.write_policy.ensures.table in record { made = both.0; table = both.1 }

@@ -3,4 +3,4 @@ use Rattle.policy_merge.proofs.merge.Goals as goal
 
 pub returns : goal.returns
 returns c = let made = c.merge_made-made.ensures in
-    record { merged = merged_is _ _ _ _ _ _ _ _ made.0 c.smaller.ensures c.with_ceilings.ensures; table = made.1 }
+    record { merged = merged_is _ _ _ _ _ _ _ _ made.made c.smaller.ensures c.with_ceilings.ensures; table = made.table }

@@ -10,14 +10,12 @@ pub loop-i-init : goal.loop-i-init
 loop-i-init c = (fill_none _ _, zero-le)
 
 pub loop-i-preserved : goal.loop-i-preserved
-loop-i-preserved c = let start = c in
-    let at = c.loop-i in (
-      fill_more (λ j. min (get_or start.args.t1 j 0) (get_or start.args.t2 j 0)) (replicate orders 0) at.out at.i _ at.invariant.0
+loop-i-preserved c = let at = c.loop-i in (
+      fill_more (λ j. min (get_or c.args.c j 0) (get_or c.args.d j 0)) (replicate orders 0) at.out at.i _ at.invariant.0
           c.loop-i-test.true c.least.ensures,
       search rules,
     )
 
 pub returns : goal.returns
-returns c = let start = c in
-    let at = c.loop-i in
-    smaller_done start.args.t1 start.args.t2 at.out at.i at.invariant.0 c.loop-i-test.false at.invariant.1
+returns c = let at = c.loop-i in
+    smaller_done c.args.c c.args.d at.out at.i at.invariant.0 c.loop-i-test.false at.invariant.1
