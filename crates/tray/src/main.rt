@@ -1,24 +1,25 @@
 // Tries the paper's sample cases that are not theorems, and a damaged routine for each refusal of reading and rewriting.
-// Prints a line for each case: its name, the answer's number and its place.
+// Prints a line for each case: its name, the answer's number and its place. Fails where the output does.
 #![tactic(auto)]
 
 pub mod reading;
 
 use lines::print_case;
+use std::io;
 use types::{Bundle, Instr, Layout};
 
 // The base in document 01's layout.
 const BASE: u32 = 4096;
 
-fn rewrites(name: &[u8], layout: Layout, words: &[u64]) {
+fn rewrites(rt: &impl Print, name: &[u8], layout: Layout, words: &[u64]) -> io::Result<()> {
     let mut commands = [0u64; Bundle::MOST_COMMANDS];
-    print_case(name, rewriter::rewrite(layout, words, &mut commands));
+    print_case(rt, name, rewriter::rewrite(layout, words, &mut commands))
 }
 
 // The output has room for seven commands, one less than two bundles.
-fn rewrites_to_7(name: &[u8], layout: Layout, words: &[u64]) {
+fn rewrites_to_7(rt: &impl Print, name: &[u8], layout: Layout, words: &[u64]) -> io::Result<()> {
     let mut commands = [0u64; 7];
-    print_case(name, rewriter::rewrite(layout, words, &mut commands));
+    print_case(rt, name, rewriter::rewrite(layout, words, &mut commands))
 }
 
 fn drum(base: u32) -> Layout {
@@ -26,42 +27,62 @@ fn drum(base: u32) -> Layout {
     Layout::new(1024, 256, 511, 0, 16, 2, base, 64, ceilings)
 }
 
-fn bad_words(layout: Layout) {
-    rewrites(b"rewrite kind_13", layout, &[0, 0xd]);
-    rewrites(b"rewrite stray_bit_24", layout, &[0, 0x100_0000]);
-    rewrites(b"rewrite present_field", layout, &[0x1_0000_0000]);
-    rewrites(b"rewrite register_14", layout, &[0, 0, 0xe0003]);
-    rewrites(b"rewrite register_15", layout, &[0, 0, 0xf0003]);
+fn bad_words(rt: &impl Print, layout: Layout) -> io::Result<()> {
+    rewrites(rt, b"rewrite kind_13", layout, &[0, 0xd])?;
+    rewrites(rt, b"rewrite stray_bit_24", layout, &[0, 0x100_0000])?;
+    rewrites(rt, b"rewrite present_field", layout, &[0x1_0000_0000])?;
+    rewrites(rt, b"rewrite register_14", layout, &[0, 0, 0xe0003])?;
+    rewrites(rt, b"rewrite register_15", layout, &[0, 0, 0xf0003])
 }
 
-fn landings(layout: Layout) {
-    rewrites(b"rewrite goif_to_the_end", layout, &[0x1_0000_000a]);
-    rewrites(b"rewrite goif_past_the_end", layout, &[0, 0x3_0000_000a]);
-    rewrites(b"rewrite grade_before_landing", layout, &[0x9_0000_f00a]);
+fn landings(rt: &impl Print, layout: Layout) -> io::Result<()> {
+    rewrites(rt, b"rewrite goif_to_the_end", layout, &[0x1_0000_000a])?;
+    rewrites(
+        rt,
+        b"rewrite goif_past_the_end",
+        layout,
+        &[0, 0x3_0000_000a],
+    )?;
+    rewrites(
+        rt,
+        b"rewrite grade_before_landing",
+        layout,
+        &[0x9_0000_f00a],
+    )
 }
 
-fn lists(layout: Layout) {
+fn lists(rt: &impl Print, layout: Layout) -> io::Result<()> {
     let most = [0u64; Instr::MOST];
-    rewrites(b"rewrite 1023", layout, &most);
+    rewrites(rt, b"rewrite 1023", layout, &most)?;
     let more = [0u64; Instr::MOST + 1];
-    rewrites(b"rewrite 1024", layout, &more);
-    rewrites_to_7(b"rewrite room_for_7_of_8", layout, &[0]);
+    rewrites(rt, b"rewrite 1024", layout, &more)?;
+    rewrites_to_7(rt, b"rewrite room_for_7_of_8", layout, &[0])
 }
 
-fn layouts() {
+fn layouts(rt: &impl Print) -> io::Result<()> {
     let ceilings = [Layout::NO_LIMIT; Layout::CEILINGS];
     let unaligned = Layout::new(64, 6, 9, 0, 16, 1, 0, 32, ceilings);
-    rewrites(b"rewrite sandbox_6_to_9", unaligned, &[0xd]);
-    rewrites(b"rewrite base_16_of_7", drum(16), &[0, 0, 0, 0, 0, 0, 0]);
-    rewrites(b"rewrite base_32_of_7", drum(32), &[0, 0, 0, 0, 0, 0, 0]);
-    rewrites_to_7(b"rewrite base_before_room", drum(4), &[0]);
+    rewrites(rt, b"rewrite sandbox_6_to_9", unaligned, &[0xd])?;
+    rewrites(
+        rt,
+        b"rewrite base_16_of_7",
+        drum(16),
+        &[0, 0, 0, 0, 0, 0, 0],
+    )?;
+    rewrites(
+        rt,
+        b"rewrite base_32_of_7",
+        drum(32),
+        &[0, 0, 0, 0, 0, 0, 0],
+    )?;
+    rewrites_to_7(rt, b"rewrite base_before_room", drum(4), &[0])
 }
 
-fn main() {
-    crate::reading::cases();
+fn main(rt: HostRuntime) -> io::Result<()> {
+    crate::reading::cases(&rt)?;
     let layout = drum(BASE);
-    bad_words(layout);
-    landings(layout);
-    lists(layout);
-    layouts();
+    bad_words(&rt, layout)?;
+    landings(&rt, layout)?;
+    lists(&rt, layout)?;
+    layouts(&rt)
 }
