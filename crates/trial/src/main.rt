@@ -1,12 +1,14 @@
 // Loads the routine on standard input, with document 01's layout and policy, and runs it once.
-// Prints the answer and, if it is 0, the events and how the run ended.
+// Prints the answer and, if it is 0, the events and how the run ended. Fails where the input or the output does.
 #![tactic(auto)]
+
+pub mod input;
 
 ghost use Rattle.std.specs.Prelude.{◌*◌, ◌≤◌, length};
 ghost use Rattle.types.specs.Names.{pair_cells};
 
-use libc::STDIN_FILENO;
 use lines::print;
+use std::io;
 use types::{Bundle, Instr, Layout, Machine, PolicyNumbers, Refusal, RunAnswer};
 
 // Memory cells, as a number and as a length, and the base.
@@ -22,61 +24,70 @@ const NO_ARROW: u8 = PolicyNumbers::NO_ARROW as u8;
 // The bytes of the longest routine.
 const LONGEST: usize = Instr::COUNT_BYTES + Instr::MOST_BYTES * Instr::MOST;
 
-fn print_answer(number: u8) {
-    print(b"answer ", number as u64);
-    lines::end();
+fn print_answer(rt: &impl Print, number: u8) -> io::Result<()> {
+    print(rt, b"answer ", number as u64)?;
+    lines::end(rt)
 }
 
-fn print_event(event: u32, value: u32) {
-    print(b"event ", event as u64);
-    print(b" ", value as u64);
-    lines::end();
+fn print_event(rt: &impl Print, event: u32, value: u32) -> io::Result<()> {
+    print(rt, b"event ", event as u64)?;
+    print(rt, b" ", value as u64)?;
+    lines::end(rt)
 }
 
 // Prints the pairs at the start of a log, a line each.
-fn print_events(log: &[u32], pairs: usize)
+fn print_events(rt: &impl Print, log: &[u32], pairs: usize) -> io::Result<()>
     requires { pair_cells * pairs ≤ length log.now }
 {
-    let mut i = 0;
-    while i < pairs {
+    for i in 0..pairs {
         print_event(
+            rt,
             log[RunAnswer::PAIR_CELLS * i],
             log[RunAnswer::PAIR_CELLS * i + 1],
-        );
-        i += 1;
+        )?;
     }
+    Ok(())
 }
 
-fn print_end(ending: u8, steps: u32, state: u32) {
-    print(b"end ", ending as u64);
-    print(b" steps ", steps as u64);
-    print(b" state ", state as u64);
-    lines::end();
+fn print_end(rt: &impl Print, ending: u8, steps: u32, state: u32) -> io::Result<()> {
+    print(rt, b"end ", ending as u64)?;
+    print(rt, b" steps ", steps as u64)?;
+    print(rt, b" state ", state as u64)?;
+    lines::end(rt)
 }
 
 // Runs a loaded routine once. The state cell is cell 0.
-fn run(layout: Layout, commands: &[u64], start: Machine, memory: &mut [u32; CELLS]) {
+fn run(
+    rt: &impl Print,
+    layout: Layout,
+    commands: &[u64],
+    start: Machine,
+    memory: &mut [u32; CELLS],
+) -> io::Result<()> {
     let readings = [1800u32, 1950, 2100];
     let mut log = [0u32; 64];
     let out = machine::run_value(layout, commands, start, memory, 1000, &readings, &mut log);
     let a = out.answer;
-    print_events(&log, a.pairs);
+    print_events(rt, &log, a.pairs)?;
     let e = a.ending;
-    print_end(machine_step::endings::ending_number(e), a.steps, memory[0]);
+    print_end(
+        rt,
+        machine_step::endings::ending_number(e),
+        a.steps,
+        memory[0],
+    )
 }
 
 // Every instruction is a landing.
 fn all_landings() -> [u32; Bundle::MOST] {
     let mut xs = [0u32; Bundle::MOST];
-    let mut i: usize = 0;
-    while i < Bundle::MOST {
+    for i in 0..Bundle::MOST {
         xs[i] = i as u32;
-        i += 1;
     }
     xs
 }
 
-fn try_routine(bytes: &[u8]) {
+fn try_routine(rt: &impl Print, bytes: &[u8]) -> io::Result<()> {
     let ceilings = [Layout::NO_LIMIT; Layout::CEILINGS];
     let layout = Layout::new(SIZE, 256, 511, 0, 16, 2, BASE, 64, ceilings);
     // In state 0 all is allowed, and event 2, the door, leads to state 1. In state 1 event 0, gas, is not allowed.
@@ -102,18 +113,19 @@ fn try_routine(bytes: &[u8]) {
     );
     let a = i.answer;
     let refused = a.number;
-    print_answer(refused);
+    print_answer(rt, refused)?;
     if refused != Refusal::TAKEN {
-        return;
+        return Ok(());
     }
     let n = a.place;
     let m = i.machine;
-    run(layout, &commands[..n], m, &mut memory);
+    run(rt, layout, &commands[..n], m, &mut memory)
 }
 
 // Reads one byte more than the longest routine has, so that a longer input is refused.
-fn main() {
-    let mut input = [0u8; LONGEST + 1];
-    let n = io::read_full(STDIN_FILENO, &mut input);
-    try_routine(&input[..n]);
+fn main(rt: HostRuntime) -> io::Result<()> {
+    let mut bytes = [0u8; LONGEST + 1];
+    let mut stdin = rt.stdin();
+    let n = input::read_full(&mut stdin, &mut bytes)?;
+    try_routine(&rt, &bytes[..n])
 }
