@@ -8,7 +8,7 @@
 # It fails if the proved side and the C side differ, or if a call takes more stack than it may.
 set -euo pipefail
 cd "$(dirname "$0")/.."
-[ -n "${BUILT:-}" ] || rt staticlib capi > /dev/null
+[ -n "${BUILT:-}" ] || tools/build-library > /dev/null
 made=target/bench
 mkdir -p $made
 # Fixed addresses (no PIE): at random ones the C peers' jumps are at times predicted badly, four times slower and more.

@@ -17,7 +17,7 @@ fn main() {
     let library = folder.join("libcapi.a");
     println!("cargo:rerun-if-changed={}", library.display());
     if !library.exists() {
-        println!("cargo::error=the proved library is missing: run 'rt staticlib capi' first");
+        println!("cargo::error=the proved library is missing: run 'tools/build-library' first");
         return;
     }
     println!("cargo:rustc-link-search=native={}", folder.display());

@@ -6,7 +6,7 @@ portable=target/portable
 find_kit() {
     local rt
     rt=$(command -v rt) || return 1
-    kit=${RATTLE_HOME:-$(dirname "$(dirname "$(readlink -f "$rt")")")}/on/$(uname -m)/toolchain/bin
+    kit=$(dirname "$(dirname "$(readlink -f "$rt")")")/toolchain/bin
     [ -x "$kit/clang" ] && [ -x "$kit/ld.lld" ] && [ -x "$kit/llvm-ar" ]
 }
 

@@ -26,7 +26,7 @@ fn without_the_library_cargo_says_what_to_run() {
         .status()
         .expect("rustc runs");
     assert!(compiled.success());
-    let said = "cargo::error=the proved library is missing: run 'rt staticlib capi' first";
+    let said = "cargo::error=the proved library is missing: run 'tools/build-library' first";
     assert!(printed(&program, &folder).contains(said));
     let here = std::path::Path::new(env!("CARGO_MANIFEST_DIR"));
     assert!(!printed(&program, here).contains("error"));
