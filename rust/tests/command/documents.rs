@@ -31,8 +31,12 @@ fn type_all(name: &str, text: &str) {
     let here = folder(name);
     let root = Path::new(env!("CARGO_MANIFEST_DIR")).join("..");
     std::fs::create_dir(here.join("target")).expect("a folder can be made");
-    std::os::unix::fs::symlink(root.join("examples"), here.join("examples"))
-        .expect("a link can be made");
+    let (from, to) = (root.join("examples"), here.join("examples"));
+    std::fs::create_dir(&to).expect("a folder can be made");
+    for entry in std::fs::read_dir(from).expect("the examples can be listed") {
+        let entry = entry.expect("an example can be named");
+        std::fs::copy(entry.path(), to.join(entry.file_name())).expect("an example is copied");
+    }
     let binary = Path::new(env!("CARGO_BIN_EXE_hemdroas"));
     let folder = binary.parent().expect("the command lies in a folder");
     let path = std::env::var("PATH").unwrap_or_default();
