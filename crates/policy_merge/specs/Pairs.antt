@@ -1,8 +1,8 @@
 -- Request 7, 'Two policies at once': the policy whose states are pairs of states, one of each policy.
-use Rattle.std.specs.Prelude.{ℕ, ◌+◌, ◌-◌, ◌*◌, ◌/◌, ◌%◌, min, Bool, ◌&&◌, ◌||◌, not, cond, List, [], ◌∷◌, length, get_or, replicate, eqb}
+use Rattle.std.specs.Prelude.{ℕ, ◌+◌, ◌-◌, ◌*◌, ◌/◌, ◌%◌, min, Bool, ◌&&◌, ◌||◌, not, cond, List, [], ◌∷◌, get_or, replicate, eqb}
 use Rattle.types.specs.declared.PolicyNumbers.{PolicyNumbers}
 use Rattle.types.specs.declared.Refusal.TheVariants.{BadPolicy}
-use Rattle.types.specs.Names.{most_states, events, orders, no_arrow, refusal, if_taken, first}
+use Rattle.types.specs.Names.{most_states, orders, no_arrow, refusal, if_taken, first}
 use Rattle.spec.specs.Policies.{Policy, policy_of, lent_policy, arrow}
 use Rattle.installer.specs.table.Tables.{table_right}
 use Rattle.policy_spec.specs.maps.Maps.{build}

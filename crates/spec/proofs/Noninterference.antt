@@ -25,7 +25,7 @@ use Rattle.spec.specs.Layouts.{in_box, not_free, right_layout}
 use Rattle.spec.specs.Policies.{Policy}
 use Rattle.spec.specs.Landings.{marked}
 use Rattle.spec.specs.Commands.{fetch_of}
-use Rattle.spec.specs.Machines.{view_of, is_landing, effect_of, State, state_of, with_pair, apply_of, view_at, next_of, step_of, RunResultWith, fits, start_of, run_from, run_of, install_memory}
+use Rattle.spec.specs.Machines.{view_of, is_landing, effect_of, State, state_of, with_pair, apply_of, next_of, step_of, RunResultWith, fits, start_of, run_from, run_of, install_memory}
 use Rattle.spec.specs.Bundles.{shape_of}
 use Rattle.spec.specs.Guests.{Pair, Guest, guest_reg, guest_start}
 use Rattle.spec.specs.Runs.{RunInput, pairs_of, Session, initial_session, run_on, after_taken, begins, after_run, LowEqual, MemoryPreserved, HostPremise, Pairwise, each_run, Run, run_as, all_runs}

@@ -4,7 +4,7 @@ use mathlib.Core.Path.{◌≡◌, refl, sym, ◌∙◌, ap}
 use mathlib.Core.List.{List, [], ◌∷◌, ◌++◌, append_assoc}
 use native.Mathlib.Omega.{arith}
 use borrow.Author.Tests.{lt-ltb, le-ltb}
-use lib.ListN.{length, get_or, set, take, drop, length-append, length-set}
+use lib.ListN.{length, get_or, set, take, length-append, length-set}
 use lib.Seq.{sets, length-sets, length-take-le, set_at}
 use Rattle.types.specs.declared.Status.{Status}
 use Rattle.buffers.proofs.stores.Storing.{store_front, store_all}

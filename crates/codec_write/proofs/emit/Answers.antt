@@ -1,9 +1,5 @@
 use borrow.Author.Rules.{rules}
 use Rattle.codec_write.proofs.Writing.{emit_done, emit_more, emit_rest, emit_room}
-use Prim.Native.Nat.{◌-◌}
-use Rattle.codec_write.proofs.emit.Reads as reads
-use Rattle.codec_write.proofs.emit.Lts as lts
-use Rattle.codec_write.proofs.encode.encode_word.Reads as put-one-reads
 use Rattle.codec_write.proofs.emit.Goals as goal
 
 pub encode_word-to-requires : goal.encode_word-to-requires

@@ -3,9 +3,6 @@ use Prim.Native.Nat.{◌≤◌, ◌-◌, ◌+◌}
 use lib.ListN.{length, drop}
 use lib.Seq.{sets as stores}
 use Rattle.spec.specs.Bytes.{bytes_of}
-use Rattle.codec_write.proofs.emit.Reads as reads
-use Rattle.codec_write.proofs.emit.Lts as lts
-use Rattle.codec_write.proofs.encode.encode_word.Reads as put-one-reads
 use Rattle.codec_write.proofs.emit.Given as goal
 
 abbrev pub invariant-loop-i : goal.invariant-loop-i

@@ -3,11 +3,6 @@ use Rattle.spec.proofs.Bytes.{length_routine}
 use Rattle.spec.proofs.Refusals.{refused_more, refused_stop}
 use Rattle.codec_write.proofs.Writing.{weigh_more, weigh_small, weigh_taken}
 use mathlib.Core.Path.{◌∙◌}
-use Prim.Native.Nat.{◌-◌}
-use Rattle.codec_write.proofs.measure.Reads as reads
-use Rattle.codec_write.proofs.measure.Lts as lts
-use Rattle.words.proofs.guest.word_refusal.Reads as word-refusal-reads
-use Rattle.codec_write.proofs.encoded_size.Reads as weight-word-reads
 use Rattle.codec_write.proofs.measure.Goals as goal
 
 pub loop-i-init : goal.loop-i-init

@@ -4,10 +4,6 @@ use lib.ListN.{length, drop}
 use Rattle.types.specs.Names.{room_for}
 use Rattle.spec.specs.Words.{word_refusal, first_refused}
 use Rattle.spec.specs.Bytes.{bytes_of, routine_of}
-use Rattle.codec_write.proofs.measure.Reads as reads
-use Rattle.codec_write.proofs.measure.Lts as lts
-use Rattle.words.proofs.guest.word_refusal.Reads as word-refusal-reads
-use Rattle.codec_write.proofs.encoded_size.Reads as weight-word-reads
 use Rattle.codec_write.proofs.measure.Given as goal
 
 abbrev pub invariant-loop-i : goal.invariant-loop-i

@@ -1,9 +1,5 @@
 use borrow.Author.Rules.{rules}
 use Rattle.codec_write.proofs.Writing.{fit_both, kept, written}
-use Rattle.codec_write.proofs.write.Reads as reads
-use Rattle.codec_write.proofs.write.Lts as lts
-use Rattle.codec_write.proofs.encode_all.Reads as put-all-reads
-use Rattle.codec_write.proofs.write_check.Reads as write-check-reads
 use Rattle.codec_write.proofs.write.Goals as goal
 
 pub encode_all-requires : goal.encode_all-requires

@@ -1,13 +1,13 @@
 -- Laws of words and fetching, cited by the proofs of functions.
-use Rattle.std.proofs.Common.{◌≡◌, ℕ, ◌+◌, ◌-◌, ◌*◌, ◌%◌, ◌^◌, ◌<◌, ◌≤◌, Bool, true, false, cond, ◌&&◌, eqb, ltb, leb, List, length, get_or, sym, refl, ap, ◌∙◌, subst, arith, w32, Fits as Held, le-ltb, lt-ltb, ne_eqb, le-leb, leb-true}
+use Rattle.std.proofs.Common.{◌≡◌, ℕ, ◌+◌, ◌-◌, ◌%◌, ◌^◌, ◌<◌, ◌≤◌, Bool, true, false, cond, ◌&&◌, eqb, ltb, leb, List, length, get_or, sym, refl, ap, ◌∙◌, subst, arith, w32, Fits as Held, le-ltb, lt-ltb, ne_eqb, le-leb, leb-true}
 use Rattle.types.specs.declared.Effect.{Effect}
 use Rattle.types.specs.declared.Command.{Command}
 use Rattle.types.specs.declared.Command.TheVariants.{Nop, Halt, Plain, Load, Store, GoIf, GoReg, Look, StopIf, Keep, Event, Invalid}
 use Rattle.types.specs.declared.Effect.TheVariants.{Go, SetReg, SetCell, End}
-use Rattle.types.specs.declared.Status.TheVariants.{Ended, Stopped, Faulted, Strayed}
-use Rattle.types.specs.Names.{registers, events, no_arrow, top_word, command}
+use Rattle.types.specs.declared.Status.TheVariants.{Ended, Stopped, Faulted}
+use Rattle.types.specs.Names.{registers, no_arrow, top_word, command}
 use Rattle.spec.specs.Words.{kind_of, d_of, a_of, b_of, v_of}
-use Rattle.spec.specs.Commands.{add_of, plain_of, holds_of, is_command, command_of, fetch_of}
+use Rattle.spec.specs.Commands.{plain_of, holds_of, is_command, command_of, fetch_of}
 use Rattle.spec.specs.Machines.{View, reg_at, cell_at, entry_of, if_cell, if_landing, next_pc, effect_of, event_effect}
 use Rattle.spec.proofs.Bools.{cond_ind}
 use Rattle.words.proofs.Laws.{named_in}

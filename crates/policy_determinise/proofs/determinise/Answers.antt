@@ -14,4 +14,4 @@ explore-requires c = fit_of _ (sym c.drawing_right.ensures ∙ c.if-not-drawing_
 pub returns : goal.returns
 returns c =
     let both = makes _ _ c.drawing_right.ensures c.args.table.now _ _ _ c.if-not-drawing_right.false c.explore.ensures
-        c.write_policy.ensures.made c.write_policy.ensures.table in record { made = both.0; table = both.1 }
+    c.write_policy.ensures.made c.write_policy.ensures.table in record { made = both.0; table = both.1 }

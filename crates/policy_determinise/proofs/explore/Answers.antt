@@ -1,6 +1,5 @@
 use native.Mathlib.Omega.{arith}
 use Rattle.policy_spec.proofs.reachability.Explore.{going, holds_start, holds_more, holds_done}
-use Rattle.policy_determinise.specs.Drawings.{set_after}
 use Rattle.policy_determinise.proofs.Runs.{arrows}
 use Rattle.policy_determinise.proofs.explore.Goals as goal
 

@@ -2,7 +2,6 @@ use Prim.Native.Nat.{◌-◌, ◌*◌}
 use Rattle.types.specs.Names.{events, most_states}
 use Rattle.policy_spec.specs.reachability.Worklists.{WorklistInvariant}
 use Rattle.policy_determinise.specs.Drawings.{drawing_of, set_after}
-use Rattle.policy_determinise.proofs.Runs.{arrows}
 use Rattle.policy_determinise.proofs.explore.Given as goal
 
 -- invariant: the arrows so far were followed

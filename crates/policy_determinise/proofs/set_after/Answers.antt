@@ -1,4 +1,4 @@
-use Prim.Native.Nat.{◌-◌, zero-le}
+use Prim.Native.Nat.{zero-le}
 use borrow.Author.Rules.{rules}
 use Rattle.policy_determinise.proofs.Laws.{union_start, union_more, union_done}
 use Rattle.policy_determinise.proofs.set_after.Goals as goal

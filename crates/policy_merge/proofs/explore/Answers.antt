@@ -1,6 +1,5 @@
 use native.Mathlib.Omega.{arith}
 use Rattle.policy_spec.proofs.reachability.Explore.{going, holds_start, holds_more, holds_done}
-use Rattle.policy_merge.specs.Pairs.{pair_after}
 use Rattle.policy_merge.proofs.Pairs.{pairs}
 use Rattle.policy_merge.proofs.explore.Goals as goal
 

@@ -1,4 +1,4 @@
-use Prim.Native.Nat.{◌-◌, zero-le, min}
+use Prim.Native.Nat.{zero-le, min}
 use lib.ListN.{get_or, replicate}
 use borrow.Author.Rules.{rules}
 use Rattle.types.specs.Names.{orders}
@@ -11,10 +11,10 @@ loop-i-init c = (fill_none _ _, zero-le)
 
 pub loop-i-preserved : goal.loop-i-preserved
 loop-i-preserved c = let at = c.loop-i in (
-      fill_more (λ j. min (get_or c.args.c j 0) (get_or c.args.d j 0)) (replicate orders 0) at.out at.i _ at.invariant.0
-          c.loop-i-test.true c.least.ensures,
-      search rules,
-    )
+  fill_more (λ j. min (get_or c.args.c j 0) (get_or c.args.d j 0)) (replicate orders 0) at.out at.i _ at.invariant.0
+      c.loop-i-test.true c.least.ensures,
+  search rules,
+)
 
 pub returns : goal.returns
 returns c = let at = c.loop-i in

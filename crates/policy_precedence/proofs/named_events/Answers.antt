@@ -1,4 +1,4 @@
-use Prim.Native.Nat.{◌-◌, zero-le}
+use Prim.Native.Nat.{zero-le}
 use borrow.Author.Rules.{rules}
 use Rattle.policy_spec.proofs.precedence.Laws.{names_none, names_more, names_done}
 use Rattle.policy_precedence.proofs.named_events.Goals as goal

@@ -1,4 +1,4 @@
-use Prim.Native.Nat.{◌-◌, zero-le}
+use Prim.Native.Nat.{zero-le}
 use lib.ListN.{take}
 use borrow.Author.Rules.{rules}
 use Rattle.policy_reachability.proofs.Laws.{sought_none, sought_here, sought_on, sought_end}

@@ -1,4 +1,3 @@
-use Prim.Native.Nat.{◌-◌}
 use borrow.Author.Rules.{rules}
 use Rattle.buffers.proofs.stores.Storing.{store_none, store_more, store_done}
 use Rattle.buffers.proofs.stores.store_cells.Goals as goal

@@ -1,9 +1,5 @@
 use borrow.Author.Rules.{rules}
 use Rattle.codec_write.proofs.encode.Writing.{word_next, word_out, word_room, word_small}
-use Rattle.codec_write.proofs.encode.encode_word.Reads as reads
-use Rattle.codec_write.proofs.encode.encode_word.Lts as lts
-use Rattle.codec_write.proofs.encode.put_fields.Reads as put-fields-reads
-use Rattle.words.proofs.fields.fields.Reads as fields-reads
 use Rattle.codec_write.proofs.encode.encode_word.Goals as goal
 
 pub put_fields-requires : goal.put_fields-requires

@@ -1,7 +1,5 @@
 use borrow.Author.Rules.{rules}
 use Rattle.codec_write.proofs.encode.Writing.{byte_kept, byte_put}
-use Rattle.codec_write.proofs.encode.put_byte.Reads as reads
-use Rattle.codec_write.proofs.encode.put_byte.Lts as lts
 use Rattle.codec_write.proofs.encode.put_byte.Goals as goal
 
 pub returns-then-x-eq0 : goal.returns-then-x-eq0

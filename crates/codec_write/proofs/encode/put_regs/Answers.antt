@@ -1,8 +1,5 @@
 use borrow.Author.Rules.{rules}
 use Rattle.codec_write.proofs.encode.Writing.{put_four}
-use Rattle.codec_write.proofs.encode.put_regs.Reads as reads
-use Rattle.codec_write.proofs.encode.put_regs.Lts as lts
-use Rattle.codec_write.proofs.encode.put_two.Reads as put-two-reads
 use Rattle.codec_write.proofs.encode.put_regs.Goals as goal
 
 pub returns : goal.returns

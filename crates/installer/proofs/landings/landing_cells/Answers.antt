@@ -1,4 +1,4 @@
-use Prim.Native.Nat.{zero-le, ◌-◌}
+use Prim.Native.Nat.{zero-le}
 use borrow.Author.Rules.{rules}
 use Rattle.installer.proofs.landings.Marks.{no_marks, below_most, mark_more, marked_all, marked_long}
 use Rattle.installer.proofs.landings.landing_cells.Goals as goal

@@ -1,4 +1,4 @@
-use Prim.Native.Nat.{zero-le, ◌-◌}
+use Prim.Native.Nat.{zero-le}
 use borrow.Author.Rules.{rules}
 use Rattle.installer.proofs.landings.Marks.{rising_start, not_rising, too_high, rising_more, rising_done}
 use Rattle.installer.proofs.landings.landings_right.Goals as goal

@@ -1,4 +1,4 @@
-use Prim.Native.Nat.{◌-◌, zero-le}
+use Prim.Native.Nat.{zero-le}
 use mathlib.Core.Path.{sym}
 use borrow.Author.Rules.{rules}
 use Rattle.policy_spec.proofs.precedence.Laws.{firsts_none, firsts_more, firsts_done, first_below, bit_below}

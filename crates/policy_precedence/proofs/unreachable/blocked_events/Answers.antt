@@ -1,4 +1,4 @@
-use Prim.Native.Nat.{◌-◌, zero-le}
+use Prim.Native.Nat.{zero-le}
 use borrow.Author.Rules.{rules}
 use Rattle.policy_spec.specs.precedence.Precedence.{blocked}
 use Rattle.policy_spec.proofs.precedence.Laws.{all_none, all_more, all_fits, all_done}

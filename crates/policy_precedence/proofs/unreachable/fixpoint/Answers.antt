@@ -1,4 +1,4 @@
-use Prim.Native.Nat.{◌-◌, zero-le}
+use Prim.Native.Nat.{zero-le}
 use borrow.Author.Rules.{rules}
 use Rattle.policy_spec.proofs.precedence.Laws.{turns_none, turns_more, turns_done, turned}
 use Rattle.policy_precedence.proofs.unreachable.fixpoint.Goals as goal
