@@ -1,5 +1,5 @@
 -- The byte form of a routine, and what reading and writing answer and leave.
-use Rattle.spec.specs.Prelude.{ℕ, zero, suc, ◌+◌, ◌*◌, ◌/◌, ◌%◌, min, not, cond, List, [], ◌∷◌, ◌++◌, length, get_or, drop, ltb, eqb}
+use Rattle.std.specs.Prelude.{ℕ, zero, suc, ◌+◌, ◌*◌, ◌/◌, ◌%◌, min, not, cond, List, [], ◌∷◌, ◌++◌, length, get_or, drop, ltb, eqb}
 use Rattle.spec.specs.Types.{Fields, Answer, Decoded, Word, RefusedWith, Taken, Short, Foreign, Oversize, Trailing, SmallOutput}
 use Rattle.types.specs.Names.{most_instructions, count_bytes, number_of, answer, refusal, output_of, room_for, first}
 use Rattle.spec.specs.Words.{fields_refusal, word_refusal, first_refused, fields_of, pack_fields}

@@ -1,5 +1,6 @@
 -- Claims about the definitions. Each is a type; its proof, in proofs/, has the same name in small letters, with hyphens.
-use Rattle.spec.specs.Prelude.{ℕ, suc, ◌+◌, ◌-◌, ◌*◌, ◌/◌, ◌%◌, ◌^◌, ◌<◌, ◌≤◌, ◌≡◌, true, false, ◌⊎◌, List, [], ◌∷◌, ◌++◌, length, get_or, take, drop, ones, pos, suc_ℤ, ◌*ℤ◌, ◌≤ℤ◌, ◌<ℤ◌, ltb}
+use Rattle.std.specs.Prelude.{ℕ, suc, ◌+◌, ◌-◌, ◌*◌, ◌/◌, ◌%◌, ◌^◌, ◌<◌, ◌≤◌, ◌≡◌, true, false, ◌⊎◌, List, [], ◌∷◌, ◌++◌, length, get_or, take, drop, pos, ◌*ℤ◌, ◌≤ℤ◌, ◌<ℤ◌, ltb}
+use Rattle.spec.specs.Prelude.{ones, suc_ℤ}
 use Rattle.spec.specs.Types.{Layout, Instr, HALT, EVENT, Machine, Outcome, Status, Running, Ended, Stopped, Faulted, Strayed, Ending, Done, NoArrow, Fault, LogFull, Silent, Spent, NoLanding, Refused, BadLayout}
 use Rattle.types.specs.Names.{events, orders, no_arrow, most_instructions, most_bundles, bundle_length, pair_cells, bundle_shift, landing_cells, cell_bits, guest_registers, number_of, answer, ending_number}
 use Rattle.spec.specs.Signed.{twos, sar_of, less_of}

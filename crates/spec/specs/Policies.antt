@@ -1,5 +1,5 @@
 -- Policies: a start state, and a table of 16 bytes for each state.
-use Rattle.spec.specs.Prelude.{ℕ, ◌+◌, ◌*◌, Bool, true, ◌&&◌, ◌||◌, not, cond, List, [], ◌∷◌, length, get_or, eqb, leb, ltb}
+use Rattle.std.specs.Prelude.{ℕ, ◌+◌, ◌*◌, Bool, true, ◌&&◌, ◌||◌, not, cond, List, [], ◌∷◌, length, get_or, eqb, leb, ltb}
 use Rattle.spec.specs.Types.{Layout, PolicyNumbers}
 use Rattle.types.specs.Names.{most_states, events, no_arrow}
 

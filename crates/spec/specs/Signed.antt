@@ -1,5 +1,6 @@
 -- Two's complement numbers of 32 bits.
-use Rattle.spec.specs.Prelude.{ℕ, suc, ◌-◌, ◌^◌, Bool, ℤ, pos, negsuc, shr_z, lt_z, ltb, sel}
+use Rattle.std.specs.Prelude.{ℕ, suc, ◌-◌, ◌^◌, Bool, ℤ, pos, negsuc, ltb}
+use Rattle.spec.specs.Prelude.{shr_z, lt_z, sel}
 
 -- the integer that 32 bits stand for: x below 2 ^ 31, else x - 2 ^ 32; `negsuc n` is -(n + 1)
 abbrev pub twos : ℕ → ℤ

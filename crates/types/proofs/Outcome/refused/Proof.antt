@@ -1,6 +1,0 @@
-use borrow.Author.Rules.{rules}
-use Rattle.types.proofs.Outcome.refused.Statement.{statement}
-use Rattle.types.proofs.Outcome.refused.Tie as tie
-
-pub refused_spec : {M : Type 1} → statement M
-refused_spec = tie.close (tie.spec (λ c. search rules))
