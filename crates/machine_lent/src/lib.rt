@@ -1,5 +1,4 @@
 // Runs a machine whose record is lent by `&mut`. Each function calls the one by value, then stores the new record back.
-// The proofs follow the compiled code by hand, which is long, so this crate holds nothing else.
 #![tactic(auto)]
 
 ghost use Rattle.spec.specs.Machines.{MatchesResult, run_of};
@@ -34,8 +33,8 @@ pub fn step(
     readings: &[u32],
     log: &mut [u32],
 ) -> RunAnswer
-    ensures { MatchesResult (as_outcome machine.new result) memory.new log.new
-        (run_of layout commands.now machine.old memory.old 1 readings.now log.old) }
+    ensures { MatchesResult (as_outcome machine.new result)
+        memory.new log.new (run_of layout commands.now machine.old memory.old 1 readings.now log.old) }
 {
     let out = machine::step_value(layout, commands, *machine, memory, readings, log);
     *machine = out.machine;
