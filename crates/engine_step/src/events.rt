@@ -16,6 +16,7 @@ pub struct EventContext {
 }
 
 // The effect of EVENT v. A fault is tested first, then no arrow (21), then the pauses.
+#[tactic(auto, using(crate::proofs::events::Laws::faults, crate::proofs::events::Laws::stops, crate::proofs::events::Laws::sends))]
 pub fn checked_event(layout: Layout, v: u32, memory: &[u32], context: EventContext) -> Effect
     requires { context.state ≡ get_or memory.now layout.cell 0 }
     ensures { result ≡ checked_event v (event_view layout memory.now context.free context.left) }
