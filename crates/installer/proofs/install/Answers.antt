@@ -1,9 +1,12 @@
+use native.Mathlib.Omega.{arith}
 use Rattle.installer.proofs.Installs.{not_installed, landings_are, table_fits, landings_fit, laid}
 use Rattle.installer.proofs.install.Goals as goal
 
 -- in this proof, i is the point where the answer is known; m, k and b are those after the landing cells, the state and the table
 pub returns-then-refused-ne-TAKEN : goal.returns-then-refused-ne-TAKEN
-returns-then-refused-ne-TAKEN c = let both = not_installed _ _ _ _ _ _ _ c.install_answer-answer.ensures c.if-refused-ne-TAKEN.true _ c.refused.ensures in record { value = both.0; leaves = both.1 }
+returns-then-refused-ne-TAKEN c =
+    let both = not_installed _ _ _ _ _ _ _ c.install_answer-answer.ensures (λ e. absurd (omega arith)) _ c.refused.ensures in
+    record { value = both.0; leaves = both.1 }
 
 pub landing_cells-marks-requires : goal.landing_cells-marks-requires
 landing_cells-marks-requires c = let i = c in
