@@ -4,8 +4,8 @@ use mathlib.Core.Bool.{Bool, true, false, ◌&&◌, not}
 use Prim.Native.Nat.{ℕ}
 use lib.Dec.{ltb, eqb}
 use borrow.Author.Tests.{eq-eqb, ne_eqb, not-true}
-use Rattle.types.specs.declared.Refusal.TheVariants.{Taken, BadLanding}
-use Rattle.types.specs.Names.{guest, number_of}
+use Rattle.types.specs.declared.Refusal.TheVariants.{BadLanding}
+use Rattle.types.specs.Names.{taken_number, guest, number_of}
 use Rattle.spec.specs.Words.{kind_of, v_of, bad_landing, word_refusal, refusal_at}
 use Rattle.spec.proofs.Bools.{both}
 use Rattle.words.proofs.guest.RefusalLaws.{clean_judged}
@@ -24,10 +24,10 @@ module _ (n w : ℕ) (beyond : Bool) (eb : beyond ≡ bad_landing n w) where
     unfolding refusal_at
     at_landing h = rw (← e, ← eb, eq-eqb x 0 z, h)
 
-    pub at_taken : beyond ≡ false → number_of Taken ≡ refusal_at n w
+    pub at_taken : beyond ≡ false → taken_number ≡ refusal_at n w
     unfolding refusal_at
     at_taken h = rw (← e, ← eb, eq-eqb x 0 z, h)
 
   -- a word that is an instruction, and no GOIF past the end
-  pub clean_at : (r : Bool) → r ≡ eqb (word_refusal w) 0 → (r && not beyond) ≡ true → number_of Taken ≡ refusal_at n w
+  pub clean_at : (r : Bool) → r ≡ eqb (word_refusal w) 0 → (r && not beyond) ≡ true → taken_number ≡ refusal_at n w
   clean_at r f t = let u = both r (not beyond) t in at_taken 0 (clean_judged w r f u.0) refl (not-true beyond u.1)
