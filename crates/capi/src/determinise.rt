@@ -12,7 +12,7 @@ const MAPS: u32 = 65536;
 fn starts_of(map: u32) -> u16
     ensures { result ≡ starts_from map }
 {
-    if map < MAPS { map as u16 } else { 0 }
+    u16::try_from(map).unwrap_or(0)
 }
 
 #[unsafe(no_mangle)]

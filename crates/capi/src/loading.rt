@@ -6,7 +6,7 @@ ghost use Rattle.capi_spec.specs.Hosts.{host_loaded, load_for};
 use capi_values::answers::{ANSWER, answer_of};
 use capi_values::layouts::{LAYOUT, layout_of};
 use capi_values::machines::{MACHINE_RECORD, record_of};
-use types::PolicyNumbers;
+use types::{Answer, Machine, PolicyNumbers};
 
 #[unsafe(no_mangle)]
 pub extern "C" fn hemdroas_load(
@@ -35,6 +35,6 @@ pub extern "C" fn hemdroas_load(
         commands,
         memory,
     );
-    *machine = record_of(loaded.machine);
-    *answer = answer_of(loaded.answer);
+    *machine = record_of(loaded.map_or(Machine::refused(), |l| l.machine));
+    *answer = answer_of(Answer::from(loaded.map(|l| l.commands)));
 }

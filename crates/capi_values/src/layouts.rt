@@ -24,15 +24,10 @@ pub fn ceilings_from(xs: &[u32], at: usize) -> [u32; Layout::CEILINGS]
 pub fn layout_of(xs: &[u32; LAYOUT]) -> Layout
     ensures { result ≡ layout_from xs.now }
 {
-    Layout {
-        size: xs[0],
-        low: xs[1],
-        high: xs[2],
-        cell: xs[3],
-        table: xs[4],
-        states: xs[5],
-        base: xs[6],
-        landings: xs[7],
-        ceilings: ceilings_from(xs, LAYOUT_CEILINGS),
-    }
+    let low = xs[1];
+    let base = xs[6];
+    let ceilings = ceilings_from(xs, LAYOUT_CEILINGS);
+    Layout::new(
+        xs[0], low, xs[2], xs[3], xs[4], xs[5], base, xs[7], ceilings,
+    )
 }

@@ -14,11 +14,7 @@ pub fn machine_of(xs: &[u32; MACHINE_RECORD]) -> Machine
 {
     let mut regs = [0u32; Machine::REGISTERS];
     let status = read_record(xs, &mut regs);
-    Machine {
-        regs,
-        pc: xs[Machine::REGISTERS],
-        status,
-    }
+    Machine::from_parts(regs, xs[Machine::REGISTERS], status)
 }
 
 // Stores in its record the machine that a run left.

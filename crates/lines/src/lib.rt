@@ -9,17 +9,8 @@ pub const BASE: u32 = 4096;
 
 // Document 01's layout, with this base.
 pub fn drum(base: u32) -> Layout {
-    Layout {
-        size: 1024,
-        low: 256,
-        high: 511,
-        cell: 0,
-        table: 16,
-        states: 2,
-        base,
-        landings: 64,
-        ceilings: [Layout::NO_LIMIT; Layout::CEILINGS],
-    }
+    let ceilings = [Layout::NO_LIMIT; Layout::CEILINGS];
+    Layout::new(1024, 256, 511, 0, 16, 2, base, 64, ceilings)
 }
 
 // Prints a line with a case's name and its answer.

@@ -51,14 +51,8 @@ fn lists(rt: &impl Print, layout: Layout) -> io::Result<()> {
 }
 
 fn layouts(rt: &impl Print) -> io::Result<()> {
-    let unaligned = Layout {
-        size: 64,
-        low: 6,
-        high: 9,
-        states: 1,
-        landings: 32,
-        ..drum(0)
-    };
+    let ceilings = [Layout::NO_LIMIT; Layout::CEILINGS];
+    let unaligned = Layout::new(64, 6, 9, 0, 16, 1, 0, 32, ceilings);
     rewrites(rt, "rewrite sandbox_6_to_9", unaligned, &[0xd])?;
     rewrites(rt, "rewrite base_16_of_7", drum(16), &[0, 0, 0, 0, 0, 0, 0])?;
     rewrites(rt, "rewrite base_32_of_7", drum(32), &[0, 0, 0, 0, 0, 0, 0])?;

@@ -5,7 +5,7 @@ ghost use Rattle.std.specs.Prelude.{◌≡◌};
 ghost use Rattle.types.specs.declared.Ending.TheVariants.{Refused};
 ghost use Rattle.types.specs.Names.{number_of, ending_number, status_number, ending_of, NamesStatus};
 ghost use Rattle.types.specs.Results.{reject_at, answer_of, verdict_of};
-ghost use Rattle.types.specs.Records.{machine_at, machine_refused, outcome_of};
+ghost use Rattle.types.specs.Records.{layout_of, machine_of, machine_at, machine_refused, outcome_of};
 
 use std::fmt;
 
@@ -35,6 +35,32 @@ impl Layout {
     pub const CEILINGS: usize = PolicyNumbers::ORDERS as usize;
     // A ceiling that limits nothing.
     pub const NO_LIMIT: u32 = 4294967295;
+
+    pub fn new(
+        size: u32,
+        low: u32,
+        high: u32,
+        cell: u32,
+        table: u32,
+        states: u32,
+        base: u32,
+        landings: u32,
+        ceilings: [u32; Layout::CEILINGS],
+    ) -> Layout
+        ensures { result ≡ layout_of size low high cell table states base landings ceilings }
+    {
+        Layout {
+            size,
+            low,
+            high,
+            cell,
+            table,
+            states,
+            base,
+            landings,
+            ceilings,
+        }
+    }
 }
 
 // A policy's state count and start state. Its table, 16 bytes a state, and its landings are passed beside it as slices.
@@ -261,26 +287,24 @@ impl Machine {
 
     pub const REGISTERS: usize = Machine::HIDDEN + 1;
 
+    pub fn from_parts(regs: [u32; Machine::REGISTERS], pc: u32, status: Status) -> Machine
+        ensures { result ≡ machine_of regs pc status }
+    {
+        Machine { regs, pc, status }
+    }
+
     // The record that installing yields: all registers 0, pc at the base, running.
     pub fn new(base: u32) -> Machine
         ensures { result ≡ machine_at base }
     {
-        Machine {
-            regs: [0; Machine::REGISTERS],
-            pc: base,
-            status: Status::Running,
-        }
+        Machine::from_parts([0; Machine::REGISTERS], base, Status::Running)
     }
 
     // The record that a refused installation yields: zeros, and faulted.
     pub fn refused() -> Machine
         ensures { result ≡ machine_refused }
     {
-        Machine {
-            regs: [0; Machine::REGISTERS],
-            pc: 0,
-            status: Status::Faulted,
-        }
+        Machine::from_parts([0; Machine::REGISTERS], 0, Status::Faulted)
     }
 }
 
