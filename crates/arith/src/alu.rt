@@ -37,7 +37,7 @@ pub fn shl(x: u32, v: u32) -> u32
     x.unbounded_shl(v)
 }
 
-// Whether condition c holds of x and y.
+// Whether condition c holds of x and y. A number, the field of a word: an enum would be a match more, and takes more instructions at each jump.
 pub fn holds(c: u64, x: u32, y: u32) -> bool
     ensures { result ≡ holds_of c x y }
 {

@@ -9,10 +9,8 @@ use Rattle.types.specs.Names.{cell_bits, top_shift}
 use Rattle.spec.specs.Signed.{twos, bits_of, sar_of}
 use Rattle.spec.specs.Commands.{shl_of}
 
-pub twos_is : (x : ℕ) → twos x ≡ cast_signed w32 x
-twos_is x = refl
-
-pub bits_is : (z : ℤ) → bits_of z ≡ cast_unsigned w32 z
+-- `twos` is the library's `cast_signed w32` letter for letter; `bits_of` is its `cast_unsigned w32`
+bits_is : (z : ℤ) → bits_of z ≡ cast_unsigned w32 z
 bits_is (pos n) = refl
 bits_is (negsuc n) = refl
 
