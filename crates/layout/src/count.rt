@@ -19,7 +19,7 @@ pub fn count_right(k: usize) -> bool
 {
     (k <= Bundle::MOST_COMMANDS)
         & k.is_multiple_of(Bundle::LENGTH)
-        & (k / Bundle::LENGTH).is_power_of_two()
+        & ((k / Bundle::LENGTH).count_ones() == 1)
 }
 
 // Whether the base is a multiple of the length of n bundles. For n = 0, or n above the base, only base 0 is.

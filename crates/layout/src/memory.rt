@@ -20,7 +20,7 @@ fn box_right(l: Layout) -> bool
         return false;
     }
     let span = l.high - l.low + 1;
-    span.is_power_of_two() && l.low.is_multiple_of(span)
+    span.count_ones() == 1 && l.low.is_multiple_of(span)
 }
 
 fn table_end(l: Layout) -> u64

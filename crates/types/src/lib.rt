@@ -71,7 +71,7 @@ pub struct PolicyNumbers {
 }
 
 impl PolicyNumbers {
-    // In a table, this entry means that the event is not allowed.
+    // In a table, this entry means that the event is not allowed. It is a byte of the paper's form of a policy.
     pub const NO_ARROW: u32 = 255;
     // Entries in one row of a table.
     pub const EVENTS: u32 = 16;
@@ -101,6 +101,7 @@ pub struct Limits {
 }
 
 // A guest instruction. PLAIN covers the kinds SET to SAR; its fields are kind, d, a, b, v.
+// A kind is a number and no enum: it is a field of a word, the definitions compute with it (`shape_with` adds `plain_step`), and SET to SAR are one range.
 #[derive(Clone, Copy, Debug, PartialEq, Eq)]
 pub enum Instr {
     HALT,
@@ -149,7 +150,8 @@ impl Instr {
     pub const PLAIN_STEP: u64 = Command::SET - Instr::KIND_SET;
 }
 
-// A command of the machine. Plain covers the kinds SET to SHL; its fields are kind, d, a, b, v. Invalid is any word that is no command.
+// A command of the machine. Plain covers the kinds SET to SHL; its fields are kind, d, a, b, v. A kind is a number, as a guest's is.
+// Invalid is any word that is no command. It is a case and no None because `command_of` and `effect_of` of the specs give every word a command and an effect.
 #[derive(Clone, Copy, Debug, PartialEq, Eq)]
 pub enum Command {
     Nop,
@@ -238,10 +240,6 @@ pub enum Status {
     Stopped = 2,
     Faulted = 3,
     Strayed = 4,
-}
-
-impl Status {
-    pub const COUNT: u32 = Status::Strayed as u32 + 1;
 }
 
 impl From<Status> for u32 {
