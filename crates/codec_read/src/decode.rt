@@ -5,15 +5,12 @@ ghost use Rattle.spec.specs.Bytes.{decode_one};
 
 use crate::fast_path::read_fast;
 use crate::full_path::read_full;
-use types::{Instr, Refusal};
+use types::Refusal;
 
 // Decodes the instruction at the front of s: its word and its length in bytes, or its refusal.
 pub fn read_one(s: &[u8]) -> Result<(u64, usize), Refusal>
     ensures { decoded_of result ≡ decode_one s.now }
 {
-    if s.len() < Instr::MOST_BYTES {
-        return read_full(s);
-    }
     match read_fast(s) {
         Some(decoded) => Ok(decoded),
         None => read_full(s),

@@ -1,13 +1,13 @@
 // Decodes a valid instruction if at least ten bytes are left from its map on. For any other it gives no answer, and the full path decides.
-ghost use Rattle.std.specs.Prelude.{◌≡◌, ◌≢◌, ◌+◌, ◌^◌, ◌≤◌, ◌<◌, length, MatchOption, IfSome};
+ghost use Rattle.std.specs.Prelude.{◌≡◌, ◌≢◌, ◌+◌, ◌^◌, ◌<◌, MatchOption, IfSome};
 ghost use Rattle.types.specs.Results.{Word};
 ghost use Rattle.spec.specs.Words.{pack_fields};
 ghost use Rattle.spec.specs.Bytes.{decode_one};
-ghost use Rattle.codec_read.specs.fast_path.Parts.{longest, FieldsFit};
+ghost use Rattle.codec_read.specs.fast_path.Parts.{FieldsFit};
 
 use crate::bytes::quad;
 use crate::map::{A, B, C, D, KIND, TOP_MAP, V, bit};
-use types::Fields;
+use types::{Fields, Instr};
 use words::field;
 use words::guest::is_instruction;
 
@@ -41,11 +41,13 @@ fn join(f: Fields) -> u64
         + (f.v << field::AT_V)
 }
 
-// Decodes the instruction at the front of s if it is valid, else gives no answer.
+// Decodes the instruction at the front of s if it is valid and enough bytes are left, else gives no answer.
 pub fn read_fast(s: &[u8]) -> Option<(u64, usize)>
-    requires { longest ≤ length s.now }
     ensures { IfSome result (λ r. Word r.0 r.1 ≡ decode_one s.now) }
 {
+    if s.len() < Instr::MOST_BYTES {
+        return None;
+    }
     let m = usize::from(s[0]);
     if m > TOP_MAP {
         return None;

@@ -14,5 +14,5 @@ returns-then-fits-is_instruction c =
     let b-part = part_is c.bit-4.result c.in_ok-a.b_at 1 (get_or s c.in_ok-a.b_at 0) c.in_ok-b.b c.in_ok-b.c_at (omega arith) c.in_ok-b.ensures.absent (search (c.in_ok-b.ensures.present, rules)) in
     let c-part = part_is c.bit-5.result c.in_ok-b.c_at 1 (get_or s c.in_ok-b.c_at 0) c.in_ok-c.c c.in_ok-c.v_at (omega arith) c.in_ok-c.ensures.absent (search (c.in_ok-c.ensures.present, rules)) in
     let v-part = part_is c.bit-6.result c.in_ok-c.v_at 4 (quad_at 1 s c.in_ok-c.v_at) c.in_ok-v.v c.in_ok-v.end (omega arith) c.in_ok-v.ensures.absent (search (c.in_ok-v.ensures.present, rules)) in
-    fast_word s c.requires c.from-m.result c.from-m.ensures c.if-m-gt-TOP_MAP.false _ _ _ _ _ _ (omega arith) (omega arith) (omega arith) (omega arith) (omega arith) (omega arith) _ _ _ _ _ _ _ _ _ _ _ _
+    fast_word s c.if-s-lt-MOST_BYTES.false c.from-m.result c.from-m.ensures c.if-m-gt-TOP_MAP.false _ _ _ _ _ _ (omega arith) (omega arith) (omega arith) (omega arith) (omega arith) (omega arith) _ _ _ _ _ _ _ _ _ _ _ _
     kind-part d-part a-part b-part c-part v-part (search rules) _ c.join-w.ensures _ c.is_instruction.ensures c.if-fits-is_instruction.true
