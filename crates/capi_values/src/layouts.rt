@@ -3,7 +3,7 @@ ghost use Rattle.std.specs.Prelude.{◌≡◌, ◌+◌, length};
 ghost use Rattle.types.specs.Names.{orders};
 ghost use Rattle.capi_spec.specs.Numbers.{numbers_from, layout_from};
 
-use buffers::stores::store_cells;
+use buffers::stores::store;
 use types::Layout;
 
 // Where the ceilings begin in a layout's numbers, and how many numbers there are.
@@ -17,17 +17,22 @@ pub fn ceilings_from(xs: &[u32], at: usize) -> [u32; Layout::CEILINGS]
     ensures { result ≡ numbers_from orders at xs.now }
 {
     let mut ceilings = [0u32; Layout::CEILINGS];
-    store_cells(&mut ceilings, 0, &xs[at..]);
+    store(&mut ceilings, 0, &xs[at..]);
     ceilings
 }
 
 pub fn layout_of(xs: &[u32; LAYOUT]) -> Layout
     ensures { result ≡ layout_from xs.now }
 {
-    let low = xs[1];
-    let base = xs[6];
-    let ceilings = ceilings_from(xs, LAYOUT_CEILINGS);
-    Layout::new(
-        xs[0], low, xs[2], xs[3], xs[4], xs[5], base, xs[7], ceilings,
-    )
+    Layout {
+        size: xs[0],
+        low: xs[1],
+        high: xs[2],
+        cell: xs[3],
+        table: xs[4],
+        states: xs[5],
+        base: xs[6],
+        landings: xs[7],
+        ceilings: ceilings_from(xs, LAYOUT_CEILINGS),
+    }
 }

@@ -14,15 +14,18 @@ pub fn machine_of(xs: &[u32; MACHINE_RECORD]) -> Machine
 {
     let mut regs = [0u32; Machine::REGISTERS];
     let status = read_record(xs, &mut regs);
-    Machine::from_parts(regs, xs[Machine::REGISTERS], status)
+    Machine {
+        regs,
+        pc: xs[Machine::REGISTERS],
+        status,
+    }
 }
 
 // Stores in its record the machine that a run left.
 pub fn store_machine(xs: &mut [u32; MACHINE_RECORD], m: Machine)
     ensures { xs.new ≡ numbers_after registers xs.old (machine_to m) }
 {
-    let status = m.status;
-    store_record(xs, &m.regs, m.pc, status);
+    store_record(xs, &m.regs, m.pc, m.status);
 }
 
 // A machine as numbers. It is stored over zeros, because their status, running, is valid.

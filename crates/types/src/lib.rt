@@ -4,8 +4,10 @@
 ghost use Rattle.std.specs.Prelude.{◌≡◌};
 ghost use Rattle.types.specs.declared.Ending.TheVariants.{Refused};
 ghost use Rattle.types.specs.Names.{number_of, ending_number, status_number, ending_of, NamesStatus};
-ghost use Rattle.types.specs.Results.{reject_at, answer_of};
+ghost use Rattle.types.specs.Results.{reject_at, answer_of, verdict_of};
 ghost use Rattle.types.specs.Records.{machine_at, machine_refused, outcome_of};
+
+use std::fmt;
 
 // Where things lie in a drum's memory. U, SL, SH, M, P, S, B and Q are the paper's letters. Orders 0 to 7 have a ceiling each.
 #[derive(Clone, Copy)]
@@ -364,6 +366,21 @@ impl From<Result<usize, Reject>> for Answer {
                 place: reject.place,
             },
         }
+    }
+}
+
+impl From<Result<(), Reject>> for Answer {
+    ghost from_gives = { λ r a. a ≡ verdict_of r };
+
+    fn from(outcome: Result<(), Reject>) -> Answer {
+        Answer::from(outcome.map(|()| 0usize))
+    }
+}
+
+// The number and the place.
+impl fmt::Display for Answer {
+    fn fmt<W: fmt::Write>(&self, f: &mut fmt::Formatter<W>) -> fmt::Result {
+        write!(f, "{} {}", self.number, self.place)
     }
 }
 
