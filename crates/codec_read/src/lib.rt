@@ -7,7 +7,7 @@ pub mod fast_path;
 pub mod full_path;
 pub mod map;
 
-ghost use Rattle.std.specs.Prelude.{◌≡◌, ◌≤◌, ◌<◌, length, set, unwrap_or, IfSome};
+ghost use Rattle.std.specs.Prelude.{◌≡◌, ◌≤◌, ◌<◌, length, unwrap_or, IfSome};
 ghost use Rattle.std.proofs.lemmas.List.Edits.{sets as stores};
 ghost use Rattle.types.specs.Names.{count_bytes};
 ghost use Rattle.types.specs.Results.{answer_of};
@@ -15,6 +15,7 @@ ghost use Rattle.spec.specs.Bytes.{scan_of, words_of, count_of, read_answer, rea
 ghost use Rattle.codec_read.specs.Scans.{first_past};
 
 use crate::decode::read_one;
+use buffers::cells::poke;
 use types::{Instr, Refusal, Reject};
 use words::routine::bad_landing;
 
@@ -25,16 +26,8 @@ pub struct Scanned {
     pub past: Option<usize>,
 }
 
-// Stores a word, or nothing if there is no room.
-fn set_word(words: &mut [u64], at: usize, w: u64)
-    ensures { words.new ≡ set words.old at w }
-{
-    if at < words.len() {
-        words[at] = w;
-    }
-}
-
 // Reads n instructions from s and stores their words while there is room. It stops at the first refusal. With no room it only decides.
+#[tactic(auto, using(crate::proofs::Reading::used))]
 pub fn scan(s: &[u8], n: usize, words: &mut [u64]) -> Scanned
     ensures answer { answer_of result.read ≡ scan_of n 0 s.now }
     ensures past { unwrap_or result.past n ≡ first_past n (words_of n s.now) 0 }
@@ -47,7 +40,7 @@ pub fn scan(s: &[u8], n: usize, words: &mut [u64]) -> Scanned
         match read_one(t) {
             Ok((w, used)) => {
                 past = past.or(bad_landing(n, w).then_some(i));
-                set_word(words, i, w);
+                poke(words, i, w);
                 t = &t[used..];
             }
             Err(refusal) => {

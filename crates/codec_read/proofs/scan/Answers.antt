@@ -3,15 +3,8 @@ use native.Mathlib.Omega.{arith}
 use borrow.Author.Rules.{rules}
 use Rattle.types.specs.Results.{Word}
 use Rattle.spec.specs.Bytes.{decode_one}
-use Rattle.codec_read.proofs.Reading.{used, scan_more, scan_stop, scan_done, scan_over, past_more, past_stop, past_done, within_more, fill_more, fill_stop, fill_done}
+use Rattle.codec_read.proofs.Reading.{scan_more, scan_stop, scan_done, scan_over, past_more, past_stop, past_done, within_more, fill_more, fill_stop, fill_done}
 use Rattle.codec_read.proofs.scan.Goals as goal
-
--- what is left of the bytes begins behind those that an instruction took
-pub slice_bounds-t-count : goal.slice_bounds-t-count
-slice_bounds-t-count c = search (used, rules)
-
-pub slice_bounds-t-start : goal.slice_bounds-t-start
-slice_bounds-t-start c = search (used, rules)
 
 pub loop-i-preserved : goal.loop-i-preserved
 loop-i-preserved c =
@@ -21,7 +14,7 @@ loop-i-preserved c =
       answer = scan_more _ _ _ c.loop-i-test.true _ _ e _ q.answer;
       past = past_more _ _ _ c.loop-i-test.true _ _ e c.loop-i.past c.or-past.result _ c.bad_landing.ensures (search rules) _ q.past;
       within = search (within_more, rules);
-      content = fill_more _ _ _ c.loop-i-test.true _ _ e _ _ _ c.set_word.ensures q.content;
+      content = fill_more _ _ _ c.loop-i-test.true _ _ e _ _ _ c.poke.ensures q.content;
       size = search rules;
     }
 
@@ -41,7 +34,7 @@ pub returns-then-is_empty : goal.returns-then-is_empty
 returns-then-is_empty c =
     let q = c.loop-i.invariant in
     record {
-      answer = scan_done c.args.n c.loop-i.i c.loop-i.t.now (omega arith) (omega arith) (search rules) _ q.answer;
+      answer = search (scan_done, rules);
       past = past_done c.args.n c.loop-i.i c.loop-i.t.now (omega arith) c.loop-i.past _ q.past;
       within = search rules;
       content = fill_done c.args.n c.loop-i.i c.loop-i.t.now (omega arith) _ _ q.content;
@@ -52,7 +45,7 @@ pub returns-else-is_empty : goal.returns-else-is_empty
 returns-else-is_empty c =
     let q = c.loop-i.invariant in
     record {
-      answer = scan_over c.args.n c.loop-i.i c.loop-i.t.now (omega arith) (search rules) _ c.from.ensures _ q.answer;
+      answer = search (scan_over, rules);
       past = past_done c.args.n c.loop-i.i c.loop-i.t.now (omega arith) c.loop-i.past _ q.past;
       within = search rules;
       content = fill_done c.args.n c.loop-i.i c.loop-i.t.now (omega arith) _ _ q.content;
