@@ -15,9 +15,8 @@ use Rattle.types.specs.declared.Refusal.TheVariants.{SmallOutput, BadPair}
 use Rattle.types.specs.declared.Answer.{Answer}
 use Rattle.types.specs.Names.{events, no_arrow, answer, refusal}
 use Rattle.spec.proofs.Bools.{both}
-use Rattle.policy_spec.specs.declared.precedence.PrecedenceResult.{PrecedenceResult}
 use Rattle.policy_spec.specs.maps.Maps.{every, some, map_where, bit, build}
-use Rattle.policy_spec.specs.precedence.Precedence.{ValidPairs, named_in, is_named, known_in, events_known, most_named, first_at, pairs_in, bit_index}
+use Rattle.policy_spec.specs.precedence.Precedence.{PrecedenceResult, ValidPairs, named_in, is_named, known_in, events_known, most_named, first_at, pairs_in, bit_index}
 use Rattle.policy_spec.specs.precedence.Precedence.{firsts_in, states_of, table_bytes, named_count, arrow_of, byte_of, blocked, advance_of, iterate}
 use Rattle.policy_spec.specs.precedence.Precedence.{fixpoint_of, unreachable_events, pairs_right, make_answer, precedence_result, make_of, make_table}
 use Rattle.policy_spec.proofs.maps.Maps.{every_at, map_or, map_one, map_none, map_low, map_ones, bit_map, count_less, map_lt, length_build}

@@ -6,8 +6,7 @@ use Rattle.types.specs.declared.Answer.{Answer}
 use Rattle.types.specs.declared.Refusal.TheVariants.{TooManyStates}
 use Rattle.types.specs.Names.{most_states, events, refusal, if_taken, output_of, room_for, first}
 use Rattle.policy_spec.specs.maps.Maps.{build}
-use Rattle.policy_spec.specs.declared.reachability.Made.{Made}
-use Rattle.policy_spec.specs.reachability.Reach.{known, node_state, byte_of, reached_by, nodes, made_with}
+use Rattle.policy_spec.specs.reachability.Reach.{Made, known, node_state, byte_of, reached_by, nodes, made_with}
 
 -- the nodes found so far, their count, and for each arrow the number of the node that it leads to
 pub record Worklist : Type 0 where
