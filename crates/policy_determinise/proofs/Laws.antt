@@ -13,8 +13,7 @@ use Rattle.types.specs.declared.Refusal.TheVariants.{BadDrawing}
 use Rattle.types.specs.Names.{events, most_states, refusal}
 use Rattle.spec.specs.Policies.{states_right}
 use Rattle.policy_spec.specs.maps.Maps.{bit}
-use Rattle.policy_spec.specs.declared.reachability.Made.{Made}
-use Rattle.policy_spec.specs.reachability.Reach.{made_with}
+use Rattle.policy_spec.specs.reachability.Reach.{Made, made_with}
 use Rattle.policy_spec.specs.reachability.Worklists.{Worklist, node_number, Explored, written_of, written_table}
 use Rattle.policy_spec.proofs.reachability.Explore.{written_made, written_table_lem}
 use Rattle.policy_determinise.specs.Drawings.{Drawing, drawing_of, union_of, set_after, maps_right, drawing_right, determinise_of, determinise_table}
@@ -63,9 +62,9 @@ module _ (d : Drawing) (t : List ℕ) where
   abbrev pub Makes : Made → List ℕ → Type 0
   Makes made t' = record { made : made ≡ determinise_of d (length t); table : t' ≡ determinise_table d t }
 
-  pub bad_drawing : (made : Made) → drawing_right d ≡ false → made ≡ made_with (refusal BadDrawing 0) 0 → Makes made t
+  pub bad_drawing : drawing_right d ≡ false → Makes (made_with (refusal BadDrawing 0) 0) t
   unfolding determinise_of determinise_table
-  bad_drawing made e q = rw e (record { made = q; table = refl })
+  bad_drawing e = rw e (record { made = refl; table = refl })
 
   pub makes : (t' : List ℕ) (made : Made) (f : Worklist) → drawing_right d ≡ true → Explored (set_after d) d.starts f → made ≡ written_of f (length t) → t' ≡ written_table f t → Makes made t'
   unfolding determinise_of determinise_table

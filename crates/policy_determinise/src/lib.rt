@@ -4,14 +4,15 @@
 ghost use Rattle.std.specs.Prelude.{◌≡◌, ◌^◌, ◌≤◌, ◌<◌, length, ltb};
 ghost use Rattle.types.specs.Names.{events, most_states};
 ghost use Rattle.policy_spec.specs.reachability.Worklists.{Explored};
+ghost use Rattle.policy_spec.specs.reachability.Results.{made_of};
 ghost use Rattle.policy_determinise.specs.Drawings.{ValidDrawing, drawing_of, set_after, maps_right, drawing_right, determinise_of, determinise_table};
 
 use policy_bits::has_bit;
 use policy_reachability::Worklist;
-use policy_spec::reachability::Made;
+use policy_spec::reachability::NewPolicy;
 use policy_spec::tables::{EVENTS, MOST_STATES};
 use std::num::NonZeroU16;
-use types::Refusal;
+use types::{Refusal, Reject};
 
 // Whether a set has only states below the state count.
 fn fits_states(m: u16, states: usize) -> bool
@@ -76,13 +77,18 @@ impl RightDrawing<'_> {
 
 // Makes the policy of a drawing: writes its table to the start of `table`, and answers its numbers. Bit s of `starts` marks state s as a start.
 // Bit t of entry 16 × s + n says that event n leads from state s to state t.
-pub fn determinise(states: u32, starts: u16, arrows: &[u16], table: &mut [u8]) -> Made
-    ensures made { result ≡ determinise_of (drawing_of states starts arrows.now) (length table.old) }
+pub fn determinise(
+    states: u32,
+    starts: u16,
+    arrows: &[u16],
+    table: &mut [u8],
+) -> Result<NewPolicy, Reject>
+    ensures made { made_of result ≡ determinise_of (drawing_of states starts arrows.now) (length table.old) }
     ensures table { table.new ≡ determinise_table (drawing_of states starts arrows.now) table.old }
 {
     let states = states as usize;
     if !drawing_right(states, starts, arrows) {
-        return policy_reachability::writing::refused(Refusal::BAD_DRAWING);
+        return Err(Refusal::BadDrawing.into());
     }
     let drawing = RightDrawing {
         states,

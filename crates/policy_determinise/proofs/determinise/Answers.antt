@@ -4,7 +4,7 @@ use Rattle.policy_determinise.proofs.Runs.{fit_of}
 use Rattle.policy_determinise.proofs.determinise.Goals as goal
 
 pub returns-then-not-drawing_right : goal.returns-then-not-drawing_right
-returns-then-not-drawing_right c = bad_drawing _ _ _ (sym c.drawing_right.ensures ∙ c.if-not-drawing_right.true) c.refused.ensures
+returns-then-not-drawing_right c = rw c.into.ensures (bad_drawing _ _ (sym c.drawing_right.ensures ∙ c.if-not-drawing_right.true))
 
 pub returns : goal.returns
 returns c =
