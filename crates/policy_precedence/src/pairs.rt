@@ -48,7 +48,8 @@ impl Pairs<'_> {
             return Err(Refusal::BadPair);
         }
         let names = named_events(pairs);
-        if names.count_ones() as usize <= MOST_NAMED {
+        let few = names.count_ones() as usize <= MOST_NAMED;
+        if few {
             Ok(Pairs { names, pairs })
         } else {
             Err(Refusal::BadPair)

@@ -10,11 +10,11 @@ returns-then-not-events_known-clause-wrong c = elim c.then-not-events_known.bran
 ]
 
 pub invariant_of-result : goal.invariant_of-result
-invariant_of-result c = record { valid = pairs_valid _ _ c.named_events-names.ensures (sym c.if-not-events_known.ensures) c.if-names-le-MOST_NAMED.true }
+invariant_of-result c = record { valid = pairs_valid _ _ c.named_events-names.ensures (sym c.if-not-events_known.ensures) c.if-few.true }
 
-pub returns-then-names-le-MOST_NAMED-clause-right : goal.returns-then-names-le-MOST_NAMED-clause-right
-returns-then-names-le-MOST_NAMED-clause-right c =
-    (few_right _ _ c.named_events-names.ensures (sym c.if-not-events_known.ensures) c.if-pairs-ne0.false c.if-names-le-MOST_NAMED.true, refl)
+pub returns-then-few-clause-right : goal.returns-then-few-clause-right
+returns-then-few-clause-right c =
+    (few_right _ _ c.named_events-names.ensures (sym c.if-not-events_known.ensures) c.if-pairs-ne0.false c.if-few.true, refl)
 
-pub returns-else-names-le-MOST_NAMED-clause-wrong : goal.returns-else-names-le-MOST_NAMED-clause-wrong
-returns-else-names-le-MOST_NAMED-clause-wrong c = (many_wrong _ _ c.named_events-names.ensures (sym c.if-not-events_known.ensures) c.if-names-le-MOST_NAMED.false, refl)
+pub returns-else-few-clause-wrong : goal.returns-else-few-clause-wrong
+returns-else-few-clause-wrong c = (many_wrong _ _ c.named_events-names.ensures (sym c.if-not-events_known.ensures) c.if-few.false, refl)
