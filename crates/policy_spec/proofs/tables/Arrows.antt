@@ -1,7 +1,7 @@
 -- An arrow, or none, and the entry that stands for it.
-use Rattle.std.proofs.Common.{ℕ, ◌≡◌, refl, sym, Bool, true, false, cond, eqb, Option, Some, None}
+use Rattle.std.proofs.Common.{ℕ, ◌≡◌, refl, sym, ◌∙◌, Bool, true, false, cond, eqb, Option, Some, None}
 use Rattle.std.specs.Option.{is_none, unwrap_or}
-use borrow.Author.Tests.{eqb-true, ne_eqb}
+use borrow.Author.Tests.{eqb-true, eqb-false, ne_eqb}
 use Rattle.types.specs.Names.{no_arrow}
 use Rattle.policy_spec.specs.tables.Arrows.{arrow_from}
 
@@ -29,3 +29,17 @@ entry_is a r o e f = rw (f, e) (go (eqb a no_arrow) refl)
 
 pub arrow_some : (a : ℕ) → (a ≡ no_arrow → ⊥) → arrow_from a ≡ Some a
 arrow_some a z = rw (ne_eqb a no_arrow z)
+
+pub none_is : (a : ℕ) → None ≡ arrow_from a → a ≡ no_arrow
+none_is a e = go (eqb a no_arrow) refl e
+  where
+    go : (b : Bool) → eqb a no_arrow ≡ b → None ≡ cond b None (Some a) → a ≡ no_arrow
+    go true g f = eqb-true a no_arrow g
+    go false g f = cc
+
+pub some_is : (a t : ℕ) → Some t ≡ arrow_from a → (t ≡ a) × (t ≡ no_arrow → ⊥)
+some_is a t e = go (eqb a no_arrow) refl e
+  where
+    go : (b : Bool) → eqb a no_arrow ≡ b → Some t ≡ cond b None (Some a) → (t ≡ a) × (t ≡ no_arrow → ⊥)
+    go true g f = cc
+    go false g f = let k : t ≡ a = cc in (k, λ z. eqb-false a no_arrow g (sym k ∙ z))
