@@ -13,9 +13,8 @@ use Rattle.spec.proofs.Bools.{both}
 use Rattle.policy_spec.specs.maps.Maps.{build}
 use Rattle.policy_spec.proofs.maps.Maps.{length_build}
 use Rattle.policy_spec.proofs.maps.Tables.{fill_none, fill_more}
-use Rattle.policy_spec.specs.declared.reachability.Worklist.{Worklist}
 use Rattle.policy_spec.specs.reachability.Reach.{index_of, known, insert, target, reached_by, nodes, node_state, byte_of, states_of, table_of, reach_answer, reach_of, reach_table}
-use Rattle.policy_spec.specs.reachability.Worklists.{WorklistSized, initial_worklist, nodes_of, has_pending, insert_target, WorklistInvariant, Explored, worklist_answer, written_of, written_table}
+use Rattle.policy_spec.specs.reachability.Worklists.{Worklist, WorklistSized, initial_worklist, nodes_of, has_pending, insert_target, WorklistInvariant, Explored, worklist_answer, written_of, written_table}
 use Rattle.policy_spec.specs.reachability.Claims.{Arrows}
 use Rattle.policy_spec.proofs.reachability.Places.{place_le, place_append, place_new, Inserts, none, again, anew, inserts, reached_known}
 use Rattle.policy_spec.proofs.reachability.Reach.{reached_zero, reached_suc, grows, rests}
