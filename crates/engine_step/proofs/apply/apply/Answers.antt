@@ -1,13 +1,6 @@
 use borrow.Author.Rules.{rules}
-use Rattle.engine_step.proofs.apply.Laws.{set_in, stored_in, stored_apart, reading_left, goes, puts, stores, orders, probes, ends, waits}
+use Rattle.engine_step.proofs.apply.Laws.{stored_apart, reading_left, goes, puts, stores, orders, probes, ends, waits}
 use Rattle.engine_step.proofs.apply.apply.Goals as goal
-
--- ---- what the calls require
-pub set_register-requires : goal.set_register-requires
-set_register-requires c = search (set_in, rules)
-
-pub set_cell-requires : goal.set_cell-requires
-set_cell-requires c = search (stored_in, rules)
 
 pub probe-requires : goal.probe-requires
 probe-requires c = search (reading_left, rules)

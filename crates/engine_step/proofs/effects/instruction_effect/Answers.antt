@@ -1,14 +1,6 @@
-use Prim.Native.Nat.{zero-le, ◌+◌}
-use native.Mathlib.Omega.{arith}
 use borrow.Author.Rules.{rules}
-use Rattle.words.proofs.Laws.{past}
-use Rattle.engine_step.specs.fetch.Fetched.{no_instruction}
-use Rattle.engine_step.proofs.effects.Laws.{halts, sets, moves, adds, subtracts, ands, ors, shifts, loads, stores, branches, jumps, events, of_no_kind, in_box_lem}
+use Rattle.engine_step.proofs.effects.Laws.{halts, sets, moves, adds, subtracts, ands, ors, shifts, loads, stores, branches, jumps, events}
 use Rattle.engine_step.proofs.effects.instruction_effect.Goals as goal
-
--- ---- what the calls require
-pub read_cell-requires : goal.read_cell-requires
-read_cell-requires c = search (in_box_lem, rules)
 
 -- ---- the effect of each kind is its instruction's
 pub returns-in-0 : goal.returns-in-0
@@ -50,15 +42,3 @@ returns-in-11 c = search (jumps, rules)
 pub returns-in-12 : goal.returns-in-12
 returns-in-12 c = search (events, rules)
 
--- ---- a number of four bits that is no kind faults
-pub returns-in-13 : goal.returns-in-13
-returns-in-13 c = of_no_kind _ _ _ _ c.requires.0 (omega (arith, c.in-13.is))
-
-pub returns-in-14 : goal.returns-in-14
-returns-in-14 c = of_no_kind _ _ _ _ c.requires.0 (omega (arith, c.in-14.is))
-
-pub returns-in-15 : goal.returns-in-15
-returns-in-15 c = of_no_kind _ _ _ _ c.requires.0 (omega (arith, c.in-15.is))
-
-pub returns-in_default : goal.returns-in_default
-returns-in_default c = of_no_kind _ _ _ _ c.requires.0 (omega (arith, past Unit _ 0 (no_instruction + 1) zero-le c.in_default.in_default-own.rest))
