@@ -35,6 +35,7 @@ fn probe(v: u32, regs: &mut [u32; Engine::REGISTERS], at: Point, readings: &[u32
 
 // Applies an effect, and returns the point after it. The effect is in range, so no register and no cell is tested.
 // The present state is a local of the loop, so that no event reads its cell.
+#[tactic(auto, using(crate::proofs::apply::Laws::stored_apart, crate::proofs::apply::Laws::reading_left), unfolding(spec::specs::Machines::apply_of, engine_spec::specs::Engines::apply_effect, engine_spec::specs::Engines::with_state))]
 pub fn apply(
     e: Effect,
     layout: &Layout,

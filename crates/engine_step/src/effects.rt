@@ -15,6 +15,7 @@ use words::fields::v_field;
 use words::{alu, field};
 
 // The effect of a guest word. Each arm reads only the fields that it uses, so none is read before the jump.
+#[tactic(auto, using(crate::proofs::effects::Laws::arms))]
 fn instruction_effect(w: GuestWord, routine: Routine, sight: Sight) -> Effect
     ensures { result ≡ instr_effect sight.entry.layout.now (bundles_for (length routine.entry.words.now)) (instr_of w.word) (seen sight.entry) }
 {
