@@ -1,14 +1,11 @@
-// Reads or sets one cell of a slice without a bounds failure, and widens bytes.
-ghost use Rattle.std.specs.Prelude.{◌≡◌, ◌<◌, get_or, set};
+// Reads or sets one cell of a slice without a bounds failure.
+ghost use Rattle.std.specs.Prelude.{◌≡◌, get_or, set};
 
 // Reads a cell, or 0 past the end.
 pub fn peek(cells: &[u32], at: usize) -> u32
     ensures { result ≡ get_or cells.now at 0 }
 {
-    if at >= cells.len() {
-        return 0;
-    }
-    cells[at]
+    cells.get(at).copied().unwrap_or(0)
 }
 
 // Sets a cell; past the end it does nothing.
@@ -18,16 +15,4 @@ pub fn poke(cells: &mut [u32], at: usize, x: u32)
     if at < cells.len() {
         cells[at] = x;
     }
-}
-
-pub fn index_of(x: u8) -> usize
-    ensures { (result ≡ x) × (result < 256) }
-{
-    x as usize
-}
-
-pub fn cell_of(x: u8) -> u32
-    ensures { (result ≡ x) × (result < 256) }
-{
-    x as u32
 }

@@ -3,6 +3,7 @@ ghost use Rattle.std.specs.Prelude.{◌≡◌, ◌<◌, ◌^◌};
 ghost use Rattle.spec.specs.Layouts.{limited as limitedOf};
 ghost use Rattle.spec.specs.Machines.{with_pair};
 
+use crate::cells::{peek, poke};
 use types::RunAnswer;
 
 pub fn write_pair(log: &mut [u32], n: usize, e: u32, x: u32)
@@ -10,19 +11,15 @@ pub fn write_pair(log: &mut [u32], n: usize, e: u32, x: u32)
     ensures { log.new ≡ with_pair log.old n e x }
 {
     let first = RunAnswer::PAIR_CELLS * n;
-    crate::cells::poke(log, first, e);
-    crate::cells::poke(log, first + 1, x);
+    poke(log, first, e);
+    poke(log, first + 1, x);
 }
 
 // What an order records: its value, but at most its ceiling.
 fn limited(ceilings: &[u32], v: u32, x: u32) -> u32
     ensures { result ≡ limitedOf ceilings.now v x }
 {
-    let most = crate::cells::peek(ceilings, v as usize);
-    if x < most {
-        return x;
-    }
-    most
+    x.min(peek(ceilings, v as usize))
 }
 
 // Writes pair n for an order, with its value limited.

@@ -7,6 +7,7 @@ use Rattle.types.specs.declared.RunAnswer.{RunAnswer}
 use Rattle.types.specs.declared.Status.{Status}
 use Rattle.types.specs.declared.Status.TheVariants.{Running, Ended, Stopped, Faulted, Strayed}
 use Rattle.types.specs.Names.{orders, registers, ending_number, first}
+pub use Rattle.types.specs.Names.{status_number}
 use Rattle.types.specs.Records.{layout_of, machine_of}
 
 -- n numbers from index i on
@@ -19,14 +20,6 @@ unfoldable pub layout_from : List ℕ → Layout
 layout_from xs =
     layout_of (get_or xs 0 0) (get_or xs 1 0) (get_or xs 2 0) (get_or xs 3 0) (get_or xs 4 0) (get_or xs 5 0) (get_or xs 6 0) (get_or xs 7 0)
     (numbers_from orders 8 xs)
-
--- a status as a number
-abbrev pub status_number : Status → ℕ
-status_number Running = 0
-status_number Ended = 1
-status_number Stopped = 2
-status_number Faulted = 3
-status_number Strayed = 4
 
 -- how many statuses there are
 abbrev pub statuses : ℕ

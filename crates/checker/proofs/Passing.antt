@@ -10,8 +10,8 @@ use lib.ListN.{length, get_or}
 use borrow.Author.Tests.{leb-true, eqb-true}
 use Rattle.types.specs.declared.Layout.{Layout}
 use Rattle.types.specs.declared.Answer.{Answer}
-use Rattle.types.specs.declared.Refusal.TheVariants.{BadBase, BadBundle, BadCount, BadLayout, Taken}
-use Rattle.types.specs.Names.{most_bundles, most_commands, bundle_length, base_bound, number_of, answer, refusal}
+use Rattle.types.specs.declared.Refusal.TheVariants.{BadBase, BadBundle, BadCount, BadLayout}
+use Rattle.types.specs.Names.{taken_number, most_bundles, most_commands, bundle_length, base_bound, answer, refusal}
 use Rattle.spec.specs.Layouts.{right_layout}
 use Rattle.spec.specs.Words.{kind_of}
 use Rattle.spec.specs.Bundles.{address_of, decode_bundle, bundle_at, is_bundle, shaped_at, passes_at, check_from, base_right, count_right, check_answer}
@@ -40,7 +40,7 @@ module _ (l : Layout) (n : ℕ) (ws : List ℕ) (h : ℕ) where
     unfolding check_from
     check_stop e = sym (ea ∙ rw (left, ← ep, e))
 
-  pub check_done : n ≤ h → (a : Answer) → a ≡ check_from l n ws h (n - h) → answer (number_of Taken) 0 ≡ a
+  pub check_done : n ≤ h → (a : Answer) → a ≡ check_from l n ws h (n - h) → answer taken_number 0 ≡ a
   unfolding check_from
   check_done g a ea = let none : n - h ≡ 0 = omega arith in sym (ea ∙ rw none)
 

@@ -12,10 +12,10 @@ use lib.Seq.{sets as stores, take_all}
 use lib.Dec.{eqb}
 use borrow.Author.Tests.{eq-eqb, ne_eqb, eqb-true, eqb-false}
 use Rattle.types.specs.declared.Answer.{Answer}
-use Rattle.types.specs.declared.Decoded.{Decoded}
-use Rattle.types.specs.declared.Decoded.TheVariants.{Word, RefusedWith}
-use Rattle.types.specs.declared.Refusal.TheVariants.{Taken, Trailing}
-use Rattle.types.specs.Names.{most_instructions, number_of, answer, refusal}
+use Rattle.types.specs.Results.{Decoded}
+use Rattle.types.specs.Results.{Word, RefusedWith}
+use Rattle.types.specs.declared.Refusal.TheVariants.{Trailing}
+use Rattle.types.specs.Names.{taken_number, most_instructions, answer, refusal}
 use Rattle.spec.specs.Bytes.{decode_one, scan_of, words_of, count_of, words_in, read_answer, read_output}
 use Rattle.spec.specs.Words.{bad_landing}
 use Rattle.spec.proofs.Bools.{cases}
@@ -58,7 +58,7 @@ module _ (n i : ℕ) (t : List ℕ) (h : n ≤ i) where
   none_left : n - i ≡ 0
   none_left = omega arith
 
-  pub scan_done : i ≤ n → length t ≡ 0 → (z : Answer) → z ≡ scan_of (n - i) i t → (r : Answer) → r ≡ answer (number_of Taken) n → r ≡ z
+  pub scan_done : i ≤ n → length t ≡ 0 → (z : Answer) → z ≡ scan_of (n - i) i t → (r : Answer) → r ≡ answer taken_number n → r ≡ z
   unfolding scan_of
   scan_done g l z ez r er =
       let d : i ≡ n = omega arith in

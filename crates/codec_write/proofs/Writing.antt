@@ -10,8 +10,8 @@ use lib.ListN.{length, get_or, drop, set, length-set, length-append, drop_of_len
 use lib.Seq.{sets as stores, length-sets, drop-cons}
 use Rattle.types.specs.declared.Answer.{Answer}
 use Rattle.types.specs.declared.Fields.{Fields}
-use Rattle.types.specs.declared.Refusal.TheVariants.{SmallOutput, Taken}
-use Rattle.types.specs.Names.{most_instructions, number_of, answer, refusal, room_for}
+use Rattle.types.specs.declared.Refusal.TheVariants.{SmallOutput}
+use Rattle.types.specs.Names.{taken_number, most_instructions, answer, refusal, room_for}
 use Rattle.spec.specs.Words.{fields_of, word_refusal, first_refused}
 use Rattle.spec.specs.Bytes.{bit_of, map_of, size_of, fields_out, encode_one, bytes_of, routine_of, write_answer, write_output}
 use Rattle.spec.proofs.Bytes.{length_fields, length_routine, WriteOk, write_ok}
@@ -88,7 +88,7 @@ module _ (ws : List ℕ) (i : ℕ) (h : length ws ≤ i) where
     pub weigh_small : room < z → refusal SmallOutput 0 ≡ r
     weigh_small l = rw (lt-ltb room z l) at weigh_done
 
-    pub weigh_taken : z ≤ room → answer (number_of Taken) z ≡ r
+    pub weigh_taken : z ≤ room → answer taken_number z ≡ r
     weigh_taken l = rw (le-ltb room z l) at weigh_done
 
   pub emit_done : (to : ℕ) (o r : List ℕ) → r ≡ stores o to (bytes_of (drop i ws)) → o ≡ r

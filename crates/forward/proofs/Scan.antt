@@ -8,8 +8,8 @@ use lib.ListN.{length, get_or}
 use Rattle.types.specs.declared.Answer.{Answer}
 use Rattle.types.specs.declared.Instr.{Instr}
 use Rattle.types.specs.declared.Instr.TheVariants.{GOIF}
-use Rattle.types.specs.declared.Refusal.TheVariants.{Taken, Oversize, NotForward}
-use Rattle.types.specs.Names.{most_instructions, number_of, answer, refusal}
+use Rattle.types.specs.declared.Refusal.TheVariants.{Oversize, NotForward}
+use Rattle.types.specs.Names.{taken_number, most_instructions, answer, refusal}
 use Rattle.spec.specs.Words.{refusal_at, first_refused, instr_of, routine}
 use Rattle.forward_spec.specs.Forward.{forward_at, forward_from, forward_answer}
 use Rattle.forward_spec.proofs.Laws.{scan_more, scan_stop, scan_done, judged, words_long, words_refused, words_taken}
@@ -32,7 +32,7 @@ module _ (ws : List ℕ) (h : ℕ) (a : Answer) (ea : a ≡ forward_from (routin
     pub word_stop : p ≡ false → refusal NotForward h ≡ a
     word_stop = scan_stop (routine ws) (length ws) h a ea lt p is_forward
 
-  pub word_done : length ws ≤ h → answer (number_of Taken) 0 ≡ a
+  pub word_done : length ws ≤ h → answer taken_number 0 ≡ a
   word_done = scan_done (routine ws) (length ws) h a ea
 
 -- ---- the whole
@@ -40,7 +40,7 @@ module _ (ws : List ℕ) where
   pub oversize : most_instructions < length ws → refusal Oversize 0 ≡ forward_answer ws
   oversize h = sym (words_long ws h)
 
-  module _ (h : length ws ≤ most_instructions) (z a : Answer) (ez : z ≡ answer (number_of Taken) 0) (ea : a ≡ first_refused (refusal_at (length ws)) ws 0 z) where
+  module _ (h : length ws ≤ most_instructions) (z a : Answer) (ez : z ≡ answer taken_number 0) (ea : a ≡ first_refused (refusal_at (length ws)) ws 0 z) where
     is_judged : a ≡ judged ws
     is_judged = ea ∙ ap (first_refused (refusal_at (length ws)) ws 0) ez
 

@@ -9,8 +9,8 @@ use lib.ListN.{length}
 use Rattle.types.specs.declared.Layout.{Layout}
 use Rattle.types.specs.declared.Answer.{Answer}
 use Rattle.types.specs.declared.Instr.{Instr}
-use Rattle.types.specs.declared.Refusal.TheVariants.{Taken, Oversize, NotForward}
-use Rattle.types.specs.Names.{most_instructions, bundle_length, number_of, answer, refusal}
+use Rattle.types.specs.declared.Refusal.TheVariants.{Oversize, NotForward}
+use Rattle.types.specs.Names.{taken_number, most_instructions, bundle_length, answer, refusal}
 use Rattle.spec.specs.Words.{refusal_at, first_refused, routine}
 use Rattle.spec.specs.Bundles.{bundle_at, check_answer}
 use Rattle.spec.proofs.Refusals.{else_next, else_kept}
@@ -38,14 +38,14 @@ module _ (is : ℕ → Instr) (n h : ℕ) (a : Answer) (ea : a ≡ forward_from 
     pub scan_stop : p ≡ false → refusal NotForward h ≡ a
     scan_stop e = sym (ea ∙ ap (forward_from is h) left ∙ breaks_here is h _ (sym ep ∙ e))
 
-  pub scan_done : n ≤ h → answer (number_of Taken) 0 ≡ a
+  pub scan_done : n ≤ h → answer taken_number 0 ≡ a
   unfolding forward_from
   scan_done l = let none : n - h ≡ 0 = omega arith in sym (ea ∙ rw none)
 
 -- ---- guest words: oversize (5), the words' own refusals, not forward (18)
 module _ (ws : List ℕ) where
   abbrev pub judged : Answer
-  judged = first_refused (refusal_at (length ws)) ws 0 (answer (number_of Taken) 0)
+  judged = first_refused (refusal_at (length ws)) ws 0 (answer taken_number 0)
 
   pub words_long : most_instructions < length ws → forward_answer ws ≡ refusal Oversize 0
   unfolding forward_answer

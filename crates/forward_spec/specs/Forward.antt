@@ -4,8 +4,8 @@ use Rattle.types.specs.declared.Layout.{Layout}
 use Rattle.types.specs.declared.Answer.{Answer}
 use Rattle.types.specs.declared.Instr.{Instr}
 use Rattle.types.specs.declared.Instr.TheVariants.{HALT, PLAIN, LOAD, STORE, GOIF, GOX, EVENT}
-use Rattle.types.specs.declared.Refusal.TheVariants.{Taken, Oversize, NotForward}
-use Rattle.types.specs.Names.{most_instructions, bundle_length, number_of, answer, refusal, or_else, first, command}
+use Rattle.types.specs.declared.Refusal.TheVariants.{Oversize, NotForward}
+use Rattle.types.specs.Names.{taken_number, most_instructions, bundle_length, answer, refusal, or_else, first, command}
 use Rattle.spec.specs.Words.{kind_of, v_of, refusal_at, first_refused, routine}
 use Rattle.spec.specs.Bundles.{bundle_at, check_answer}
 
@@ -21,14 +21,14 @@ forward_at h (EVENT e) = true
 
 -- 'the lowest instruction or bundle that breaks the class is its place', among those from h to h + m − 1
 unfoldable pub forward_from : (ℕ → Instr) → ℕ → ℕ → Answer
-forward_from is h zero = answer (number_of Taken) 0
+forward_from is h zero = answer taken_number 0
 forward_from is h (suc m) = cond (forward_at h (is h)) (forward_from is (h + 1) m) (refusal NotForward h)
 
 -- the check of guest words: not forward (18) 'comes last, whatever the places: after 5, 3, 2, 4, 8'
 unfoldable pub forward_answer : List ℕ → Answer
 forward_answer ws =
     first ((ltb most_instructions (length ws), refusal Oversize 0) ∷ [])
-    (or_else (first_refused (refusal_at (length ws)) ws 0 (answer (number_of Taken) 0)) (forward_from (routine ws) 0 (length ws)))
+    (or_else (first_refused (refusal_at (length ws)) ws 0 (answer taken_number 0)) (forward_from (routine ws) 0 (length ws)))
 
 -- the check of command lists: not forward (18) comes 'after all the checker's refusals'
 unfoldable pub check_forward_answer : Layout → List ℕ → Answer

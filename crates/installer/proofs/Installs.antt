@@ -10,10 +10,10 @@ use lib.Seq.{sets}
 use borrow.Author.Tests.{eq-eqb, ne_eqb, eqb-true, le-leb}
 use Rattle.types.specs.declared.Layout.{Layout}
 use Rattle.types.specs.declared.Answer.{Answer}
-use Rattle.types.specs.declared.Installed.{Installed}
+use Rattle.types.specs.Results.{Installed}
 use Rattle.types.specs.declared.Machine.{Machine}
-use Rattle.types.specs.declared.Refusal.TheVariants.{Taken, BadLayout, BadPolicy, BadLandings}
-use Rattle.types.specs.Names.{most_states, number_of, answer, refusal}
+use Rattle.types.specs.declared.Refusal.TheVariants.{BadLayout, BadPolicy, BadLandings}
+use Rattle.types.specs.Names.{taken_number, most_states, answer, refusal}
 use Rattle.spec.specs.Layouts.{right_layout}
 use Rattle.spec.specs.Policies.{Policy, policy_of, states_right, right_policy}
 use Rattle.spec.specs.Landings.{right_landings, landings_of}
@@ -67,7 +67,7 @@ module _ (l : Layout) (s q : ℕ) (t ls mem : List ℕ) where
         unfolding install_answer
         no_landings v = rw (← e, h, ← right_is, f, ← u, v)
 
-        pub all_right : x ≡ true → answer (number_of Taken) 0 ≡ install_answer l pol mem
+        pub all_right : x ≡ true → answer taken_number 0 ≡ install_answer l pol mem
         unfolding install_answer
         all_right v = rw (← e, h, ← right_is, f, ← u, v)
 

@@ -3,7 +3,7 @@ use Rattle.std.specs.Prelude.{ℕ, List, length}
 use Rattle.types.specs.declared.Layout.{Layout}
 use Rattle.types.specs.declared.Machine.{Machine}
 use Rattle.types.specs.declared.Answer.{Answer}
-use Rattle.types.specs.declared.Installed.{Installed}
+use Rattle.types.specs.Results.{Installed}
 use Rattle.types.specs.Names.{most_instructions, answer, if_taken, or_else, output_of}
 use Rattle.spec.specs.Policies.{Policy}
 use Rattle.spec.specs.Bytes.{words_in, read_answer}

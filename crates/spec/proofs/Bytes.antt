@@ -9,8 +9,8 @@ use lib.Dec.{ltb, eqb}
 use borrow.Author.Tests.{le-ltb, lt-ltb, eq-eqb, ne_eqb, eqb-true, eqb-false, ltb-false}
 use Rattle.types.specs.declared.Fields.{Fields}
 use Rattle.types.specs.declared.Answer.{Answer}
-use Rattle.types.specs.declared.Decoded.{Decoded}
-use Rattle.types.specs.declared.Decoded.TheVariants.{Word, RefusedWith}
+use Rattle.types.specs.Results.{Decoded}
+use Rattle.types.specs.Results.{Word, RefusedWith}
 use Rattle.types.specs.declared.Refusal.TheVariants.{Short, Foreign, Oversize, SmallOutput}
 use Rattle.types.specs.Names.{most_instructions, number_of, refusal, room_for}
 use Rattle.spec.specs.Words.{fields_refusal, word_refusal, first_refused, pack_fields}

@@ -12,8 +12,8 @@ use Rattle.types.specs.declared.Layout.{Layout}
 use Rattle.types.specs.declared.Machine.{Machine}
 use Rattle.types.specs.declared.Fields.{Fields}
 use Rattle.types.specs.declared.Answer.{Answer}
-use Rattle.types.specs.declared.Decoded.{Decoded}
-use Rattle.types.specs.declared.Decoded.TheVariants.{Word, RefusedWith}
+use Rattle.types.specs.Results.{Decoded}
+use Rattle.types.specs.Results.{Word, RefusedWith}
 use Rattle.types.specs.declared.Ending.{Ending}
 use Rattle.types.specs.declared.Effect.{Effect}
 use Rattle.types.specs.declared.Effect.TheVariants.{Go, SetReg, SetCell, Order, Probe, End, Wait}

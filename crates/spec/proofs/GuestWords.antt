@@ -10,8 +10,8 @@ use Rattle.types.specs.declared.Fields.{Fields}
 use Rattle.types.specs.declared.Limits.{Limits}
 use Rattle.types.specs.declared.Instr.{Instr}
 use Rattle.types.specs.declared.Instr.TheVariants.{HALT, PLAIN, LOAD, STORE, GOIF, GOX, EVENT}
-use Rattle.types.specs.declared.Refusal.TheVariants.{Taken, BadLanding}
-use Rattle.types.specs.Names.{top_guest, top_condition, events, top_kind, guest_registers, most_instructions, guest, plain_step, number_of}
+use Rattle.types.specs.declared.Refusal.TheVariants.{BadLanding}
+use Rattle.types.specs.Names.{taken_number, top_guest, top_condition, events, top_kind, guest_registers, most_instructions, guest, plain_step, number_of}
 use Rattle.spec.specs.Words.{kind_of, d_of, a_of, b_of, c_of, v_of, zero_of, fields_of, pack_of, guest_limits, fields_refusal, word_refusal, refusal_at, instr_of}
 use Rattle.spec.specs.Commands.{limits_of}
 use Rattle.spec.proofs.Facts.{Valid}
@@ -23,7 +23,7 @@ use Rattle.spec.proofs.Packing.{InBits, guest_bits, condition_bits, pack_kind, p
 -- ---- the instruction of a taken word is valid
 
 -- a jump that is not refused as bad landing (8)
-landing : (n k v : ℕ) → cond (eqb k guest.goif && ltb n v) (number_of BadLanding) (number_of Taken) ≡ 0 → k ≡ guest.goif → v ≤ n
+landing : (n k v : ℕ) → cond (eqb k guest.goif && ltb n v) (number_of BadLanding) taken_number ≡ 0 → k ≡ guest.goif → v ≤ n
 landing n k v e at-goif =
     cond_ind (λ (x : ℕ). x ≡ 0 → v ≤ n) (eqb k guest.goif && ltb n v) (λ _ z. absurd (omega arith)) (λ l _. ltb-false n v (rw (eq-eqb k guest.goif at-goif) at l)) e
 
@@ -103,7 +103,7 @@ FieldsWithinLimits n k d a b c v =
     let l = guest_limits k in
     (k ≤ top_kind) × ((d ≤ l.d) × (a ≤ l.a) × (b ≤ l.b) × (c ≤ l.c) × (v ≤ l.v)) × (k ≡ guest.goif → v ≤ n)
 
-lands : (n k v : ℕ) → (k ≡ guest.goif → v ≤ n) → cond (eqb k guest.goif && ltb n v) (number_of BadLanding) (number_of Taken) ≡ 0
+lands : (n k v : ℕ) → (k ≡ guest.goif → v ≤ n) → cond (eqb k guest.goif && ltb n v) (number_of BadLanding) taken_number ≡ 0
 lands n k v f =
     cond_ind (λ (y : ℕ). y ≡ 0) (eqb k guest.goif && ltb n v)
     (λ e. let t = both _ _ e in absurd (let l = f (eqb-true k guest.goif t.0) in let m = ltb-true n v t.1 in omega arith))

@@ -10,8 +10,8 @@ use lib.ListN.{length, get_or, take, drop, length-append}
 use lib.Seq.{drop-cons, drop_at, get_or_at, get_or-drop, get_or-append-add}
 use lib.Dec.{eqb, ltb}
 use borrow.Author.Tests.{ne_eqb, eq-eqb, eqb-true, le-ltb, ltb-false}
-use Rattle.types.specs.declared.Decoded.{Decoded}
-use Rattle.types.specs.declared.Decoded.TheVariants.{Word, RefusedWith}
+use Rattle.types.specs.Results.{Decoded}
+use Rattle.types.specs.Results.{Word, RefusedWith}
 use Rattle.types.specs.declared.Answer.{Answer}
 use Rattle.types.specs.declared.Fields.{Fields}
 use Rattle.types.specs.Names.{most_instructions, top_word, answer}

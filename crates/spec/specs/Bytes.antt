@@ -1,7 +1,7 @@
 -- The byte form of a routine, and what reading and writing answer and leave.
 use Rattle.std.specs.Prelude.{ℕ, zero, suc, ◌+◌, ◌*◌, ◌/◌, ◌%◌, min, not, cond, List, [], ◌∷◌, ◌++◌, length, get_or, drop, ltb, eqb}
-use Rattle.spec.specs.Types.{Fields, Answer, Decoded, Word, RefusedWith, Taken, Short, Foreign, Oversize, Trailing, SmallOutput}
-use Rattle.types.specs.Names.{most_instructions, count_bytes, number_of, answer, refusal, output_of, room_for, first}
+use Rattle.spec.specs.Types.{Fields, Answer, Decoded, Word, RefusedWith, Short, Foreign, Oversize, Trailing, SmallOutput}
+use Rattle.types.specs.Names.{taken_number, most_instructions, count_bytes, number_of, answer, refusal, output_of, room_for, first}
 use Rattle.spec.specs.Words.{fields_refusal, word_refusal, first_refused, fields_of, pack_fields}
 
 -- 1 if a number is not 0, else 0
@@ -64,7 +64,7 @@ then_answer (RefusedWith x) i go = answer x i
 
 -- what reading n instructions from s answers, the first at place i; bytes left over are refused as overweight (6)
 unfoldable pub scan_of : ℕ → ℕ → List ℕ → Answer
-scan_of zero i s = cond (eqb (length s) 0) (answer (number_of Taken) i) (refusal Trailing 0)
+scan_of zero i s = cond (eqb (length s) 0) (answer taken_number i) (refusal Trailing 0)
 scan_of (suc n) i s = then_answer (decode_one s) i (λ u. scan_of n (i + 1) (drop u s))
 
 -- an instruction's word and the words that follow, or none if it is refused

@@ -12,14 +12,14 @@ pub use Rattle.types.specs.declared.Status.{Status}
 pub use Rattle.types.specs.declared.Status.TheVariants.{Running, Ended, Stopped, Faulted, Strayed}
 pub use Rattle.types.specs.declared.Machine.{Machine}
 pub use Rattle.types.specs.declared.Refusal.{Refusal}
-pub use Rattle.types.specs.declared.Refusal.TheVariants.{Taken, Short, Foreign, UnknownKind, OffRange, Oversize, Trailing, BadLayout, BadLanding, SmallOutput, BadPolicy, BadBundle, BadCount, BadBase, BadLandings, TooManyStates, BadDrawing, BadPair, NotForward}
+pub use Rattle.types.specs.declared.Refusal.TheVariants.{Short, Foreign, UnknownKind, OffRange, Oversize, Trailing, BadLayout, BadLanding, SmallOutput, BadPolicy, BadBundle, BadCount, BadBase, BadLandings, TooManyStates, BadDrawing, BadPair, NotForward}
 pub use Rattle.types.specs.declared.Answer.{Answer}
-pub use Rattle.types.specs.declared.Decoded.{Decoded}
-pub use Rattle.types.specs.declared.Decoded.TheVariants.{Word, RefusedWith}
+pub use Rattle.types.specs.Results.{Decoded}
+pub use Rattle.types.specs.Results.{Word, RefusedWith}
 pub use Rattle.types.specs.declared.Ending.{Ending}
 pub use Rattle.types.specs.declared.Ending.TheVariants.{Done, NoArrow, Fault, LogFull, Silent, Spent, NoLanding, Refused}
 pub use Rattle.types.specs.declared.RunAnswer.{RunAnswer}
 pub use Rattle.types.specs.declared.Outcome.{Outcome}
-pub use Rattle.types.specs.declared.Installed.{Installed}
+pub use Rattle.types.specs.Results.{Installed}
 pub use Rattle.types.specs.declared.Effect.{Effect}
 pub use Rattle.types.specs.declared.Effect.TheVariants.{Go, SetReg, SetCell, Order, Probe, End, Wait}

@@ -1,10 +1,13 @@
 -- Names each number of document 01 and of the change requests once, with the refusals, endings and answers.
-use Rattle.std.specs.Prelude.{ℕ, ◌+◌, ◌-◌, ◌*◌, ◌^◌, Bool, cond, List, [], ◌∷◌, ◌++◌, length, drop, eqb, ltb}
+use Rattle.std.specs.Prelude.{ℕ, ◌+◌, ◌-◌, ◌*◌, ◌^◌, ◌≡◌, ◌<◌, Bool, cond, List, [], ◌∷◌, ◌++◌, length, drop, eqb, ltb, Result, MatchResult}
 use Rattle.types.specs.declared.Refusal.{Refusal}
-use Rattle.types.specs.declared.Refusal.TheVariants.{Taken, Short, Foreign, UnknownKind, OffRange, Oversize, Trailing, BadLayout, BadLanding, SmallOutput, BadPolicy, BadBundle, BadCount, BadBase, BadLandings, TooManyStates, BadDrawing, BadPair, NotForward}
+use Rattle.types.specs.declared.Refusal.TheVariants.{Short, Foreign, UnknownKind, OffRange, Oversize, Trailing, BadLayout, BadLanding, SmallOutput, BadPolicy, BadBundle, BadCount, BadBase, BadLandings, TooManyStates, BadDrawing, BadPair, NotForward}
 use Rattle.types.specs.declared.Ending.{Ending}
 use Rattle.types.specs.declared.Ending.TheVariants.{Done, NoArrow, Fault, LogFull, Silent, Spent, NoLanding, Refused}
 use Rattle.types.specs.declared.Answer.{Answer}
+use Rattle.types.specs.declared.Status.{Status}
+use Rattle.types.specs.declared.Status.TheVariants.{Running, Ended, Stopped, Faulted, Strayed}
+use Rattle.types.specs.declared.UnknownStatus.{UnknownStatus}
 
 -- bounds of a layout: U is from 1 to 4,096, S from 1 to 16, and B has 32 bits
 abbrev pub most_cells : ℕ
@@ -105,9 +108,11 @@ command_kinds = command.event + 1
 abbrev pub plain_step : ℕ
 plain_step = command.set - guest.set
 
--- the paper's table 'Rejects'
+-- the paper's table 'Rejects': 0 is taken
+abbrev pub taken_number : ℕ
+taken_number = 0
+
 abbrev pub number_of : Refusal → ℕ
-number_of Taken = 0  -- taken
 number_of Short = 1  -- short weight
 number_of Foreign = 2  -- foreign matter
 number_of UnknownKind = 3  -- unknown variety
@@ -138,6 +143,27 @@ ending_number Spent = 25  -- spent
 ending_number NoLanding = 26  -- no landing
 ending_number Refused = number_of BadLayout
 
+-- a status as a number, for a host
+abbrev pub status_number : Status → ℕ
+status_number Running = 0
+status_number Ended = 1
+status_number Stopped = 2
+status_number Faulted = 3
+status_number Strayed = 4
+
+-- the status with this number, or the number if no status has it
+abbrev pub NamesStatus : ℕ → Result Status UnknownStatus → Type 0
+NamesStatus x r = MatchResult r (λ t. status_number t ≡ x) (λ e. (e.0 ≡ x) × (status_number Strayed < x))
+
+-- the ending of a run without a pause, by its status: 'a machine already ended, stopped or faulted answers that', a strayed one too.
+-- If it is still running, the budget is used up
+abbrev pub ending_of : Status → Ending
+ending_of Running = Spent
+ending_of Ended = Done
+ending_of Stopped = NoArrow
+ending_of Faulted = Fault
+ending_of Strayed = NoLanding
+
 -- an answer from its number and its place
 abbrev pub answer : ℕ → ℕ → Answer
 answer x p = record { number = x; place = p }
@@ -160,7 +186,7 @@ output_of a xs out = if_taken a (xs ++ drop (length xs) out) out
 
 -- small hopper (9) if k elements do not fit into `room`; else success with k, 'as place, the words, bytes or commands written'
 abbrev pub room_for : ℕ → ℕ → Answer
-room_for room k = cond (ltb room k) (refusal SmallOutput 0) (answer (number_of Taken) k)
+room_for room k = cond (ltb room k) (refusal SmallOutput 0) (answer taken_number k)
 
 -- the value beside the first test that holds, else d
 abbrev pub first : {A : Type 0} → List (Bool × A) → A → A

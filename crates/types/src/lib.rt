@@ -3,9 +3,9 @@
 
 ghost use Rattle.std.specs.Prelude.{◌≡◌};
 ghost use Rattle.types.specs.declared.Ending.TheVariants.{Refused};
-ghost use Rattle.types.specs.declared.Refusal.TheVariants.{Taken};
-ghost use Rattle.types.specs.Names.{number_of, answer};
-ghost use Rattle.types.specs.Records.{layout_of, machine_of, machine_at, machine_refused, outcome_of};
+ghost use Rattle.types.specs.Names.{number_of, ending_number, status_number, ending_of, NamesStatus};
+ghost use Rattle.types.specs.Results.{reject_at, answer_of};
+ghost use Rattle.types.specs.Records.{machine_at, machine_refused, outcome_of};
 
 // Where things lie in a drum's memory. U, SL, SH, M, P, S, B and Q are the paper's letters. Orders 0 to 7 have a ceiling each.
 #[derive(Clone, Copy)]
@@ -33,32 +33,6 @@ impl Layout {
     pub const CEILINGS: usize = PolicyNumbers::ORDERS as usize;
     // A ceiling that limits nothing.
     pub const NO_LIMIT: u32 = 4294967295;
-
-    pub fn new(
-        size: u32,
-        low: u32,
-        high: u32,
-        cell: u32,
-        table: u32,
-        states: u32,
-        base: u32,
-        landings: u32,
-        ceilings: [u32; Layout::CEILINGS],
-    ) -> Layout
-        ensures { result ≡ layout_of size low high cell table states base landings ceilings }
-    {
-        Layout {
-            size,
-            low,
-            high,
-            cell,
-            table,
-            states,
-            base,
-            landings,
-            ceilings,
-        }
-    }
 }
 
 // A policy's state count and start state. Its table, 16 bytes a state, and its landings are passed beside it as slices.
@@ -99,7 +73,7 @@ pub struct Limits {
 }
 
 // A guest instruction. PLAIN covers the kinds SET to SAR; its fields are kind, d, a, b, v.
-#[derive(Clone, Copy)]
+#[derive(Clone, Copy, Debug, PartialEq, Eq)]
 pub enum Instr {
     HALT,
     PLAIN(u64, u64, u64, u64, u64),
@@ -148,7 +122,7 @@ impl Instr {
 }
 
 // A command of the machine. Plain covers the kinds SET to SHL; its fields are kind, d, a, b, v. Invalid is any word that is no command.
-#[derive(Clone, Copy)]
+#[derive(Clone, Copy, Debug, PartialEq, Eq)]
 pub enum Command {
     Nop,
     Halt,
@@ -228,28 +202,47 @@ impl Bundle {
     pub const SHIFT: u64 = 2;
 }
 
-#[derive(Clone, Copy)]
+// How far a machine or an engine has come. `status as u32` is the number that a host sees.
+#[derive(Clone, Copy, Debug, PartialEq, Eq)]
 pub enum Status {
-    Running,
-    Ended,
-    Stopped,
-    Faulted,
-    Strayed,
+    Running = 0,
+    Ended = 1,
+    Stopped = 2,
+    Faulted = 3,
+    Strayed = 4,
 }
 
-// The numbers that a host sees for the statuses, and how many there are.
 impl Status {
-    pub const RUNNING: u32 = 0;
+    pub const COUNT: u32 = Status::Strayed as u32 + 1;
+}
 
-    pub const ENDED: u32 = 1;
+impl From<Status> for u32 {
+    ghost from_gives = { λ status n. n ≡ status_number status };
 
-    pub const STOPPED: u32 = 2;
+    fn from(status: Status) -> u32 {
+        status as u32
+    }
+}
 
-    pub const FAULTED: u32 = 3;
+// A number that no status has.
+#[derive(Clone, Copy, Debug, PartialEq, Eq)]
+pub struct UnknownStatus(pub u32);
 
-    pub const STRAYED: u32 = 4;
+impl TryFrom<u32> for Status {
+    type Error = UnknownStatus;
 
-    pub const COUNT: u32 = Status::STRAYED + 1;
+    ghost try_from_gives = { NamesStatus };
+
+    fn try_from(number: u32) -> Result<Status, UnknownStatus> {
+        match number {
+            0 => Ok(Status::Running),
+            1 => Ok(Status::Ended),
+            2 => Ok(Status::Stopped),
+            3 => Ok(Status::Faulted),
+            4 => Ok(Status::Strayed),
+            _ => Err(UnknownStatus(number)),
+        }
+    }
 }
 
 // The machine's record: what is carried from run to run, except memory.
@@ -266,159 +259,149 @@ impl Machine {
 
     pub const REGISTERS: usize = Machine::HIDDEN + 1;
 
-    pub fn from_parts(regs: [u32; Machine::REGISTERS], pc: u32, status: Status) -> Machine
-        ensures { result ≡ machine_of regs pc status }
-    {
-        Machine { regs, pc, status }
-    }
-
     // The record that installing yields: all registers 0, pc at the base, running.
     pub fn new(base: u32) -> Machine
         ensures { result ≡ machine_at base }
     {
-        Machine::from_parts([0; Machine::REGISTERS], base, Status::Running)
+        Machine {
+            regs: [0; Machine::REGISTERS],
+            pc: base,
+            status: Status::Running,
+        }
     }
 
     // The record that a refused installation yields: zeros, and faulted.
     pub fn refused() -> Machine
         ensures { result ≡ machine_refused }
     {
-        Machine::from_parts([0; Machine::REGISTERS], 0, Status::Faulted)
+        Machine {
+            regs: [0; Machine::REGISTERS],
+            pc: 0,
+            status: Status::Faulted,
+        }
     }
 }
 
-// Why a call was refused, in the order of the numbers. Those from 14 on come from the change requests, the others from document 01.
-#[derive(Clone, Copy)]
+// Why a call was refused. `refusal as u8` is its number in the paper's table. Those from 14 on come from the change requests, the others from document 01.
+#[derive(Clone, Copy, Debug, PartialEq, Eq)]
 pub enum Refusal {
-    Taken,
-    Short,
-    Foreign,
-    UnknownKind,
-    OffRange,
-    Oversize,
-    Trailing,
-    BadLayout,
-    BadLanding,
-    SmallOutput,
-    BadPolicy,
-    BadBundle,
-    BadCount,
-    BadBase,
-    BadLandings,
-    TooManyStates,
-    BadDrawing,
-    BadPair,
-    NotForward,
+    Short = 1,
+    Foreign = 2,
+    UnknownKind = 3,
+    OffRange = 4,
+    Oversize = 5,
+    Trailing = 6,
+    BadLayout = 7,
+    BadLanding = 8,
+    SmallOutput = 9,
+    BadPolicy = 10,
+    BadBundle = 11,
+    BadCount = 12,
+    BadBase = 13,
+    BadLandings = 14,
+    TooManyStates = 15,
+    BadDrawing = 16,
+    BadPair = 17,
+    NotForward = 18,
 }
 
-impl Refusal {
-    pub const TAKEN: u8 = 0;
+impl From<Refusal> for u8 {
+    ghost from_gives = { λ refusal n. n ≡ number_of refusal };
 
-    pub const SHORT: u8 = 1;
-
-    pub const FOREIGN: u8 = 2;
-
-    pub const UNKNOWN_KIND: u8 = 3;
-
-    pub const OFF_RANGE: u8 = 4;
-
-    pub const OVERSIZE: u8 = 5;
-
-    pub const TRAILING: u8 = 6;
-
-    pub const BAD_LAYOUT: u8 = 7;
-
-    pub const BAD_LANDING: u8 = 8;
-
-    pub const SMALL_OUTPUT: u8 = 9;
-
-    pub const BAD_POLICY: u8 = 10;
-
-    pub const BAD_BUNDLE: u8 = 11;
-
-    pub const BAD_COUNT: u8 = 12;
-
-    pub const BAD_BASE: u8 = 13;
-
-    pub const BAD_LANDINGS: u8 = 14;
-
-    pub const TOO_MANY_STATES: u8 = 15;
-
-    pub const BAD_DRAWING: u8 = 16;
-
-    pub const BAD_PAIR: u8 = 17;
-
-    pub const NOT_FORWARD: u8 = 18;
+    fn from(refusal: Refusal) -> u8 {
+        refusal as u8
+    }
 }
 
-// What a call answers: the refusal's number or 0, and a place. On success the place is how much was written.
-#[derive(Clone, Copy)]
+// A refusal, and the instruction or bundle that it is about, or 0.
+#[derive(Clone, Copy, Debug, PartialEq, Eq)]
+pub struct Reject {
+    pub refusal: Refusal,
+    pub place: usize,
+}
+
+impl Reject {
+    // A refusal at an instruction or a bundle.
+    pub fn at(refusal: Refusal, place: usize) -> Reject
+        ensures { result ≡ reject_at refusal place }
+    {
+        Reject { refusal, place }
+    }
+}
+
+// A refusal without a place.
+impl From<Refusal> for Reject {
+    ghost from_gives = { λ refusal e. e ≡ reject_at refusal 0 };
+
+    fn from(refusal: Refusal) -> Reject {
+        Reject { refusal, place: 0 }
+    }
+}
+
+// What a host sees of a result: the refusal's number or 0, and a place. On success the place is how much was written.
+#[derive(Clone, Copy, Debug, PartialEq, Eq)]
 pub struct Answer {
     pub number: u8,
     pub place: usize,
 }
 
 impl Answer {
-    // A refusal without a place.
-    pub fn refused(number: u8) -> Answer
-        ensures { result ≡ answer number 0 }
-    {
-        Answer { number, place: 0 }
-    }
+    // The number of a success.
+    pub const TAKEN: u8 = 0;
+}
 
-    // A refusal at an instruction or a bundle.
-    pub fn refused_at(number: u8, place: usize) -> Answer
-        ensures { result ≡ answer number place }
-    {
-        Answer { number, place }
-    }
+impl From<Result<usize, Reject>> for Answer {
+    ghost from_gives = { λ r a. a ≡ answer_of r };
 
-    // A success. The place is how much was written, or 0.
-    pub fn taken(place: usize) -> Answer
-        ensures { result ≡ answer (number_of Taken) place }
-    {
-        Answer {
-            number: Refusal::TAKEN,
-            place,
+    fn from(outcome: Result<usize, Reject>) -> Answer {
+        match outcome {
+            Ok(place) => Answer {
+                number: Answer::TAKEN,
+                place,
+            },
+            Err(reject) => Answer {
+                number: u8::from(reject.refusal),
+                place: reject.place,
+            },
         }
     }
 }
 
-// The result of reading one instruction: its word and how many bytes it took, or the refusal's number.
-#[derive(Clone, Copy)]
-pub enum Decoded {
-    Word(u64, usize),
-    RefusedWith(u8),
-}
-
-// How a run ends. Refused means that the layout or the memory was refused.
-#[derive(Clone, Copy)]
+// How a run ends, by the numbers of the paper's table. No landing (26) comes from a change request, the others from document 01.
+// Refused means that layout or memory was refused, as bad layout (7). It is an ending because `run_of` of the specs answers it as one.
+#[derive(Clone, Copy, Debug, PartialEq, Eq)]
 pub enum Ending {
-    Done,
-    NoArrow,
-    Fault,
-    LogFull,
-    Silent,
-    Spent,
-    NoLanding,
-    Refused,
+    Done = 20,
+    NoArrow = 21,
+    Fault = 22,
+    LogFull = 23,
+    Silent = 24,
+    Spent = 25,
+    NoLanding = 26,
+    Refused = 7,
 }
 
-// The numbers of the endings. No landing (26) comes from a change request, the others from document 01. A refused run answers bad layout (7).
-impl Ending {
-    pub const DONE: u8 = 20;
+impl From<Ending> for u8 {
+    ghost from_gives = { λ ending n. n ≡ ending_number ending };
 
-    pub const NO_ARROW: u8 = 21;
+    fn from(ending: Ending) -> u8 {
+        ending as u8
+    }
+}
 
-    pub const FAULT: u8 = 22;
+// The ending of a run that did not pause.
+impl From<Status> for Ending {
+    ghost from_gives = { λ status ending. ending ≡ ending_of status };
 
-    pub const LOG_FULL: u8 = 23;
-
-    pub const SILENT: u8 = 24;
-
-    pub const SPENT: u8 = 25;
-
-    pub const NO_LANDING: u8 = 26;
+    fn from(status: Status) -> Ending {
+        match status {
+            Status::Running => Ending::Spent,
+            Status::Ended => Ending::Done,
+            Status::Stopped => Ending::NoArrow,
+            Status::Faulted => Ending::Fault,
+            Status::Strayed => Ending::NoLanding,
+        }
+    }
 }
 
 // What a run answers: its ending, and how many steps it took, pairs it recorded and readings it used.
@@ -459,15 +442,8 @@ impl Outcome {
     }
 }
 
-// What installing answers, and the record that it yields.
-#[derive(Clone, Copy)]
-pub struct Installed {
-    pub machine: Machine,
-    pub answer: Answer,
-}
-
 // What one word does to a machine: jump, set a register or a cell, record an order, take a reading, end with a status, or pause.
-#[derive(Clone, Copy)]
+#[derive(Clone, Copy, Debug, PartialEq, Eq)]
 pub enum Effect {
     Go(u32),
     SetReg(usize, u32),

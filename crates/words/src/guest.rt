@@ -1,6 +1,7 @@
 // Finds the first refusal of a guest word, looked at alone.
 ghost use Rattle.std.specs.Prelude.{◌≡◌, ◌≤◌, eqb};
 ghost use Rattle.types.specs.Names.{top_kind};
+ghost use Rattle.types.specs.Results.{refusal_number};
 ghost use Rattle.spec.specs.Words.{guest_limits, word_refusal};
 ghost use Rattle.words.specs.fields.Strays.{stray_of};
 
@@ -44,17 +45,19 @@ pub fn is_instruction(w: u64) -> bool
 }
 
 // The first refusal of a word that is no instruction. It is a function of its own because it is seldom needed.
-pub fn refusal_by_fields(w: u64) -> u8
-    ensures { result ≡ word_refusal w }
+#[tactic(auto, using(crate::proofs::guest::RefusalLaws::word_refusal_lem))]
+pub fn refusal_by_fields(w: u64) -> Result<(), Refusal>
+    ensures { refusal_number result ≡ word_refusal w }
 {
     fields_refusal(field::zero(w) > 0, fields(w))
 }
 
-pub fn word_refusal(w: u64) -> u8
-    ensures { result ≡ word_refusal w }
+#[tactic(auto, using(crate::proofs::guest::RefusalLaws::clean_judged))]
+pub fn word_refusal(w: u64) -> Result<(), Refusal>
+    ensures { refusal_number result ≡ word_refusal w }
 {
     if is_instruction(w) {
-        return Refusal::TAKEN;
+        return Ok(());
     }
     refusal_by_fields(w)
 }

@@ -1,6 +1,7 @@
 // Finds the first refusal of an instruction from its fields.
 ghost use Rattle.std.specs.Prelude.{◌≡◌, ◌≤◌};
 ghost use Rattle.types.specs.Names.{top_kind};
+ghost use Rattle.types.specs.Results.{refusal_number};
 ghost use Rattle.spec.specs.Words.{limit_of, guest_limits, has_stray, has_high, fields_refusal};
 
 use crate::fields::HIDDEN;
@@ -67,21 +68,19 @@ fn has_high(l: Limits, f: Fields) -> bool
     (l.d < f.d) | (l.a < f.a) | (l.b < f.b) | (l.c < f.c) | (l.v < f.v)
 }
 
-// The first refusal: unknown variety (3), foreign matter (2) or off grade (4); else 0. `foreign` says whether the caller has found foreign matter.
-pub fn fields_refusal(foreign: bool, f: Fields) -> u8
-    ensures { result ≡ fields_refusal foreign f }
+// The first refusal: unknown variety (3), foreign matter (2) or off grade (4). `foreign` says whether the caller has found foreign matter.
+pub fn fields_refusal(foreign: bool, f: Fields) -> Result<(), Refusal>
+    ensures { refusal_number result ≡ fields_refusal foreign f }
 {
-    let kind = f.kind;
-    if kind > TOP_KIND {
-        return Refusal::UNKNOWN_KIND;
+    if f.kind > TOP_KIND {
+        return Err(Refusal::UnknownKind);
     }
-    let most = limits_of(kind);
-    let strays = foreign | has_stray(most, f);
-    if strays {
-        return Refusal::FOREIGN;
+    let most = limits_of(f.kind);
+    if foreign | has_stray(most, f) {
+        return Err(Refusal::Foreign);
     }
     if has_high(most, f) {
-        return Refusal::OFF_RANGE;
+        return Err(Refusal::OffRange);
     }
-    Refusal::TAKEN
+    Ok(())
 }

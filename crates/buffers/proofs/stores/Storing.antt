@@ -1,12 +1,18 @@
--- Laws of storing a list over another, element by element.
+-- Laws of storing a list over another.
 use Prim.Native.Nat.{ℕ, suc, ◌+◌, ◌<◌, ◌≤◌}
 use mathlib.Core.Path.{◌≡◌, refl, sym, ap, ◌∙◌}
-use mathlib.Core.List.{List, append-nil}
+use mathlib.Core.List.{List, append-nil, ◌++◌}
 use native.Mathlib.Omega.{arith}
 use native.Mathlib.Nat.{add-zero, le_of_eq}
-use lib.ListN.{length, get_or, set, drop, length-set, drop_of_length-le}
-use lib.Seq.{sets, drop-cons}
+use lib.ListN.{length, get_or, set, drop, take, length-set, drop_of_length-le}
+use Rattle.std.proofs.Common.{drop-drop, append_assoc}
+use lib.Seq.{sets, sets-eq, drop-cons}
+use borrow.Rule.Slice.PartMut.{put_mid}
 pub use Rattle.spec.proofs.Refusals.{store_front}
+
+-- elements that were copied to a part of a list are stored over it
+pub stored_part : {X : Type 0} (a k : ℕ) (xs ys zs : List X) → ys ≡ zs → k ≡ length zs → a + length zs ≤ length xs → put_mid a k xs ys ≡ sets xs a zs
+stored_part a k xs ys zs e h l = rw (e, h, drop-drop (length zs) a xs, ← append_assoc) (sym (sets-eq zs xs a l))
 
 -- i elements of t are stored over out₀ from `at` on; storing the rest gives the whole
 pub record Stored (out₀ : List ℕ) (at : ℕ) (t : List ℕ) (i : ℕ) (out : List ℕ) : Type 0 where

@@ -3,7 +3,7 @@ use Prim.Native.Nat.{ℕ}
 use mathlib.Core.Path.{◌≡◌, ap}
 use mathlib.Core.List.{List}
 use Rattle.types.specs.declared.Layout.{Layout}
-use Rattle.types.specs.declared.Installed.{Installed}
+use Rattle.types.specs.Results.{Installed}
 use Rattle.spec.specs.Policies.{Policy}
 use Rattle.spec.specs.Machines.{install_memory, install_of}
 use Rattle.capi_spec.specs.Numbers.{layout_from, machine_to, answer_to}

@@ -4,7 +4,7 @@ use mathlib.Core.Path.{◌≡◌, ap}
 use mathlib.Core.List.{List}
 use lib.ListN.{length}
 use Rattle.types.specs.declared.Layout.{Layout}
-use Rattle.types.specs.declared.Installed.{Installed}
+use Rattle.types.specs.Results.{Installed}
 use Rattle.spec.specs.Policies.{Policy}
 use Rattle.sandbox_spec.specs.Loading.{load_commands, load_memory, load_of}
 use Rattle.capi_spec.specs.Numbers.{layout_from, machine_to, answer_to}

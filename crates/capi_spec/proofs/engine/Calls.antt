@@ -10,9 +10,8 @@ use lib.ListN.{length, get_or}
 use Rattle.types.specs.declared.Layout.{Layout}
 use Rattle.types.specs.declared.Ending.{Ending}
 use Rattle.types.specs.declared.Effect.{Effect}
-use Rattle.types.specs.Names.{guest_registers, most_instructions, number_of, answer}
+use Rattle.types.specs.Names.{taken_number, guest_registers, most_instructions, answer}
 use Rattle.spec.specs.Layouts.{right_layout, not_free}
-use Rattle.types.specs.declared.Refusal.TheVariants.{Taken}
 use Rattle.spec.specs.Policies.{Policy}
 use Rattle.spec.specs.Words.{refusal_at, first_refused}
 use Rattle.spec.specs.Machines.{State, install_answer, install_memory}
@@ -136,7 +135,7 @@ host_engine_noninterference lay pol pol' mem mem' ws left left' gs gs' laid laid
     (a.isolated.noninterference pol' mem' gs' b.premise equal given))
 
 -- ---- on words that were validated, a call of either function is a call of the first
-module _ (lay ws : List ℕ) (e : (first_refused (refusal_at (length ws)) ws 0 (answer (number_of Taken) 0)).number ≡ 0) where
+module _ (lay ws : List ℕ) (e : (first_refused (refusal_at (length ws)) ws 0 (answer taken_number 0)).number ≡ 0) where
   same_entry : (n : Entry) (xs mem : List ℕ) (budget : ℕ) (rd log : List ℕ) → entry_for n lay ws xs mem budget rd log ≡ engine_for lay ws xs mem budget rd log
   unfolding entry_for engine_for continue_for
   same_entry judges_all xs mem budget rd log = refl

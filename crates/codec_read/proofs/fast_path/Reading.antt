@@ -8,8 +8,8 @@ use lib.ListN.{length, get_or}
 use lib.Dec.{ltb, eqb}
 use borrow.Author.Tests.{eq-eqb, eqb-true, eqb-false, ltb-true}
 use Rattle.types.specs.declared.Fields.{Fields}
-use Rattle.types.specs.declared.Decoded.{Decoded}
-use Rattle.types.specs.declared.Decoded.TheVariants.{Word}
+use Rattle.types.specs.Results.{Decoded}
+use Rattle.types.specs.Results.{Word}
 use Rattle.spec.specs.Words.{fields_refusal, word_refusal, pack_of}
 use Rattle.spec.specs.Bytes.{bit_of, byte_at, quad_at, fields_at, map_of, size_of, decode_one}
 use Rattle.spec.proofs.Bytes.{one_fields, fields_are, fields_word}

@@ -8,7 +8,7 @@ use native.Mathlib.Nat.{zero-mul, one-mul, mul-one}
 use lib.ListN.{get_or}
 use lib.Dec.{eqb}
 use Rattle.types.specs.declared.Fields.{Fields}
-use Rattle.types.specs.declared.Decoded.TheVariants.{Word}
+use Rattle.types.specs.Results.{Word}
 use Rattle.spec.specs.Words.{fields_refusal, pack_fields}
 use Rattle.words.specs.fields.Truncation.{truncate_fields}
 use Rattle.spec.specs.Bytes.{byte_at, quad_at, fields_at, map_of, size_of, decode_fields}

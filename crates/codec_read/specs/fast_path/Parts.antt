@@ -1,7 +1,7 @@
 -- What the fast path has read at each point, and what it promises.
 use Rattle.std.specs.Prelude.{ℕ, ◌+◌, ◌*◌, ◌/◌, ◌%◌, ◌≤◌, ◌<◌, ◌≡◌, Bool, ◌&&◌, not, List, length, get_or, eqb}
-use Rattle.types.specs.declared.Decoded.{Decoded}
-use Rattle.types.specs.declared.Decoded.TheVariants.{Word, RefusedWith}
+use Rattle.types.specs.Results.{Decoded}
+use Rattle.types.specs.Results.{Word, RefusedWith}
 use Rattle.spec.specs.Bytes.{bit_of, byte_at, quad_at, decode_one}
 use Rattle.codec_read.specs.declared.fast_path.Part.{Part}
 

@@ -10,8 +10,8 @@ use lib.ListN.{length, get_or}
 use Rattle.types.specs.declared.Layout.{Layout}
 use Rattle.types.specs.declared.Answer.{Answer}
 use Rattle.types.specs.declared.Instr.{Instr}
-use Rattle.types.specs.declared.Refusal.TheVariants.{Taken, NotForward}
-use Rattle.types.specs.Names.{bundle_length, number_of, answer, refusal, command}
+use Rattle.types.specs.declared.Refusal.TheVariants.{NotForward}
+use Rattle.types.specs.Names.{taken_number, bundle_length, answer, refusal, command}
 use Rattle.spec.specs.Words.{kind_of, v_of}
 use Rattle.spec.specs.Bundles.{decode_bundle, bundle_at, check_answer}
 use Rattle.spec.proofs.Bools.{cond_ind}
@@ -68,7 +68,7 @@ module _ (lay : Layout) (ws : List ℕ) (h : ℕ) (a : Answer) (ea : a ≡ forwa
     pub bundle_stop : p ≡ false → refusal NotForward h ≡ a
     bundle_stop = scan_stop (bundle_at lay ws) (length ws / bundle_length) h a ea lt p bundle_forward
 
-  pub bundle_done : length ws / bundle_length ≤ h → answer (number_of Taken) 0 ≡ a
+  pub bundle_done : length ws / bundle_length ≤ h → answer taken_number 0 ≡ a
   bundle_done = scan_done (bundle_at lay ws) (length ws / bundle_length) h a ea
 
 -- ---- the whole

@@ -8,8 +8,8 @@ use lib.ListN.{length}
 use borrow.Author.Tests.{lt-ltb, le-ltb}
 use Rattle.types.specs.declared.Layout.{Layout}
 use Rattle.types.specs.declared.Answer.{Answer}
-use Rattle.types.specs.declared.Refusal.TheVariants.{BadBase, BadLayout, Oversize, SmallOutput, Taken}
-use Rattle.types.specs.Names.{most_instructions, bundle_length, number_of, answer, refusal}
+use Rattle.types.specs.declared.Refusal.TheVariants.{BadBase, BadLayout, Oversize, SmallOutput}
+use Rattle.types.specs.Names.{taken_number, most_instructions, bundle_length, answer, refusal}
 use Rattle.spec.specs.Layouts.{right_layout}
 use Rattle.spec.specs.Words.{refusal_at, first_refused, bundles_for}
 use Rattle.spec.specs.Bundles.{base_right, base_room_answer, rewrite_answer}
@@ -30,7 +30,7 @@ module _ (n k : ℕ) (ek : k ≡ bundles_for n) where
     unfolding base_room_answer
     place_small e g = rw (← ek, ← eb, e, lt-ltb room (bundle_length * k) g)
 
-    pub place_taken : b ≡ true → bundle_length * k ≤ room → answer (number_of Taken) (bundle_length * k) ≡ base_room_answer l n room
+    pub place_taken : b ≡ true → bundle_length * k ≤ room → answer taken_number (bundle_length * k) ≡ base_room_answer l n room
     unfolding base_room_answer
     place_taken e g = rw (← ek, ← eb, e, le-ltb room (bundle_length * k) g)
 

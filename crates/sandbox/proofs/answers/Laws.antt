@@ -10,8 +10,8 @@ use lib.Dec.{eqb, ltb}
 use borrow.Author.Tests.{eqb-true, eqb-false, lt-ltb, le-ltb}
 use Rattle.types.specs.declared.Layout.{Layout}
 use Rattle.types.specs.declared.Answer.{Answer}
-use Rattle.types.specs.declared.Decoded.{Decoded}
-use Rattle.types.specs.declared.Decoded.TheVariants.{Word, RefusedWith}
+use Rattle.types.specs.Results.{Decoded}
+use Rattle.types.specs.Results.{Word, RefusedWith}
 use Rattle.types.specs.declared.Refusal.TheVariants.{Short, Oversize, BadLayout, BadLanding}
 use Rattle.types.specs.Names.{most_instructions, answer, refusal, or_else}
 use Rattle.spec.specs.Layouts.{right_layout}

@@ -9,7 +9,7 @@ use borrow.Author.Tests.{eq-eqb, ne_eqb}
 use Rattle.types.specs.declared.Layout.{Layout}
 use Rattle.types.specs.declared.Machine.{Machine}
 use Rattle.types.specs.declared.Answer.{Answer}
-use Rattle.types.specs.declared.Installed.{Installed}
+use Rattle.types.specs.Results.{Installed}
 use Rattle.types.specs.Names.{most_instructions, answer, or_else, output_of}
 use Rattle.spec.specs.Policies.{Policy}
 use Rattle.spec.specs.Bytes.{words_in, read_answer}

@@ -7,8 +7,7 @@ use lib.Bits.{bit_and}
 use lib.Dec.{ltb, eqb}
 use borrow.Author.Tests.{eq-eqb, ne_eqb, eqb-true, lt-ltb, ltb-true, ltb-false}
 use Rattle.types.specs.declared.Fields.{Fields}
-use Rattle.types.specs.declared.Refusal.TheVariants.{Taken}
-use Rattle.types.specs.Names.{guest_registers, top_guest, top_kind, number_of}
+use Rattle.types.specs.Names.{taken_number, guest_registers, top_guest, top_kind}
 use Rattle.spec.specs.Words.{guest_limits, fields_refusal, fields_of, kind_of, d_of, a_of, b_of, zero_of, word_refusal}
 use Rattle.spec.proofs.Bools.{both, join}
 use Rattle.spec.proofs.WordLaws.{valid_fields, judged, bounds}
@@ -70,5 +69,5 @@ module _ (w k : ℕ) (e : k ≡ kind_of w) where
     pub clean_is : (eqb (bit_and w s) 0 && g) ≡ eqb (word_refusal w) 0
     clean_is = bool_ext (eqb (bit_and w s) 0 && g) (eqb (word_refusal w) 0) (λ t. eq-eqb _ _ (clean_good t)) (λ t. good_clean (eqb-true _ _ t))
 
-pub clean_judged : (w : ℕ) (r : Bool) → r ≡ eqb (word_refusal w) 0 → r ≡ true → number_of Taken ≡ word_refusal w
+pub clean_judged : (w : ℕ) (r : Bool) → r ≡ eqb (word_refusal w) 0 → r ≡ true → taken_number ≡ word_refusal w
 clean_judged w r f e = sym (eqb-true (word_refusal w) 0 (sym f ∙ e))

@@ -5,8 +5,8 @@ use Prim.Native.Nat.{◌≤◌, ◌<◌}
 use borrow.Author.Tests.{le-ltb, lt-ltb}
 use Rattle.types.specs.declared.Fields.{Fields}
 use Rattle.types.specs.declared.Limits.{Limits}
-use Rattle.types.specs.declared.Refusal.TheVariants.{Taken, Foreign, UnknownKind, OffRange}
-use Rattle.types.specs.Names.{top_kind, number_of}
+use Rattle.types.specs.declared.Refusal.TheVariants.{Foreign, UnknownKind, OffRange}
+use Rattle.types.specs.Names.{taken_number, top_kind, number_of}
 use Rattle.spec.specs.Words.{guest_limits, has_stray, has_high, fields_refusal}
 
 module _ (x : Bool) (f : Fields) where
@@ -24,6 +24,6 @@ module _ (x : Bool) (f : Fields) where
       unfolding fields_refusal
       judge_high g = rw (le-ltb top_kind f.kind h, ← el, ← es, t, ← eq, g)
 
-      pub judge_good : q ≡ false → number_of Taken ≡ fields_refusal x f
+      pub judge_good : q ≡ false → taken_number ≡ fields_refusal x f
       unfolding fields_refusal
       judge_good g = rw (le-ltb top_kind f.kind h, ← el, ← es, t, ← eq, g)

@@ -1,5 +1,5 @@
 use mathlib.Core.Path.{ap}
-use Rattle.types.specs.declared.Installed.{Installed}
+use Rattle.types.specs.Results.{Installed}
 use lib.Dec.{lit<}
 use Rattle.sandbox_spec.proofs.Loading.{load_bound}
 use Rattle.capi_values.proofs.answers.Places.{narrow}

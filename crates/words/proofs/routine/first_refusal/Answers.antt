@@ -1,17 +1,12 @@
-use mathlib.Core.Path.{refl, ◌∙◌}
 use native.Mathlib.Omega.{arith}
-use borrow.Author.Rules.{rules}
-use Rattle.spec.proofs.Refusals.{refused_stop, refused_more, refused_done}
+use Rattle.words.proofs.routine.RefusalLaws.{goes_on, stops_at, ends}
 use Rattle.words.proofs.routine.first_refusal.Goals as goal
 
-pub loop-i-init : goal.loop-i-init
-loop-i-init c = (omega arith, refl)
-
-pub returns-then-number-ne-TAKEN : goal.returns-then-number-ne-TAKEN
-returns-then-number-ne-TAKEN c = c.refused_at.ensures ∙ search (refused_stop, rules)
+pub returns-in-Err : goal.returns-in-Err
+returns-in-Err c = stops_at _ _ c.loop-i.invariant c.loop-i-test.true _ c.in-Err.ensures _ c.at.ensures
 
 pub loop-i-preserved : goal.loop-i-preserved
-loop-i-preserved c = search (refused_more, rules)
+loop-i-preserved c = goes_on _ _ c.loop-i.invariant c.loop-i-test.true c.in_default.ensures
 
 pub returns : goal.returns
-returns c = search (refused_done, rules)
+returns c = ends _ _ c.loop-i.invariant (omega arith)
