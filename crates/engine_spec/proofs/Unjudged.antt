@@ -30,8 +30,7 @@ use Rattle.spec.proofs.Masks.{sizes}
 use Rattle.spec.proofs.RunSimulation.{lent_box, lent_cell}
 use Rattle.spec.proofs.Loops.{Goes, loop_ind, over_from, wait_from, go_from}
 use Rattle.engine_spec.specs.declared.Engine.{Engine}
-use Rattle.engine_spec.specs.declared.EngineOutcome.{EngineOutcome}
-use Rattle.engine_spec.specs.Engines.{instr_effect, instr_effect_at, next_of, with_state, apply_effect, RunResult, outcome_of, end_answer, result_in, run_from, start_of, refusal_by, refusal_of, run_of}
+use Rattle.engine_spec.specs.Engines.{EngineOutcome, instr_effect, instr_effect_at, next_of, with_state, apply_effect, RunResult, outcome_of, end_answer, result_in, run_from, start_of, refusal_by, refusal_of, run_of}
 use Rattle.engine_spec.specs.Claims.{Session, HostPremise, MemoriesPreserved, initial_session, run_on, after_taken, after_run, run_as, all_runs}
 use Rattle.engine_spec.specs.Continues.{is_instruction_at, reached_effect, reached_next, continue_from, repaired, reached_status, reached_answer, reached_engine, reached_outcome}
 use Rattle.engine_spec.specs.Continues.{reached_result, reached_state, UnjudgedWords, reached_run, reached_session, UnjudgedPremise}

@@ -1,7 +1,7 @@
 // The types of the engine of request 5, which runs guest words as they are written. Its definitions and claims are in specs/.
 #![tactic(auto)]
 
-use types::{Answer, Machine, Status};
+use types::{Ending, Machine, Status};
 
 // The engine's record: the guest's registers, the index of the next instruction, the status.
 #[derive(Clone, Copy)]
@@ -16,12 +16,11 @@ impl Engine {
     pub const REGISTERS: usize = Machine::HIDDEN;
 }
 
-// The record that a run of the engine leaves, and its answer: the number of its refusal or ending, with a place.
-// Then how many instructions it counted, pairs it recorded and readings it used.
+// The record that a run leaves, and its ending. Then how many instructions it counted, pairs it recorded and readings it used.
 #[derive(Clone, Copy)]
-pub struct EngineOutcome {
+pub struct EngineRun {
     pub engine: Engine,
-    pub answer: Answer,
+    pub ending: Ending,
     pub steps: u32,
     pub pairs: usize,
     pub used: usize,

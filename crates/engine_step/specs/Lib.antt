@@ -1,2 +1,2 @@
-pub mod events
 pub mod fetch
+pub mod sight

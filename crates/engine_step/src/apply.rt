@@ -1,11 +1,9 @@
 // Applies an effect to the engine's registers, memory and log.
 ghost use Rattle.std.specs.Prelude.{◌≡◌, ◌-◌, ◌<◌, ◌^◌, length, get_or, set};
-ghost use Rattle.types.specs.Names.{guest_registers};
 ghost use Rattle.spec.specs.Machines.{with_pair};
 ghost use Rattle.engine_spec.specs.Engines.{entry_at, InRange, apply_effect};
 ghost use Rattle.machine_step.specs.program_point.ProgramPoints.{state_at};
 
-use crate::known_cells::{read_cell, set_cell};
 use buffers::cells::peek;
 use buffers::pairs::write_pair;
 use engine_spec::Engine;
@@ -13,42 +11,34 @@ use machine_step::installed::entry_in;
 use machine_step::program_point::{Point, ended, jumped, next_pc, ordered, probed};
 use types::{Effect, Layout};
 
-// Sets register i, which is known to exist.
-fn set_register(regs: &mut [u32; Engine::REGISTERS], i: usize, x: u32)
-    requires { (i < guest_registers) × (length regs.old ≡ guest_registers) }
-    ensures { regs.new ≡ set regs.old i x }
-{
-    regs[i] = x;
-}
-
 // Sets the state and its cell to the state after event v. The entry is in memory, yet `peek`, whose test the compiler drops, makes the loop shorter.
-fn move_state(layout: Layout, v: u32, state: &mut u32, memory: &mut [u32])
-    requires { (layout.cell < length memory.old) × (state.old ≡ get_or memory.old layout.cell 0) }
-    ensures moved { memory.new ≡ set memory.old layout.cell (entry_at layout memory.old v) }
-    ensures mirrored { state.new ≡ get_or memory.new layout.cell 0 }
+fn move_state(layout: &Layout, v: u32, state: &mut u32, memory: &mut [u32])
+    requires { (layout.now.cell < length memory.old) × (state.old ≡ get_or memory.old layout.now.cell 0) }
+    ensures moved { memory.new ≡ set memory.old layout.now.cell (entry_at layout.now memory.old v) }
+    ensures mirrored { state.new ≡ get_or memory.new layout.now.cell 0 }
 {
     let x = peek(memory, entry_in(layout.table, *state, v));
-    set_cell(memory, layout.cell as usize, x);
+    memory[layout.cell as usize] = x;
     *state = x;
 }
 
 // Takes the next reading, which is known to exist, into r0, and records it as event v.
 fn probe(v: u32, regs: &mut [u32; Engine::REGISTERS], at: Point, readings: &[u32], log: &mut [u32])
-    requires { (at.pairs < 2 ^ 62) × (at.used < length readings.now) × (length regs.old ≡ guest_registers) }
+    requires { (at.pairs < 2 ^ 62) × (at.used < length readings.now) }
     ensures { (regs.new ≡ set regs.old 0 (get_or readings.now at.used 0))
         × (log.new ≡ with_pair log.old at.pairs v (get_or readings.now at.used 0)) }
 {
-    let x = read_cell(readings, at.used);
+    let x = readings[at.used];
     write_pair(log, at.pairs, v, x);
-    set_register(regs, 0, x);
+    regs[0] = x;
 }
 
 // Applies an effect, and returns the point after it. The effect is in range, so no register and no cell is tested.
-// The ceilings are lent, so that no event copies them. The present state is a local of the loop, so that no event reads its cell.
+// The present state is a local of the loop, so that no event reads its cell.
+#[tactic(auto, using(crate::proofs::apply::Laws::stored_apart, crate::proofs::apply::Laws::reading_left), unfolding(spec::specs::Machines::apply_of, engine_spec::specs::Engines::apply_effect, engine_spec::specs::Engines::with_state))]
 pub fn apply(
     e: Effect,
-    layout: Layout,
-    ceilings: &[u32; Layout::CEILINGS],
+    layout: &Layout,
     regs: &mut [u32; Engine::REGISTERS],
     at: Point,
     state: &mut u32,
@@ -56,27 +46,26 @@ pub fn apply(
     readings: &[u32],
     log: &mut [u32],
 ) -> Point
-    requires { InRange layout memory.old (length readings.now - at.used) e × (layout.cell < length memory.old)
-        × (ceilings.now ≡ layout.ceilings) × (at.pairs < 2 ^ 62) × (at.used < 2 ^ 63) × (length regs.old ≡ guest_registers)
-        × (state.old ≡ get_or memory.old layout.cell 0) }
+    requires { InRange layout.now memory.old (length readings.now - at.used) e × (layout.now.cell < length memory.old)
+        × (at.pairs < 2 ^ 62) × (at.used < 2 ^ 63) × (state.old ≡ get_or memory.old layout.now.cell 0) }
     ensures applied { state_at regs.new result memory.new log.new
-        ≡ apply_effect layout readings.now e (state_at regs.old at memory.old log.old) }
-    ensures mirrored { state.new ≡ get_or memory.new layout.cell 0 }
+        ≡ apply_effect layout.now readings.now e (state_at regs.old at memory.old log.old) }
+    ensures mirrored { state.new ≡ get_or memory.new layout.now.cell 0 }
 {
     let next = next_pc(at);
     match e {
         Effect::Go(to) => jumped(at, to),
         Effect::SetReg(d, x) => {
-            set_register(regs, d, x);
+            regs[d] = x;
             next
         }
         Effect::SetCell(i, x) => {
-            set_cell(memory, i, x);
+            memory[i] = x;
             next
         }
         Effect::Order(v) => {
             move_state(layout, v, state, memory);
-            buffers::pairs::order(ceilings, v, regs[0], log, at.pairs);
+            buffers::pairs::order(&layout.ceilings, v, regs[0], log, at.pairs);
             ordered(at)
         }
         Effect::Probe(v) => {

@@ -1,93 +1,61 @@
 // Decides the effect of the instruction at the index. It changes nothing.
-ghost use Rattle.std.specs.Prelude.{◌≡◌, true, ◌+◌, length, get_or};
-ghost use Rattle.spec.specs.Machines.{view_of};
-ghost use Rattle.engine_step.specs.fetch.Fetched.{IndexedWords, LastIndex, FetchedFields, fetched_effect};
-ghost use Rattle.engine_spec.specs.Engines.{LayoutWithin};
+ghost use Rattle.std.specs.Prelude.{◌≡◌, true, length};
+ghost use Rattle.spec.specs.Words.{instr_of, bundles_for};
+ghost use Rattle.engine_step.specs.sight.Seen.{seen};
+ghost use Rattle.engine_spec.specs.Engines.{instr_effect};
 ghost use Rattle.engine_spec.specs.Continues.{is_instruction_at, reached_effect};
 
-use crate::events::{EventContext, checked_event};
-use crate::fetch::{NO_INSTRUCTION, UNUSED_KIND, UNUSED_KIND_TOO, fetch};
-use crate::fields::{a_value, address, b_value, d_field};
+use crate::events::checked_event;
+use crate::fetch::Routine;
+use crate::fields::GuestWord;
 use crate::jumps::{branch_effect, jump_effect};
-use crate::known_cells::read_cell;
-use engine_spec::Engine;
-use types::{Effect, Instr, Layout, Status};
+use crate::sight::Sight;
+use types::{Effect, Instr, Status};
 use words::fields::v_field;
 use words::{alu, field};
 
-// The effect of a fetched word. Each of the 16 numbers of four bits has an arm, so the match compiles to one jump without a range test.
-// Each arm reads only the fields that it uses, so none is read before the jump.
-fn instruction_effect(
-    layout: Layout,
-    w: u64,
-    top: u32,
-    regs: &[u32; Engine::REGISTERS],
-    at: u32,
-    memory: &[u32],
-    context: EventContext,
-) -> Effect
-    requires { FetchedFields w × LastIndex top × LayoutWithin layout (length memory.now)
-        × (context.state ≡ get_or memory.now layout.cell 0) }
-    ensures { result ≡ fetched_effect layout (top + 1) w (view_of regs.now at memory.now layout.cell layout.table
-        layout.base layout.landings context.free context.left) }
+// The effect of a guest word. Each arm reads only the fields that it uses, so none is read before the jump.
+#[tactic(auto, using(crate::proofs::effects::Laws::arms))]
+fn instruction_effect(w: GuestWord, routine: Routine, sight: Sight) -> Effect
+    ensures { result ≡ instr_effect sight.entry.layout.now (bundles_for (length routine.entry.words.now)) (instr_of w.word) (seen sight.entry) }
 {
-    match w % field::FOUR_BITS {
+    let v = v_field(w.word);
+    let regs = sight.regs;
+    match w.word % field::FOUR_BITS {
         Instr::KIND_HALT => Effect::End(Status::Ended),
-        Instr::KIND_SET => Effect::SetReg(d_field(w), v_field(w)),
-        Instr::KIND_MOVE => Effect::SetReg(d_field(w), a_value(w, regs)),
-        Instr::KIND_ADD => Effect::SetReg(d_field(w), alu::add(a_value(w, regs), b_value(w, regs))),
-        Instr::KIND_SUB => Effect::SetReg(d_field(w), alu::sub(a_value(w, regs), b_value(w, regs))),
-        Instr::KIND_AND => Effect::SetReg(d_field(w), alu::and(a_value(w, regs), b_value(w, regs))),
-        Instr::KIND_OR => Effect::SetReg(d_field(w), alu::or(a_value(w, regs), b_value(w, regs))),
-        Instr::KIND_SAR => Effect::SetReg(d_field(w), alu::sar(a_value(w, regs), v_field(w))),
-        Instr::KIND_LOAD => Effect::SetReg(
-            d_field(w),
-            read_cell(memory, address(w, layout.low, layout.high, regs)),
-        ),
-        Instr::KIND_STORE => Effect::SetCell(
-            address(w, layout.low, layout.high, regs),
-            b_value(w, regs),
-        ),
+        Instr::KIND_SET => Effect::SetReg(w.d(), v),
+        Instr::KIND_MOVE => Effect::SetReg(w.d(), w.a(regs)),
+        Instr::KIND_ADD => Effect::SetReg(w.d(), alu::add(w.a(regs), w.b(regs))),
+        Instr::KIND_SUB => Effect::SetReg(w.d(), alu::sub(w.a(regs), w.b(regs))),
+        Instr::KIND_AND => Effect::SetReg(w.d(), alu::and(w.a(regs), w.b(regs))),
+        Instr::KIND_OR => Effect::SetReg(w.d(), alu::or(w.a(regs), w.b(regs))),
+        Instr::KIND_SAR => Effect::SetReg(w.d(), alu::sar(w.a(regs), v)),
+        Instr::KIND_LOAD => Effect::SetReg(w.d(), sight.memory[w.address(sight.layout, regs)]),
+        Instr::KIND_STORE => Effect::SetCell(w.address(sight.layout, regs), w.b(regs)),
         Instr::KIND_GOIF => branch_effect(
-            field::c(w),
-            a_value(w, regs),
-            b_value(w, regs),
-            v_field(w),
-            at,
+            alu::holds(field::c(w.word), w.a(regs), w.b(regs)),
+            v,
+            sight.at,
         ),
         Instr::KIND_GOX => jump_effect(
-            field::c(w),
-            a_value(w, regs),
-            b_value(w, regs),
-            regs[d_field(w)],
-            at,
-            top,
-            layout.landings,
-            memory,
+            alu::holds(field::c(w.word), w.a(regs), w.b(regs)),
+            regs[w.d()],
+            routine,
+            sight,
         ),
-        Instr::KIND_EVENT => checked_event(layout, v_field(w), memory, context),
-        UNUSED_KIND => Effect::End(Status::Faulted),
-        UNUSED_KIND_TOO => Effect::End(Status::Faulted),
-        NO_INSTRUCTION => Effect::End(Status::Faulted),
-        _ => Effect::End(Status::Faulted),
+        Instr::KIND_EVENT => checked_event(v, sight),
+        _ => unreachable!(),
     }
 }
 
 // The effect of the word at the index, which is known to be an instruction.
-pub fn next_effect(
-    layout: Layout,
-    words: &[u64],
-    top: u32,
-    regs: &[u32; Engine::REGISTERS],
-    at: u32,
-    memory: &[u32],
-    context: EventContext,
-) -> Effect
-    requires { IndexedWords words.now top × (is_instruction_at words.now at ≡ true) × LayoutWithin layout (length memory.now)
-        × (context.state ≡ get_or memory.now layout.cell 0) }
-    ensures { result ≡ reached_effect layout words.now (view_of regs.now at memory.now layout.cell
-        layout.table layout.base layout.landings context.free context.left) }
+#[tactic(auto, using(crate::proofs::fetch::Fetching::fetched_acts, crate::proofs::fetch::Fetching::none_acts))]
+pub fn next_effect(routine: Routine, sight: Sight) -> Effect
+    requires { is_instruction_at routine.words.now sight.at ≡ true }
+    ensures { result ≡ reached_effect sight.entry.layout.now routine.entry.words.now (seen sight.entry) }
 {
-    let w = fetch(words, top, at);
-    instruction_effect(layout, w, top, regs, at, memory, context)
+    match routine.fetch(sight.at) {
+        Some(word) => instruction_effect(GuestWord { word }, routine, sight),
+        None => Effect::End(Status::Faulted),
+    }
 }

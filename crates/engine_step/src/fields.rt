@@ -2,35 +2,44 @@
 ghost use Rattle.std.specs.Prelude.{◌≡◌, get_or};
 ghost use Rattle.spec.specs.Layouts.{mask_of};
 ghost use Rattle.spec.specs.Words.{d_of, a_of, b_of};
-ghost use Rattle.engine_step.specs.fetch.Fetched.{FetchedFields};
+ghost use Rattle.engine_step.specs.fetch.Fetched.{GuestFields};
 
 use engine_spec::Engine;
+use types::Layout;
 use words::{field, memory};
 
-pub fn d_field(w: u64) -> usize
-    ensures { result ≡ d_of w }
-{
-    field::d(w) as usize
+// A guest word whose kind is an instruction's and whose register fields name registers of the guest.
+#[derive(Clone, Copy)]
+pub struct GuestWord {
+    pub word: u64,
+    ghost fields: { GuestFields word },
 }
 
-pub fn a_value(w: u64, regs: &[u32; Engine::REGISTERS]) -> u32
-    requires { FetchedFields w }
-    ensures { result ≡ get_or regs.now (a_of w) 0 }
-{
-    regs[field::a(w) as usize]
-}
+impl GuestWord {
+    pub fn d(self) -> usize
+        ensures { result ≡ d_of self.word }
+    {
+        field::d(self.word) as usize
+    }
 
-pub fn b_value(w: u64, regs: &[u32; Engine::REGISTERS]) -> u32
-    requires { FetchedFields w }
-    ensures { result ≡ get_or regs.now (b_of w) 0 }
-{
-    regs[field::b(w) as usize]
-}
+    // The value of register a.
+    pub fn a(self, regs: &[u32; Engine::REGISTERS]) -> u32
+        ensures { result ≡ get_or regs.now (a_of self.word) 0 }
+    {
+        regs[field::a(self.word) as usize]
+    }
 
-// The masked address of a LOAD or STORE.
-pub fn address(w: u64, low: u32, high: u32, regs: &[u32; Engine::REGISTERS]) -> usize
-    requires { FetchedFields w }
-    ensures { result ≡ mask_of low high (get_or regs.now (a_of w) 0) }
-{
-    memory::mask(a_value(w, regs), low, high) as usize
+    // The value of register b.
+    pub fn b(self, regs: &[u32; Engine::REGISTERS]) -> u32
+        ensures { result ≡ get_or regs.now (b_of self.word) 0 }
+    {
+        regs[field::b(self.word) as usize]
+    }
+
+    // The masked address of a LOAD or STORE.
+    pub fn address(self, layout: &Layout, regs: &[u32; Engine::REGISTERS]) -> usize
+        ensures { result ≡ mask_of layout.now.low layout.now.high (get_or regs.now (a_of self.word) 0) }
+    {
+        memory::mask(self.a(regs), layout.low, layout.high) as usize
+    }
 }

@@ -7,4 +7,4 @@ pub mod events;
 pub mod fetch;
 pub mod fields;
 pub mod jumps;
-pub mod known_cells;
+pub mod sight;

@@ -9,8 +9,7 @@ use Rattle.spec.specs.Machines.{run_result_of}
 use Rattle.capi_spec.specs.Numbers.{layout_from, numbers_after}
 use Rattle.capi_spec.specs.Hosts.{host_result, host_after}
 use Rattle.engine_spec.specs.declared.Engine.{Engine}
-use Rattle.engine_spec.specs.declared.EngineOutcome.{EngineOutcome}
-use Rattle.engine_spec.specs.Engines.{RunResult, run_of}
+use Rattle.engine_spec.specs.Engines.{EngineOutcome, RunResult, run_of}
 use Rattle.engine_spec.specs.Continues.{continue_of}
 use Rattle.engine_spec.proofs.Isolation.{RunCounts, run_counts, run_place}
 use Rattle.engine_spec.proofs.Continues.{continue_counts, continue_place}

@@ -29,8 +29,7 @@ use Rattle.capi_spec.proofs.Numbers.{comes_back, called}
 use Rattle.spec.proofs.Counts.{apply_regs}
 use Rattle.capi_spec.proofs.Calls.{calls_from, same_calls, keeps_regs}
 use Rattle.engine_spec.specs.declared.Engine.{Engine}
-use Rattle.engine_spec.specs.declared.EngineOutcome.{EngineOutcome}
-use Rattle.engine_spec.specs.Engines.{RunResult, engine_of, initial_engine, apply_effect, with_memory, with_state, start_of, refusal_of, refusal_by, run_of}
+use Rattle.engine_spec.specs.Engines.{EngineOutcome, RunResult, engine_of, initial_engine, apply_effect, with_memory, with_state, start_of, refusal_of, refusal_by, run_of}
 use Rattle.engine_spec.specs.Claims.{Session, session_of, initial_session, run_on, after_taken, after_run, run_as, MemoriesPreserved, HostPremise}
 use Rattle.engine_spec.proofs.Runs.{engine_loop, taken_size}
 use Rattle.engine_spec.specs.Continues.{continue_refusal, continue_of, Entry, judges_all, judges_reached, Call, call_of, call_refusal, call_on, after_call, call_as}

@@ -4,8 +4,7 @@ use Rattle.types.specs.Names.{guest_registers}
 use Rattle.capi_spec.specs.Numbers.{layout_from, record_to, record_from}
 use Rattle.capi_spec.specs.Hosts.{HostResult, host_result, host_after}
 use Rattle.engine_spec.specs.declared.Engine.{Engine}
-use Rattle.engine_spec.specs.declared.EngineOutcome.{EngineOutcome}
-use Rattle.engine_spec.specs.Engines.{engine_of, RunResult, run_of}
+use Rattle.engine_spec.specs.Engines.{EngineOutcome, engine_of, RunResult, run_of}
 use Rattle.engine_spec.specs.Continues.{continue_of}
 
 -- a record as its registers, index and status

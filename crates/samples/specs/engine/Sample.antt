@@ -8,8 +8,7 @@ use Rattle.spec.specs.Guests.{pair_of}
 use Rattle.spec.specs.Runs.{RunInput, Pairwise, Run, recorded_in, MemoryPreserved, after as machineAfter}
 use Rattle.spec.specs.Claims.{AtBoundary, Waiting, with_budget, NoPause, SameInputs}
 use Rattle.samples.specs.Sample.{layout, policy, code, commands, memory, first_memory, run_input, runs as machineRuns, paused_run}
-use Rattle.engine_spec.specs.declared.EngineOutcome.{EngineOutcome}
-use Rattle.engine_spec.specs.Engines.{refusal_of}
+use Rattle.engine_spec.specs.Engines.{EngineOutcome, refusal_of}
 use Rattle.engine_spec.specs.Claims.{initial_session, run_on, after_run, after, HostPremise, PairedRuns, PausedBy, EngineNoPause, all_runs}
 use Rattle.engine_spec.specs.Continues.{judges_all, judges_reached, Call, call_by, call_as, each_call, CallPremise, reached_calls, UnjudgedPremise}
 

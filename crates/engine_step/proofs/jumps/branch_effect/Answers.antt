@@ -1,7 +1,0 @@
-use Rattle.engine_step.proofs.jumps.branch_effect.Goals as goal
-
-pub returns-then-holds : goal.returns-then-holds
-returns-then-holds c = simp (← c.holds.ensures, c.if-holds.true)
-
-pub returns : goal.returns
-returns c = simp (← c.holds.ensures, c.if-holds.false, c.add.ensures)
