@@ -32,20 +32,23 @@ pub fn bit(m: usize, field: u32) -> usize
     (m >> field) & 1
 }
 
-// Adds field x as a new lowest bit; the fields already in m move up.
-fn append(m: usize, x: u64) -> usize
-    requires { m < 64 }
-    ensures { result ≡ 2 * m + bit_of x }
+// The bit of a field's value: 1 if it is not 0, else 0.
+pub fn bit_of(x: u64) -> usize
+    ensures { result ≡ bit_of x }
 {
-    2 * m + usize::from(x != 0)
+    usize::from(x != 0)
 }
 
 // The map that marks the nonzero fields.
 pub fn map_of(f: Fields) -> usize
     ensures { result ≡ map_of f }
 {
-    let m = append(append(append(0, f.v), f.c), f.b);
-    append(append(append(m, f.a), f.d), f.kind)
+    bit_of(f.kind)
+        + (bit_of(f.d) << D)
+        + (bit_of(f.a) << A)
+        + (bit_of(f.b) << B)
+        + (bit_of(f.c) << C)
+        + (bit_of(f.v) << V)
 }
 
 // How many bytes an instruction with map m takes: the map, one for each field, four for v.

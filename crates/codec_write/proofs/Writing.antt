@@ -1,33 +1,17 @@
 -- Laws of measuring and writing a routine, in the form that the functions' proofs cite.
-use mathlib.Core.Path.{◌≡◌, refl, sym, ap, ◌∙◌}
+use mathlib.Core.Path.{◌≡◌, refl, ◌∙◌}
 use mathlib.Core.List.{List, [], ◌∷◌, ◌++◌}
-use Prim.Native.Nat.{ℕ, ◌+◌, ◌*◌, ◌/◌, ◌%◌, ◌≤◌}
+use Prim.Native.Nat.{ℕ, ◌+◌, ◌/◌, ◌%◌, ◌≤◌}
 use native.Mathlib.Omega.{arith}
 use lib.ListN.{length, drop, drop_of_length-le}
 use lib.Seq.{sets as stores}
 use Rattle.std.specs.Int.{w16, to_le_bytes}
 use Rattle.types.specs.declared.Answer.{Answer}
-use Rattle.types.specs.declared.Fields.{Fields}
 use Rattle.types.specs.Names.{most_instructions, room_for}
-use Rattle.spec.specs.Words.{fields_of, word_refusal, first_refused}
-use Rattle.spec.specs.Bytes.{bit_of, map_of, size_of, fields_out, encode_one, bytes_of, routine_of, write_answer, write_output}
-use Rattle.spec.proofs.Bytes.{length_fields, length_routine, WriteOk, write_ok}
+use Rattle.spec.specs.Words.{word_refusal, first_refused}
+use Rattle.spec.specs.Bytes.{encode_one, bytes_of, routine_of, write_answer, write_output}
+use Rattle.spec.proofs.Bytes.{length_routine, WriteOk, write_ok}
 use Rattle.spec.proofs.Refusals.{refused_done, output_kept, output_written}
-
--- ---- how many bytes a word takes, by its map
-counted : (p q r t x y : ℕ) → p ≤ 1 → q ≤ 1 → r ≤ 1 → t ≤ 1 → x ≤ 1
-    → size_of (p + 2 * q + 4 * r + 8 * t + 16 * x + 32 * y) ≡ 1 + p + q + r + t + x + 4 * y
-counted p q r t x y hp hq hr ht hx = omega arith
-
-bit_small : (x : ℕ) → bit_of x ≤ 1
-bit_small x = omega arith
-
-size_fields : (f : Fields) → size_of (map_of f) ≡ length (fields_out f)
-size_fields f =
-    counted _ _ _ _ _ (bit_of f.v) (bit_small f.kind) (bit_small f.d) (bit_small f.a) (bit_small f.b) (bit_small f.c) ∙ sym (length_fields f)
-
-pub word_size : (w : ℕ) (f : Fields) → f ≡ fields_of w → (m : ℕ) → m ≡ map_of f → (n : ℕ) → n ≡ size_of m → n ≡ length (encode_one w)
-word_size w f e m em n en = en ∙ ap size_of em ∙ size_fields f ∙ rw e
 
 -- ---- the words in order
 pub bytes_nil : bytes_of [] ≡ []

@@ -12,18 +12,19 @@ ghost use Rattle.spec.specs.Bytes.{encode_one, bytes_of, routine_of, write_answe
 
 use crate::encode::encode_word;
 use buffers::stores::store;
-use codec_read::map::{map_of, size_of};
+use codec_read::map::bit_of;
 use types::{Instr, Refusal, Reject};
 use words::fields::fields;
 use words::guest::word_refusal;
 
-// How many bytes a word takes.
-#[tactic(auto, using(crate::proofs::Writing::word_size))]
+// How many bytes a word takes: the map, one for each field, four for v.
+#[tactic(auto, using(spec::proofs::Bytes::length_fields))]
 fn encoded_size(w: u64) -> usize
     ensures value { result ≡ length (encode_one w) }
     ensures most { result ≤ 10 }
 {
-    size_of(map_of(fields(w)))
+    let f = fields(w);
+    1 + bit_of(f.kind) + bit_of(f.d) + bit_of(f.a) + bit_of(f.b) + bit_of(f.c) + 4 * bit_of(f.v)
 }
 
 // The size, or small hopper (9) if there is no room for so many bytes.
