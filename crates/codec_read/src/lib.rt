@@ -68,6 +68,7 @@ pub fn count(s: &[u8]) -> usize
 }
 
 // What reading answers. It stores nothing.
+#[tactic(auto, using(crate::proofs::Reading::read_rest, spec::proofs::Bytes::read_short, spec::proofs::Bytes::read_many, spec::proofs::Bytes::read_room))]
 fn read_check(bytes: &[u8], room: usize) -> Result<usize, Reject>
     ensures { answer_of result ≡ read_answer bytes.now room }
 {
@@ -85,6 +86,7 @@ fn read_check(bytes: &[u8], room: usize) -> Result<usize, Reject>
 }
 
 // Reads a routine into the start of `words`. One pass decides and one writes, so a refusal leaves the output as it was.
+#[tactic(auto, using(crate::proofs::Reading::ok_two, crate::proofs::Reading::filled, crate::proofs::Reading::refused, types::proofs::Exits::exit_rejected, types::proofs::Exits::refusal_counts))]
 pub fn read(bytes: &[u8], words: &mut [u64]) -> Result<usize, Reject>
     ensures answer { answer_of result ≡ read_answer bytes.now (length words.old) }
     ensures content { words.new ≡ read_output bytes.now words.old }

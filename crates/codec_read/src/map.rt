@@ -9,23 +9,23 @@ use types::Fields;
 pub const TOP_MAP: usize = 63;
 
 // The bits of the six fields. All but v have one byte.
-pub const KIND: u32 = 0;
+pub(crate) const KIND: u32 = 0;
 
-pub const D: u32 = 1;
+pub(crate) const D: u32 = 1;
 
-pub const A: u32 = 2;
+pub(crate) const A: u32 = 2;
 
-pub const B: u32 = 3;
+pub(crate) const B: u32 = 3;
 
-pub const C: u32 = 4;
+pub(crate) const C: u32 = 4;
 
-pub const V: u32 = 5;
+pub(crate) const V: u32 = 5;
 
 const ONE_BYTE: usize = (1 << V) - 1;
 
 // A bit of a map: 1 if its field is present, else 0.
 #[tactic(auto, using(std::proofs::lemmas::Nat::Bits::shr_and_one))]
-pub fn bit(m: usize, field: u32) -> usize
+pub(crate) fn bit(m: usize, field: u32) -> usize
     requires { field < 64 }
     ensures { result ≡ bit_at m field }
 {
