@@ -1,7 +1,7 @@
 -- Laws of the loop that reads and of what it makes of a routine, in the form that the functions' proofs cite.
-use mathlib.Core.Path.{◌≡◌, refl, sym, ◌∙◌}
+use mathlib.Core.Path.{◌≡◌, refl, ◌∙◌}
 use mathlib.Core.Bool.{Bool, true, false, cond}
-use mathlib.Core.List.{List}
+use mathlib.Core.List.{List, []}
 use Prim.Native.Nat.{ℕ, suc, ◌+◌, ◌-◌, ◌≤◌, ◌<◌}
 use native.Mathlib.Omega.{arith}
 use native.Mathlib.Nat.{le_of_eq}
@@ -15,10 +15,8 @@ use Rattle.std.specs.Option.{option_or}
 use Rattle.std.specs.Bool.{then_some}
 use Rattle.types.specs.declared.Answer.{Answer}
 use Rattle.types.specs.declared.Refusal.TheVariants.{Trailing}
-use Rattle.types.specs.declared.Refusal.{Refusal}
-use Rattle.types.specs.declared.Reject.{Reject}
-use Rattle.types.specs.Results.{Word, RefusedWith, reject_at, rejected}
-use Rattle.types.specs.Names.{taken_number, most_instructions, number_of, answer}
+use Rattle.types.specs.Results.{Word, RefusedWith}
+use Rattle.types.specs.Names.{taken_number, most_instructions, answer, refusal}
 use Rattle.spec.specs.Bytes.{decode_one, scan_of, words_of, count_of, words_in, read_answer, read_output}
 use Rattle.spec.specs.Words.{bad_landing}
 use Rattle.spec.proofs.Refusals.{output_kept, output_written}
@@ -34,27 +32,24 @@ rest u t h = take_all (length t - u) (drop u t) (le_of_eq (length-drop u t))
 pub used : (t : List ℕ) (w u : ℕ) → Word w u ≡ decode_one t → u ≤ length t
 used t w u e = (one_read t w u e).fits
 
--- z is the final result, which no step changes
 module _ (n i : ℕ) (t : List ℕ) (h : i < n) where
   left : n - i ≡ suc (n - (i + 1))
   left = omega arith
 
   -- an instruction is read
   module _ (w u : ℕ) (e : Word w u ≡ decode_one t) where
-    pub scan_more : (z : Answer) → z ≡ scan_of (n - i) i t → z ≡ scan_of (n - (i + 1)) (i + 1) (take (length t - u) (drop u t))
+    pub scan_more : scan_of (n - i) i t ≡ scan_of (n - (i + 1)) (i + 1) (take (length t - u) (drop u t))
     unfolding scan_of
-    scan_more z ez = ez ∙ rw (rest u t (used t w u e), left, ← e)
+    scan_more = rw (rest u t (used t w u e), left, ← e)
 
-    pub fill_more : (out out' z : List ℕ) → out' ≡ set out i w → z ≡ stores out i (words_of (n - i) t)
-        → z ≡ stores out' (i + 1) (words_of (n - (i + 1)) (take (length t - u) (drop u t)))
+    pub fill_more : (out : List ℕ) → stores out i (words_of (n - i) t) ≡ stores (set out i w) (i + 1) (words_of (n - (i + 1)) (take (length t - u) (drop u t)))
     unfolding words_of
-    fill_more out out' z eo ez = ez ∙ rw (rest u t (used t w u e), left, ← e, eo, add-one)
+    fill_more out = rw (rest u t (used t w u e), left, ← e, add-one)
 
-    pub past_more : (past past' : Option ℕ) (b : Bool) → b ≡ bad_landing n w → past' ≡ option_or past (then_some b i)
-        → (z : ℕ) → z ≡ unwrap_or past (first_past n (words_of (n - i) t) i)
-        → z ≡ unwrap_or past' (first_past n (words_of (n - (i + 1)) (take (length t - u) (drop u t))) (i + 1))
+    pub past_more : (past : Option ℕ) → unwrap_or past (first_past n (words_of (n - i) t) i)
+        ≡ unwrap_or (option_or past (then_some (bad_landing n w) i)) (first_past n (words_of (n - (i + 1)) (take (length t - u) (drop u t))) (i + 1))
     unfolding words_of first_past
-    past_more past past' b eb ep z ez = ez ∙ rw (rest u t (used t w u e), left, ← e, ← eb, ep) (go past b _)
+    past_more past = rw (rest u t (used t w u e), left, ← e) (go past (bad_landing n w) _)
       where
         go : (past : Option ℕ) (b : Bool) (y : ℕ) → unwrap_or past (cond b i y) ≡ unwrap_or (option_or past (then_some b i)) y
         go None true y = refl
@@ -67,38 +62,30 @@ module _ (n i : ℕ) (t : List ℕ) (h : i < n) where
   within_more (Some j) b p = p
 
   -- an instruction is refused
-  module _ (x : Refusal) (e : RefusedWith (number_of x) ≡ decode_one t) where
-    pub scan_stop : (r : Reject) → r ≡ reject_at x i → (z : Answer) → z ≡ scan_of (n - i) i t → rejected r ≡ z
+  module _ (x : ℕ) (e : RefusedWith x ≡ decode_one t) where
+    pub scan_stop : scan_of (n - i) i t ≡ answer x i
     unfolding scan_of
-    scan_stop r er z ez = rw er (sym (ez ∙ rw (left, ← e)))
+    scan_stop = rw (left, ← e)
 
-    pub fill_stop : (out z : List ℕ) → z ≡ stores out i (words_of (n - i) t) → out ≡ z
+    pub words_stop : words_of (n - i) t ≡ []
     unfolding words_of
-    fill_stop out z ez = sym (ez ∙ rw (left, ← e))
-
-    pub past_stop : (past : Option ℕ) (z : ℕ) → z ≡ unwrap_or past (first_past n (words_of (n - i) t) i) → unwrap_or past n ≡ z
-    unfolding words_of first_past
-    past_stop past z ez = sym (ez ∙ rw (left, ← e))
+    words_stop = rw (left, ← e)
 
 module _ (n i : ℕ) (t : List ℕ) (h : n ≤ i) where
   none_left : n - i ≡ 0
   none_left = omega arith
 
-  pub scan_done : i ≤ n → length t ≡ 0 → (z : Answer) → z ≡ scan_of (n - i) i t → answer taken_number n ≡ z
+  pub scan_done : length t ≡ 0 → scan_of (n - i) i t ≡ answer taken_number i
   unfolding scan_of
-  scan_done g l z ez = let d : i ≡ n = omega arith in sym (ez ∙ rw (none_left, eq-eqb _ _ l, d))
+  scan_done l = rw (none_left, eq-eqb _ _ l)
 
-  pub scan_over : (length t ≡ 0 → ⊥) → (r : Reject) → r ≡ reject_at Trailing 0 → (z : Answer) → z ≡ scan_of (n - i) i t → rejected r ≡ z
+  pub scan_over : (length t ≡ 0 → ⊥) → scan_of (n - i) i t ≡ refusal Trailing 0
   unfolding scan_of
-  scan_over l r er z ez = rw er (sym (ez ∙ rw (none_left, ne_eqb _ _ l)))
+  scan_over l = rw (none_left, ne_eqb _ _ l)
 
-  pub fill_done : (out z : List ℕ) → z ≡ stores out i (words_of (n - i) t) → out ≡ z
+  pub words_done : words_of (n - i) t ≡ []
   unfolding words_of
-  fill_done out z ez = sym (ez ∙ rw none_left)
-
-  pub past_done : (past : Option ℕ) (z : ℕ) → z ≡ unwrap_or past (first_past n (words_of (n - i) t) i) → unwrap_or past n ≡ z
-  unfolding words_of first_past
-  past_done past z ez = sym (ez ∙ rw none_left)
+  words_done = rw none_left
 
 -- ---- the whole
 

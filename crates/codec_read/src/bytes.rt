@@ -4,7 +4,7 @@ ghost use Rattle.spec.specs.Bytes.{byte_at, quad_at};
 
 // A field of one byte, or 0 if its map bit is 0.
 #[tactic(auto, using(std::proofs::lemmas::Bool::Decides::nat_tests), unfolding(spec::specs::Bytes::byte_at))]
-pub fn byte(s: &[u8], at: usize, bit: usize) -> u64
+pub(crate) fn byte(s: &[u8], at: usize, bit: usize) -> u64
     requires { (bit ≤ 1) × (at + bit ≤ length s.now) }
     ensures { result ≡ byte_at bit s.now at }
 {

@@ -27,7 +27,7 @@ pub struct Scanned {
 }
 
 // Reads n instructions from s and stores their words while there is room. It stops at the first refusal. With no room it only decides.
-#[tactic(auto, using(crate::proofs::Reading::used))]
+#[tactic(auto, using(crate::proofs::Reading::used, crate::proofs::Reading::scan_more, crate::proofs::Reading::fill_more, crate::proofs::Reading::past_more, crate::proofs::Reading::within_more, crate::proofs::Reading::scan_stop, crate::proofs::Reading::words_stop, crate::proofs::Reading::scan_done, crate::proofs::Reading::scan_over, crate::proofs::Reading::words_done), unfolding(crate::specs::Scans::first_past))]
 pub fn scan(s: &[u8], n: usize, words: &mut [u64]) -> Scanned
     ensures answer { answer_of result.read ≡ scan_of n 0 s.now }
     ensures past { unwrap_or result.past n ≡ first_past n (words_of n s.now) 0 }
@@ -68,6 +68,7 @@ pub fn count(s: &[u8]) -> usize
 }
 
 // What reading answers. It stores nothing.
+#[tactic(auto, using(crate::proofs::Reading::read_rest, spec::proofs::Bytes::read_short, spec::proofs::Bytes::read_many, spec::proofs::Bytes::read_room))]
 fn read_check(bytes: &[u8], room: usize) -> Result<usize, Reject>
     ensures { answer_of result ≡ read_answer bytes.now room }
 {
@@ -85,6 +86,7 @@ fn read_check(bytes: &[u8], room: usize) -> Result<usize, Reject>
 }
 
 // Reads a routine into the start of `words`. One pass decides and one writes, so a refusal leaves the output as it was.
+#[tactic(auto, using(crate::proofs::Reading::ok_two, crate::proofs::Reading::filled, crate::proofs::Reading::refused))]
 pub fn read(bytes: &[u8], words: &mut [u64]) -> Result<usize, Reject>
     ensures answer { answer_of result ≡ read_answer bytes.now (length words.old) }
     ensures content { words.new ≡ read_output bytes.now words.old }

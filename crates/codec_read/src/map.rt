@@ -9,43 +9,46 @@ use types::Fields;
 pub const TOP_MAP: usize = 63;
 
 // The bits of the six fields. All but v have one byte.
-pub const KIND: u32 = 0;
+pub(crate) const KIND: u32 = 0;
 
-pub const D: u32 = 1;
+pub(crate) const D: u32 = 1;
 
-pub const A: u32 = 2;
+pub(crate) const A: u32 = 2;
 
-pub const B: u32 = 3;
+pub(crate) const B: u32 = 3;
 
-pub const C: u32 = 4;
+pub(crate) const C: u32 = 4;
 
-pub const V: u32 = 5;
+pub(crate) const V: u32 = 5;
 
 const ONE_BYTE: usize = (1 << V) - 1;
 
 // A bit of a map: 1 if its field is present, else 0.
 #[tactic(auto, using(std::proofs::lemmas::Nat::Bits::shr_and_one))]
-pub fn bit(m: usize, field: u32) -> usize
+pub(crate) fn bit(m: usize, field: u32) -> usize
     requires { field < 64 }
     ensures { result ≡ bit_at m field }
 {
     (m >> field) & 1
 }
 
-// Adds field x as a new lowest bit; the fields already in m move up.
-fn append(m: usize, x: u64) -> usize
-    requires { m < 64 }
-    ensures { result ≡ 2 * m + bit_of x }
+// The bit of a field's value: 1 if it is not 0, else 0.
+pub fn bit_of(x: u64) -> usize
+    ensures { result ≡ bit_of x }
 {
-    2 * m + usize::from(x != 0)
+    usize::from(x != 0)
 }
 
 // The map that marks the nonzero fields.
 pub fn map_of(f: Fields) -> usize
     ensures { result ≡ map_of f }
 {
-    let m = append(append(append(0, f.v), f.c), f.b);
-    append(append(append(m, f.a), f.d), f.kind)
+    bit_of(f.kind)
+        + (bit_of(f.d) << D)
+        + (bit_of(f.a) << A)
+        + (bit_of(f.b) << B)
+        + (bit_of(f.c) << C)
+        + (bit_of(f.v) << V)
 }
 
 // How many bytes an instruction with map m takes: the map, one for each field, four for v.
