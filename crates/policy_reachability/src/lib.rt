@@ -13,9 +13,9 @@ use std::marker::Model;
 use std::num::NonZeroU16;
 
 // Room for one node more than a policy may have, and for the arrows of the nodes that it may have.
-pub const NODES: usize = MOST_STATES + 1;
+const NODES: usize = MOST_STATES + 1;
 
-pub const ARROWS: usize = EVENTS * MOST_STATES;
+const ARROWS: usize = EVENTS * MOST_STATES;
 
 // The work list: the nodes found so far, with room for one too many, their count, and for each arrow the number of the node that it leads to.
 #[derive(Drop)]
