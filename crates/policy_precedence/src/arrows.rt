@@ -22,6 +22,7 @@ impl Pairs<'_> {
     fn firsts_recorded(&self, s: usize, e: usize) -> bool
         ensures { result ≡ firsts_in self.now.pairs.now s e (pairs_in self.now.pairs.now) }
     {
+        // The two halves of a pair are read at once. A chain over chunks of two is no shorter, and each chunk's length has to be proved.
         let mut ok = true;
         for i in 0..self.pairs.len() / PAIR {
             let first = usize::from(self.pairs[PAIR * i]);

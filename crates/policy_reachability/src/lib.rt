@@ -13,11 +13,12 @@ use std::marker::Model;
 use std::num::NonZeroU16;
 
 // Room for one node more than a policy may have, and for the arrows of the nodes that it may have.
-pub const NODES: usize = MOST_STATES + 1;
+const NODES: usize = MOST_STATES + 1;
 
-pub const ARROWS: usize = EVENTS * MOST_STATES;
+const ARROWS: usize = EVENTS * MOST_STATES;
 
 // The work list: the nodes found so far, with room for one too many, their count, and for each arrow the number of the node that it leads to.
+// It is arrays and a count, since the library has no heap. Contracts see a record of the specs.
 #[derive(Drop)]
 pub struct Worklist {
     nodes: [u16; NODES],
@@ -36,6 +37,7 @@ impl Model for Worklist {
     ghost invariant = { λ w. w.count ≤ capacity };
 }
 
+// The index of node x, if it is there.
 fn index_of_node(nodes: &[u16], x: u16) -> Option<usize>
     ensures { result ≡ position (λ y. y == x) nodes.now }
 {

@@ -47,9 +47,6 @@ event_below ps e i h = ltb-true (get_or ps i 0) events (every_at _ (length ps) i
 pub shifted : (k : ℕ) → k < events → (1 * 2 ^ k) % 2 ^ 64 ≡ 2 ^ k
 shifted k h = let o : 1 * 2 ^ k ≡ 2 ^ k = omega arith in rw o (mod-eq_of_lt (pow-lt {i = k} {j = 64} (omega arith)))
 
-pub shifted_some : (k : ℕ) → k < events → 1 ≤ (1 * 2 ^ k) % 2 ^ 64
-shifted_some k h = rw (shifted k h) (pow_pos k)
-
 pub names_none : (ps : List ℕ) → 0 ≡ map_where (named_in ps 0) events
 unfolding named_in some map_where
 names_none ps = refl
@@ -70,9 +67,6 @@ few_below m e = ones-le e (bit_and m (2 ^ e - 1)) (mask_lt m e)
 
 pub below_is : (m e : ℕ) → e < events → (ones (bit_and m ((1 * 2 ^ e) % 2 ^ 64 - 1)) ≡ ones_below m e) × (ones (bit_and m ((1 * 2 ^ e) % 2 ^ 64 - 1)) ≤ e)
 below_is m e h = rw (shifted e h) (refl, few_below m e)
-
-pub below_fits : (m e : ℕ) → e < events → ones (bit_and m ((1 * 2 ^ e) % 2 ^ 64 - 1)) < 2 ^ 64
-below_fits m e h = rw (shifted e h) (omega (arith, few_below m e))
 
 module _ (ps : List ℕ) (m : ℕ) (fit : ValidPairs ps m) where
   -- an event's bit index is the number of named events below it
