@@ -4,15 +4,15 @@
 pub mod refusal;
 pub mod run_loop;
 
-ghost use Rattle.std.specs.Prelude.{◌≡◌};
+ghost use Rattle.std.specs.Prelude.{◌≡◌, Ok, length};
 ghost use Rattle.types.specs.declared.Status.TheVariants.{Running};
 ghost use Rattle.spec.specs.Machines.{run_result_of};
 ghost use Rattle.machine_step.specs.program_point.ProgramPoints.{point_of};
-ghost use Rattle.engine_spec.specs.Engines.{outcome_from, run_of};
-ghost use Rattle.engine_spec.specs.Continues.{continue_of};
+ghost use Rattle.engine_spec.specs.Engines.{LayoutWithin, outcome_from, start_of, run_of};
+ghost use Rattle.engine_spec.specs.Continues.{continue_from, continue_of};
 ghost use Rattle.engine.specs.run_loop.Segments.{run_after, rest_of};
 
-use crate::run_loop::{run_judging, run_known};
+use crate::run_loop::run_loop;
 use engine_spec::{Engine, EngineRun};
 use engine_step::fetch::Routine;
 use machine_step::program_point::{LoopExit, Point};
@@ -60,6 +60,37 @@ fn at_rest(engine: Engine) -> EngineRun
     }
 }
 
+// Runs an engine in any status.
+fn run_on(
+    layout: Layout,
+    routine: Routine,
+    engine: Engine,
+    memory: &mut [u32],
+    budget: u32,
+    readings: &[u32],
+    log: &mut [u32],
+) -> EngineRun
+    requires { LayoutWithin layout (length memory.old) }
+    ensures { run_result_of (outcome_from engine (Ok result)) memory.new log.new
+        ≡ continue_from layout routine.entry.words.now readings.now budget 0 (start_of engine memory.old log.old) }
+{
+    if engine.status != Status::Running {
+        return at_rest(engine);
+    }
+    let mut regs = engine.regs;
+    let exit = run_loop(
+        &layout,
+        routine,
+        &mut regs,
+        start(engine.at),
+        memory,
+        budget,
+        readings,
+        log,
+    );
+    finish(regs, exit)
+}
+
 // Runs the engine, with the record by value. All words are judged first. Refused as bad layout (7), then as oversize (5). Then the first bad
 // word is refused as unknown variety (3), foreign matter (2), off grade (4) or bad landing (8). A refused run changes nothing.
 pub fn run(
@@ -75,22 +106,8 @@ pub fn run(
         ≡ run_of layout words.now engine memory.old budget readings.now log.old }
 {
     crate::refusal::run_refusal(layout, words, memory.len())?;
-    if engine.status != Status::Running {
-        return Ok(at_rest(engine));
-    }
-    let mut regs = engine.regs;
-    let exit = run_known(
-        &layout,
-        Routine::new(words),
-        &mut regs,
-        start(engine.at),
-        0,
-        memory,
-        budget,
-        readings,
-        log,
-    );
-    Ok(finish(regs, exit))
+    let routine = Routine::judged(words);
+    Ok(run_on(layout, routine, engine, memory, budget, readings, log))
 }
 
 // Runs words that were judged before, and does not judge all of them again. Refused as bad layout (7), then as oversize (5).
@@ -108,19 +125,6 @@ pub fn resume(
         ≡ continue_of layout words.now engine memory.old budget readings.now log.old }
 {
     crate::refusal::continue_refusal(layout, words, memory.len())?;
-    if engine.status != Status::Running {
-        return Ok(at_rest(engine));
-    }
-    let mut regs = engine.regs;
-    let exit = run_judging(
-        &layout,
-        Routine::new(words),
-        &mut regs,
-        start(engine.at),
-        memory,
-        budget,
-        readings,
-        log,
-    );
-    Ok(finish(regs, exit))
+    let routine = Routine::unjudged(words);
+    Ok(run_on(layout, routine, engine, memory, budget, readings, log))
 }

@@ -1,11 +1,12 @@
 // The fields of a fetched word, and the values of the registers that they name.
 ghost use Rattle.std.specs.Prelude.{◌≡◌, get_or};
 ghost use Rattle.spec.specs.Layouts.{mask_of};
-ghost use Rattle.spec.specs.Words.{d_of, a_of, b_of};
+ghost use Rattle.spec.specs.Words.{d_of, a_of, b_of, v_of};
 ghost use Rattle.engine_step.specs.fetch.Fetched.{GuestFields};
 
 use engine_spec::Engine;
 use types::Layout;
+use words::fields::v_field;
 use words::{field, memory};
 
 // A guest word whose kind is an instruction's and whose register fields name registers of the guest.
@@ -20,6 +21,12 @@ impl GuestWord {
         ensures { result ≡ d_of self.word }
     {
         field::d(self.word) as usize
+    }
+
+    pub fn v(self) -> u32
+        ensures { result ≡ v_of self.word }
+    {
+        v_field(self.word)
     }
 
     // The value of register a.
