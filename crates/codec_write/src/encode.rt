@@ -7,6 +7,7 @@ use buffers::stores::store;
 use codec_read::map::map_of;
 use words::fields::fields;
 
+// `bytes` and `at` stay two parameters, since the public `encode_word` takes and returns the index: a struct of both would live for one call of it.
 // Writes a field of one byte, or nothing if it is 0. Returns the index after it.
 #[tactic(auto, using(std::proofs::lemmas::Bool::Decides::nat_tests), unfolding(spec::specs::Bytes::byte_out))]
 fn put_byte(bytes: &mut [u8], at: usize, x: u64) -> usize
@@ -38,6 +39,7 @@ fn put_quad(bytes: &mut [u8], at: usize, v: u64) -> usize
 }
 
 // Writes the bytes of a word from index `at` on. Returns the index after them.
+#[tactic(auto, using(crate::proofs::encode::Fields::encoding))]
 pub fn encode_word(bytes: &mut [u8], at: usize, w: u64) -> usize
     requires { at + length (encode_one w) ≤ length bytes.old }
     ensures next { result ≡ at + length (encode_one w) }
