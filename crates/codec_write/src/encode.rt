@@ -23,6 +23,7 @@ fn put_byte(bytes: &mut [u8], at: usize, x: u64) -> usize
     at + 1
 }
 
+// Not one function with `put_byte`: a slice of eight bytes, cut to the width, would stand for what each writes here.
 // Writes v in four bytes, low first, or nothing if it is 0. Returns the index after it.
 #[tactic(auto, using(crate::proofs::encode::Fields::quad_bytes, spec::proofs::Bytes::quad_none, spec::proofs::Bytes::length_quad))]
 fn put_quad(bytes: &mut [u8], at: usize, v: u64) -> usize
