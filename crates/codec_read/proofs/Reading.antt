@@ -87,6 +87,8 @@ module _ (n i : ℕ) (t : List ℕ) (h : n ≤ i) where
   unfolding words_of
   words_done = rw none_left
 
+pub ruleset scanning = (used, scan_more, fill_more, past_more, within_more, scan_stop, words_stop, scan_done, scan_over, words_done)
+
 -- ---- the whole
 
 pub read_rest : (s : List ℕ) (room : ℕ) → 2 ≤ length s → (n : ℕ) → n ≡ count_of s → n ≤ most_instructions → n ≤ room

@@ -2,6 +2,7 @@
 ghost use Rattle.std.specs.Prelude.{◌≡◌, ◌+◌, ◌*◌, ◌≤◌, ◌<◌, length};
 ghost use Rattle.spec.specs.Bytes.{byte_at, quad_at};
 
+// `byte` and `quad` stay two functions: one over the width would loop over the bytes where these read one, or four at once.
 // A field of one byte, or 0 if its map bit is 0.
 #[tactic(auto, using(std::proofs::lemmas::Bool::Decides::nat_tests), unfolding(spec::specs::Bytes::byte_at))]
 pub(crate) fn byte(s: &[u8], at: usize, bit: usize) -> u64

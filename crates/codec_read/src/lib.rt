@@ -27,7 +27,7 @@ pub struct Scanned {
 }
 
 // Reads n instructions from s and stores their words while there is room. It stops at the first refusal. With no room it only decides.
-#[tactic(auto, using(crate::proofs::Reading::used, crate::proofs::Reading::scan_more, crate::proofs::Reading::fill_more, crate::proofs::Reading::past_more, crate::proofs::Reading::within_more, crate::proofs::Reading::scan_stop, crate::proofs::Reading::words_stop, crate::proofs::Reading::scan_done, crate::proofs::Reading::scan_over, crate::proofs::Reading::words_done), unfolding(crate::specs::Scans::first_past))]
+#[tactic(auto, using(crate::proofs::Reading::scanning), unfolding(crate::specs::Scans::first_past))]
 pub fn scan(s: &[u8], n: usize, words: &mut [u64]) -> Scanned
     ensures answer { answer_of result.read ≡ scan_of n 0 s.now }
     ensures past { unwrap_or result.past n ≡ first_past n (words_of n s.now) 0 }

@@ -7,6 +7,7 @@ use buffers::stores::store;
 use codec_read::map::map_of;
 use words::fields::fields;
 
+// `bytes` and `at` stay two parameters, since the public `encode_word` takes and returns the index: a struct of both would live for one call of it.
 // Writes a field of one byte, or nothing if it is 0. Returns the index after it.
 #[tactic(auto, using(std::proofs::lemmas::Bool::Decides::nat_tests), unfolding(spec::specs::Bytes::byte_out))]
 fn put_byte(bytes: &mut [u8], at: usize, x: u64) -> usize
@@ -22,6 +23,7 @@ fn put_byte(bytes: &mut [u8], at: usize, x: u64) -> usize
     at + 1
 }
 
+// Not one function with `put_byte`: a slice of eight bytes, cut to the width, would stand for what each writes here.
 // Writes v in four bytes, low first, or nothing if it is 0. Returns the index after it.
 #[tactic(auto, using(crate::proofs::encode::Fields::quad_bytes, spec::proofs::Bytes::quad_none, spec::proofs::Bytes::length_quad))]
 fn put_quad(bytes: &mut [u8], at: usize, v: u64) -> usize
@@ -38,6 +40,7 @@ fn put_quad(bytes: &mut [u8], at: usize, v: u64) -> usize
 }
 
 // Writes the bytes of a word from index `at` on. Returns the index after them.
+#[tactic(auto, using(crate::proofs::encode::Fields::encoding))]
 pub fn encode_word(bytes: &mut [u8], at: usize, w: u64) -> usize
     requires { at + length (encode_one w) ≤ length bytes.old }
     ensures next { result ≡ at + length (encode_one w) }

@@ -38,7 +38,7 @@ fn room_for(room: usize, size: usize) -> Result<usize, Reject>
 }
 
 // The first refusal among the words, or how many bytes the routine takes, if there is room for them.
-#[tactic(auto, using(crate::proofs::Writing::weighed, spec::proofs::Bytes::length_routine))]
+#[tactic(auto, using(crate::proofs::Writing::measuring))]
 fn measure(words: &[u64], room: usize) -> Result<usize, Reject>
     requires { length words.now ≤ most_instructions }
     ensures { answer_of result ≡ first_refused word_refusal words.now 0 (room_for room (length (routine_of words.now))) }
@@ -54,6 +54,7 @@ fn measure(words: &[u64], room: usize) -> Result<usize, Reject>
 }
 
 // Writes the bytes of all words, from an index on.
+#[tactic(auto, using(crate::proofs::Writing::emitting))]
 fn emit(words: &[u64], bytes: &mut [u8], at: usize)
     requires { at + length (bytes_of words.now) ≤ length bytes.old }
     ensures { bytes.new ≡ stores bytes.old at (bytes_of words.now) }
