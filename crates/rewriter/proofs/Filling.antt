@@ -1,8 +1,10 @@
 -- Laws of the output of rewriting.
-use mathlib.Core.Path.{◌≡◌}
-use mathlib.Core.List.{List}
-use Prim.Native.Nat.{ℕ, ◌*◌, ◌≤◌}
-use lib.ListN.{length, get_or, get_or-eq_default}
+use mathlib.Core.Path.{◌≡◌, refl, sym, ap}
+use mathlib.Core.List.{List, [], ◌∷◌}
+use Prim.Native.Nat.{ℕ, ◌+◌, ◌*◌, ◌≤◌}
+use native.Mathlib.Omega.{arith}
+use native.Mathlib.Numerals.{towards_suc}
+use lib.ListN.{length, get_or, set, get_or-eq_default}
 use lib.Seq.{sets, length-sets}
 use Rattle.types.specs.declared.Layout.{Layout}
 use Rattle.types.specs.declared.Instr.{Instr}
@@ -25,6 +27,18 @@ module _ (ws : List ℕ) (h : ℕ) where
 
   pub fits : (l : Layout) (n room : ℕ) → BundlesFit l n ws room → (i : Instr) → i ≡ routine ws h → Packable l n i
   fits l n room r i e = record { some = r.some; most = r.most; top = r.top; valid = rw e (r.each h) }
+
+four_words : (ws : List ℕ) → length ws ≡ bundle_length → ws ≡ get_or ws 0 0 ∷ get_or ws 1 0 ∷ get_or ws 2 0 ∷ get_or ws 3 0 ∷ []
+four_words (w ∷ x ∷ y ∷ z ∷ []) e = refl
+four_words [] e = absurd (omega (arith, e))
+four_words (w ∷ []) e = absurd (omega (arith, e))
+four_words (w ∷ x ∷ []) e = absurd (omega (arith, e))
+four_words (w ∷ x ∷ y ∷ []) e = absurd (omega (arith, e))
+four_words (w ∷ x ∷ y ∷ z ∷ v ∷ vs) e = absurd (omega (arith, e))
+
+-- a bundle's words, set one by one
+pub put_four : (out ws : List ℕ) (at : ℕ) → length ws ≡ bundle_length → set (set (set (set out at (get_or ws 0 0)) (at + 1) (get_or ws 1 0)) (at + 2) (get_or ws 2 0)) (at + 3) (get_or ws 3 0) ≡ sets out at ws
+put_four out ws at e = simp towards_suc (ap (sets out at) (sym (four_words ws e)))
 
 -- ---- one bundle
 

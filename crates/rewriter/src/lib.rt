@@ -4,7 +4,7 @@
 pub mod answers;
 pub mod bundles;
 
-ghost use Rattle.std.specs.Prelude.{◌≡◌, ◌*◌, ◌≤◌, length, take};
+ghost use Rattle.std.specs.Prelude.{◌≡◌, ◌+◌, ◌*◌, ◌≤◌, length, take};
 ghost use Rattle.std.proofs.lemmas.List.Edits.{sets};
 ghost use Rattle.types.specs.Names.{bundle_length};
 ghost use Rattle.types.specs.Results.{answer_of};
@@ -30,6 +30,19 @@ fn instruction_at(words: &[u64], h: usize) -> Instr
     }
 }
 
+// Writes the words of a bundle from index `at` on. One by one: a copy of the slice takes the words through memory, and rewriting takes a fifth longer.
+#[tactic(auto, using(crate::proofs::Filling::put_four))]
+fn write_bundle(commands: &mut [u64], at: usize, made: Bundle)
+    requires { at + bundle_length ≤ length commands.old }
+    ensures { commands.new ≡ sets commands.old at made.words }
+{
+    let [w, x, y, z] = made.words;
+    commands[at] = w;
+    commands[at + 1] = x;
+    commands[at + 2] = y;
+    commands[at + Bundle::TAIL] = z;
+}
+
 // Replaces the k words at the start of `commands` by their bundles. It starts with the last: bundle h begins at 4h, so it overwrites no word before h.
 #[tactic(auto, using(crate::proofs::Filling::ready_room, crate::proofs::Filling::length_put, crate::proofs::Expanding::expand_start, crate::proofs::Expanding::expand_packable, crate::proofs::Expanding::expand_more, crate::proofs::Expanding::expand_done))]
 pub fn expand(layout: Layout, n: usize, k: usize, commands: &mut [u64])
@@ -38,7 +51,7 @@ pub fn expand(layout: Layout, n: usize, k: usize, commands: &mut [u64])
 {
     for h in (0..n).rev() {
         let made = bundle(layout, n, instruction_at(&commands[..k], h));
-        store(commands, Bundle::LENGTH * h, &made.words);
+        write_bundle(commands, Bundle::LENGTH * h, made);
     }
 }
 
