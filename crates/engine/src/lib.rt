@@ -15,6 +15,7 @@ ghost use Rattle.engine.specs.run_loop.Segments.{run_after, rest_of};
 use crate::run_loop::run_loop;
 use engine_spec::{Engine, EngineRun};
 use engine_step::fetch::Routine;
+use engine_step::plan::Plan;
 use machine_step::program_point::{LoopExit, Point};
 use types::{Ending, Layout, Reject, Status};
 
@@ -78,8 +79,13 @@ fn run_on(
         return at_rest(engine);
     }
     let mut regs = engine.regs;
+    let ceilings = layout.ceilings;
+    let plan = Plan {
+        layout: &layout,
+        ceilings: &ceilings,
+    };
     let exit = run_loop(
-        &layout,
+        plan,
         routine,
         &mut regs,
         start(engine.at),

@@ -4,6 +4,7 @@ ghost use Rattle.spec.specs.Machines.{with_pair};
 ghost use Rattle.engine_spec.specs.Engines.{entry_at, InRange, apply_effect};
 ghost use Rattle.machine_step.specs.program_point.ProgramPoints.{state_at};
 
+use crate::plan::Plan;
 use buffers::cells::peek;
 use buffers::pairs::write_pair;
 use engine_spec::Engine;
@@ -38,7 +39,7 @@ fn probe(v: u32, regs: &mut [u32; Engine::REGISTERS], at: Point, readings: &[u32
 #[tactic(auto, using(crate::proofs::apply::Laws::stored_apart, crate::proofs::apply::Laws::reading_left), unfolding(spec::specs::Machines::apply_of, engine_spec::specs::Engines::apply_effect, engine_spec::specs::Engines::with_state))]
 pub fn apply(
     e: Effect,
-    layout: &Layout,
+    plan: Plan,
     regs: &mut [u32; Engine::REGISTERS],
     at: Point,
     state: &mut u32,
@@ -46,11 +47,11 @@ pub fn apply(
     readings: &[u32],
     log: &mut [u32],
 ) -> Point
-    requires { InRange layout.now memory.old (length readings.now - at.used) e × (layout.now.cell < length memory.old)
-        × (at.pairs < 2 ^ 62) × (at.used < 2 ^ 63) × (state.old ≡ get_or memory.old layout.now.cell 0) }
+    requires { InRange plan.layout.now memory.old (length readings.now - at.used) e × (plan.layout.now.cell < length memory.old)
+        × (at.pairs < 2 ^ 62) × (at.used < 2 ^ 63) × (state.old ≡ get_or memory.old plan.layout.now.cell 0) }
     ensures applied { state_at regs.new result memory.new log.new
-        ≡ apply_effect layout.now readings.now e (state_at regs.old at memory.old log.old) }
-    ensures mirrored { state.new ≡ get_or memory.new layout.now.cell 0 }
+        ≡ apply_effect plan.entry.layout.now readings.now e (state_at regs.old at memory.old log.old) }
+    ensures mirrored { state.new ≡ get_or memory.new plan.entry.layout.now.cell 0 }
 {
     let next = next_pc(at);
     match e {
@@ -64,12 +65,13 @@ pub fn apply(
             next
         }
         Effect::Order(v) => {
-            move_state(layout, v, state, memory);
-            buffers::pairs::order(&layout.ceilings, v, regs[0], log, at.pairs);
+            move_state(plan.layout, v, state, memory);
+            let ceilings = plan.ceilings;
+            buffers::pairs::order(ceilings, v, regs[0], log, at.pairs);
             ordered(at)
         }
         Effect::Probe(v) => {
-            move_state(layout, v, state, memory);
+            move_state(plan.layout, v, state, memory);
             probe(v, regs, at, readings, log);
             probed(at)
         }

@@ -7,4 +7,5 @@ pub mod events;
 pub mod fetch;
 pub mod fields;
 pub mod jumps;
+pub mod plan;
 pub mod sight;
