@@ -6,9 +6,6 @@ ghost use Rattle.capi.specs.determinise.Numbers.{starts_from, policy_to};
 use capi_values::answers::{MADE, made_of};
 use types::Answer;
 
-// A set of 16 states is below this.
-const MAPS: u32 = 65536;
-
 // Start sets that are out of range become empty; both are refused as bad drawing (16).
 fn starts_of(map: u32) -> u16
     ensures { result ≡ starts_from map }
