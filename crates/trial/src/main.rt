@@ -8,6 +8,7 @@ ghost use Rattle.std.specs.Prelude.{◌*◌, ◌≤◌, length};
 ghost use Rattle.types.specs.Names.{pair_cells};
 
 use lines::{BASE, drum};
+use sandbox::LentPolicy;
 use std::io;
 use types::{Answer, Bundle, Instr, Layout, Machine, PolicyNumbers, RunAnswer};
 
@@ -71,22 +72,17 @@ fn try_routine(rt: &impl Print, bytes: &[u8]) -> io::Result<()> {
         0u8, 0, 1, 0, 0, 0, 0, 0, 0, 0, 0, 0, 0, 0, 0, 0, NO_ARROW, 1, 1, 1, 1, 1, 1, 1, 1, 1, 1,
         1, 1, 1, 1, 1,
     ];
-    let policy = PolicyNumbers {
-        states: 2,
-        start: 0,
+    let policy = LentPolicy {
+        numbers: PolicyNumbers {
+            states: 2,
+            start: 0,
+        },
+        table: &table,
+        landings: &all_landings(),
     };
-    let landings = all_landings();
     let mut commands = [0u64; Bundle::MOST_COMMANDS];
     let mut memory = [0u32; CELLS];
-    match sandbox::load(
-        layout,
-        policy,
-        &table,
-        &landings,
-        bytes,
-        &mut commands,
-        &mut memory,
-    ) {
+    match sandbox::load(layout, policy, bytes, &mut commands, &mut memory) {
         Err(reject) => print_answer(rt, u8::from(reject.refusal)),
         Ok(loaded) => {
             print_answer(rt, Answer::TAKEN)?;
