@@ -36,7 +36,7 @@ fn is_bundle_address(l: Layout, n: usize, v: u64) -> bool
     (away % BUNDLE_LENGTH == 0) & (away / BUNDLE_LENGTH < n as u64)
 }
 
-// A GOIF must go to the first command of one of n bundles.
+// A GOIF must go to the first command of one of n bundles. It takes layout and n, and no `Extent`, since it is right for every n.
 pub fn is_goif(l: Layout, n: usize, words: &[u64; Bundle::LENGTH]) -> bool
     ensures { result ≡ on_four (goif_words l n) words.now }
 {

@@ -24,7 +24,7 @@ fn forward_at(h: usize, i: Instr) -> bool
     }
 }
 
-// Refuses the first instruction that is not forward (18).
+// Refuses the first instruction that is not forward (18). `list` has the same loop over bundles: one for both would take the test as a closure, and be longer than either.
 #[tactic(auto, using(crate::proofs::Scan::word_stop, crate::proofs::Scan::word_more, crate::proofs::Scan::word_done))]
 fn scan_words(words: &[u64]) -> Result<(), Reject>
     ensures { verdict_of result ≡ forward_from (routine words.now) 0 (length words.now) }
