@@ -23,10 +23,10 @@ all_lost x v h = let e : v ≡ v - cell_bits + cell_bits = omega arith in rw e (
 
 none_left : (n v : ℕ) → n < 2 ^ top_shift → n / 2 ^ min v top_shift ≡ n / 2 ^ v
 none_left n v h =
-    elim (cases_lt v top_shift)
-      [ inl l ↦ rw (min-eq_left (le_of_lt l))
+    elim (cases_lt v top_shift) [
+      | inl l ↦ rw (min-eq_left (le_of_lt l))
       | inr g ↦ rw (min-eq_right g) (div-eq_of_lt h ∙ sym (div-eq_of_lt (lt_of_lt_of_le h (pow_mono g))))
-      ]
+    ]
 
 -- a shift by more than 31 gives the same as a shift by 31: only the sign is left
 sign_left : (z : ℤ) (v : ℕ) → FitsSigned w32 z → int_shr z (min v top_shift) ≡ int_shr z v
