@@ -1,2 +1,1 @@
 pub mod run_loop
-pub mod tiers

@@ -5,6 +5,8 @@ use Rattle.types.specs.declared.Refusal.TheVariants.{Taken, Short, Foreign, Unkn
 use Rattle.types.specs.declared.Ending.{Ending}
 use Rattle.types.specs.declared.Ending.TheVariants.{Done, NoArrow, Fault, LogFull, Silent, Spent, NoLanding, Refused}
 use Rattle.types.specs.declared.Answer.{Answer}
+use Rattle.types.specs.declared.Status.{Status}
+use Rattle.types.specs.declared.Status.TheVariants.{Running, Ended, Stopped, Faulted, Strayed}
 
 -- bounds of a layout: U is from 1 to 4,096, S from 1 to 16, and B has 32 bits
 abbrev pub most_cells : ℕ
@@ -137,6 +139,15 @@ ending_number Silent = 24  -- probe silent
 ending_number Spent = 25  -- spent
 ending_number NoLanding = 26  -- no landing
 ending_number Refused = number_of BadLayout
+
+-- the ending of a run without a pause, by its status: 'a machine already ended, stopped or faulted answers that', a strayed one too.
+-- If it is still running, the budget is used up
+abbrev pub ending_of : Status → Ending
+ending_of Running = Spent
+ending_of Ended = Done
+ending_of Stopped = NoArrow
+ending_of Faulted = Fault
+ending_of Strayed = NoLanding
 
 -- an answer from its number and its place
 abbrev pub answer : ℕ → ℕ → Answer

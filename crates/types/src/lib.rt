@@ -4,7 +4,7 @@
 ghost use Rattle.std.specs.Prelude.{◌≡◌};
 ghost use Rattle.types.specs.declared.Ending.TheVariants.{Refused};
 ghost use Rattle.types.specs.declared.Refusal.TheVariants.{Taken};
-ghost use Rattle.types.specs.Names.{number_of, answer};
+ghost use Rattle.types.specs.Names.{number_of, answer, ending_number, ending_of};
 ghost use Rattle.types.specs.Records.{layout_of, machine_of, machine_at, machine_refused, outcome_of};
 
 // Where things lie in a drum's memory. U, SL, SH, M, P, S, B and Q are the paper's letters. Orders 0 to 7 have a ceiling each.
@@ -228,7 +228,7 @@ impl Bundle {
     pub const SHIFT: u64 = 2;
 }
 
-#[derive(Clone, Copy)]
+#[derive(Clone, Copy, Debug, PartialEq, Eq)]
 pub enum Status {
     Running,
     Ended,
@@ -392,16 +392,16 @@ pub enum Decoded {
 }
 
 // How a run ends. Refused means that the layout or the memory was refused.
-#[derive(Clone, Copy)]
+#[derive(Clone, Copy, Debug, PartialEq, Eq)]
 pub enum Ending {
-    Done,
-    NoArrow,
-    Fault,
-    LogFull,
-    Silent,
-    Spent,
-    NoLanding,
-    Refused,
+    Done = 20,
+    NoArrow = 21,
+    Fault = 22,
+    LogFull = 23,
+    Silent = 24,
+    Spent = 25,
+    NoLanding = 26,
+    Refused = 7,
 }
 
 // The numbers of the endings. No landing (26) comes from a change request, the others from document 01. A refused run answers bad layout (7).
@@ -419,6 +419,29 @@ impl Ending {
     pub const SPENT: u8 = 25;
 
     pub const NO_LANDING: u8 = 26;
+}
+
+impl From<Ending> for u8 {
+    ghost from_gives = { λ ending n. n ≡ ending_number ending };
+
+    fn from(ending: Ending) -> u8 {
+        ending as u8
+    }
+}
+
+// The ending of a run that did not pause, by its status.
+impl From<Status> for Ending {
+    ghost from_gives = { λ status ending. ending ≡ ending_of status };
+
+    fn from(status: Status) -> Ending {
+        match status {
+            Status::Running => Ending::Spent,
+            Status::Ended => Ending::Done,
+            Status::Stopped => Ending::NoArrow,
+            Status::Faulted => Ending::Fault,
+            Status::Strayed => Ending::NoLanding,
+        }
+    }
 }
 
 // What a run answers: its ending, and how many steps it took, pairs it recorded and readings it used.
@@ -467,7 +490,7 @@ pub struct Installed {
 }
 
 // What one word does to a machine: jump, set a register or a cell, record an order, take a reading, end with a status, or pause.
-#[derive(Clone, Copy)]
+#[derive(Clone, Copy, Debug, PartialEq, Eq)]
 pub enum Effect {
     Go(u32),
     SetReg(usize, u32),
