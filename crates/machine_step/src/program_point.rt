@@ -45,10 +45,11 @@ impl Point {
         self.jumped(self.pc.wrapping_add(1))
     }
 
-    pub fn jumped(self, to: u32) -> Point
+    pub fn jumped(mut self, to: u32) -> Point
         ensures { result ≡ point_of to self.status self.pairs self.used }
     {
-        Point { pc: to, ..self }
+        self.pc = to;
+        self
     }
 
     pub fn ended(self, status: Status) -> Point
