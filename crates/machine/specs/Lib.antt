@@ -1,1 +1,2 @@
 pub mod run_loop
+pub mod tiers
