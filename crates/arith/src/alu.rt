@@ -4,18 +4,17 @@ ghost use Rattle.spec.specs.Commands.{add_of, sub_of, shl_of, holds_of};
 
 use crate::signed::less;
 pub use crate::signed::sar;
-use types::Layout;
 
 pub fn add(x: u32, y: u32) -> u32
     ensures { result ≡ add_of x y }
 {
-    std::num::wrapping_add_u32(x, y)
+    x.wrapping_add(y)
 }
 
 pub fn sub(x: u32, y: u32) -> u32
     ensures { result ≡ sub_of x y }
 {
-    std::num::wrapping_sub_u32(x, y)
+    x.wrapping_sub(y)
 }
 
 pub fn and(x: u32, y: u32) -> u32
@@ -31,16 +30,14 @@ pub fn or(x: u32, y: u32) -> u32
 }
 
 // Shifting by 32 or more leaves 0.
+#[tactic(auto, using(crate::proofs::signed::Signs::all_lost))]
 pub fn shl(x: u32, v: u32) -> u32
     ensures { result ≡ shl_of x v }
 {
-    if v >= Layout::CELL_BITS {
-        return 0;
-    }
-    x << v
+    x.unbounded_shl(v)
 }
 
-// Whether condition c holds of x and y.
+// Whether condition c holds of x and y. A number, the field of a word: an enum would be a match more, and takes more instructions at each jump.
 pub fn holds(c: u64, x: u32, y: u32) -> bool
     ensures { result ≡ holds_of c x y }
 {

@@ -6,6 +6,7 @@ ghost use Rattle.capi_spec.specs.Hosts.{check_for};
 
 use capi_values::answers::{ANSWER, answer_of};
 use capi_values::layouts::{LAYOUT, layout_of};
+use types::Answer;
 
 #[unsafe(no_mangle)]
 pub extern "C" fn hemdroas_rewrite(
@@ -18,7 +19,7 @@ pub extern "C" fn hemdroas_rewrite(
         (length commands.old)) }
     ensures content { commands.new ≡ rewrite_output (layout_from layout.now) words.now commands.old }
 {
-    *answer = answer_of(rewriter::rewrite(layout_of(layout), words, commands));
+    *answer = answer_of(Answer::from(rewriter::rewrite(layout_of(layout), words, commands)));
 }
 
 #[unsafe(no_mangle)]
@@ -29,5 +30,5 @@ pub extern "C" fn hemdroas_check(
 )
     ensures { answer.new ≡ check_for layout.now commands.now }
 {
-    *answer = answer_of(checker::check(layout_of(layout), commands));
+    *answer = answer_of(Answer::from(checker::check(layout_of(layout), commands)));
 }

@@ -4,15 +4,13 @@ ghost use Rattle.policy_determinise.specs.Drawings.{drawing_of, determinise_of, 
 ghost use Rattle.capi.specs.determinise.Numbers.{starts_from, policy_to};
 
 use capi_values::answers::{MADE, made_of};
-
-// A set of 16 states is below this.
-const MAPS: u32 = 65536;
+use types::Answer;
 
 // Start sets that are out of range become empty; both are refused as bad drawing (16).
 fn starts_of(map: u32) -> u16
     ensures { result ≡ starts_from map }
 {
-    if map < MAPS { map as u16 } else { 0 }
+    u16::try_from(map).unwrap_or(0)
 }
 
 #[unsafe(no_mangle)]
@@ -26,6 +24,8 @@ pub extern "C" fn hemdroas_determinise(
     ensures made { made.new ≡ policy_to (determinise_of (drawing_of states starts arrows.now) (length table.old)) }
     ensures table { table.new ≡ determinise_table (drawing_of states starts arrows.now) table.old }
 {
-    let m = policy_determinise::determinise(states, starts_of(starts), arrows, table);
-    *made = made_of(m.answer, m.policy.states, m.policy.start);
+    *made = match policy_determinise::determinise(states, starts_of(starts), arrows, table) {
+        Ok(m) => made_of(Answer::from(Ok(m.bytes)), m.policy.states, m.policy.start),
+        Err(reject) => made_of(Answer::from(Err(reject)), 0, 0),
+    };
 }

@@ -5,12 +5,13 @@ ghost use Rattle.forward_spec.specs.Forward.{forward_answer, check_forward_answe
 
 use capi_values::answers::{ANSWER, answer_of};
 use capi_values::layouts::{LAYOUT, layout_of};
+use types::Answer;
 
 #[unsafe(no_mangle)]
 pub extern "C" fn hemdroas_forward(words: &[u64], answer: &mut [u32; ANSWER])
     ensures { answer.new ≡ answer_to (forward_answer words.now) }
 {
-    *answer = answer_of(forward::forward(words));
+    *answer = answer_of(Answer::from(forward::forward(words)));
 }
 
 #[unsafe(no_mangle)]
@@ -21,5 +22,5 @@ pub extern "C" fn hemdroas_check_forward(
 )
     ensures { answer.new ≡ answer_to (check_forward_answer (layout_from layout.now) commands.now) }
 {
-    *answer = answer_of(forward::list::check_forward(layout_of(layout), commands));
+    *answer = answer_of(Answer::from(forward::list::check_forward(layout_of(layout), commands)));
 }

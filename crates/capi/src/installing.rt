@@ -6,7 +6,8 @@ ghost use Rattle.capi_spec.specs.Hosts.{host_installed, install_for};
 use capi_values::answers::{ANSWER, answer_of};
 use capi_values::layouts::{LAYOUT, layout_of};
 use capi_values::machines::{MACHINE_RECORD, record_of};
-use types::PolicyNumbers;
+use installer::LentPolicy;
+use types::{Answer, Machine, PolicyNumbers};
 
 #[unsafe(no_mangle)]
 pub extern "C" fn hemdroas_install(
@@ -22,8 +23,12 @@ pub extern "C" fn hemdroas_install(
     ensures { host_installed answer.new machine.new memory.new
         ≡ install_for layout.now (policy_of states start table.now landings.now) memory.old }
 {
-    let policy = PolicyNumbers { states, start };
-    let done = installer::install(layout_of(layout), policy, table, landings, memory);
-    *machine = record_of(done.machine);
-    *answer = answer_of(done.answer);
+    let policy = LentPolicy {
+        numbers: PolicyNumbers { states, start },
+        table,
+        landings,
+    };
+    let done = installer::install(layout_of(layout), policy, memory);
+    *machine = record_of(done.unwrap_or(Machine::refused()));
+    *answer = answer_of(Answer::from(done.map(|_| ())));
 }

@@ -6,7 +6,8 @@ ghost use Rattle.capi_spec.specs.Hosts.{host_loaded, load_for};
 use capi_values::answers::{ANSWER, answer_of};
 use capi_values::layouts::{LAYOUT, layout_of};
 use capi_values::machines::{MACHINE_RECORD, record_of};
-use types::PolicyNumbers;
+use installer::LentPolicy;
+use types::{Answer, Machine, PolicyNumbers};
 
 #[unsafe(no_mangle)]
 pub extern "C" fn hemdroas_load(
@@ -25,16 +26,12 @@ pub extern "C" fn hemdroas_load(
         ≡ load_for layout.now (policy_of states start table.now landings.now) bytes.now
         commands.old memory.old }
 {
-    let policy = PolicyNumbers { states, start };
-    let loaded = sandbox::load(
-        layout_of(layout),
-        policy,
+    let policy = LentPolicy {
+        numbers: PolicyNumbers { states, start },
         table,
         landings,
-        bytes,
-        commands,
-        memory,
-    );
-    *machine = record_of(loaded.machine);
-    *answer = answer_of(loaded.answer);
+    };
+    let loaded = sandbox::load(layout_of(layout), policy, bytes, commands, memory);
+    *machine = record_of(loaded.map_or(Machine::refused(), |l| l.machine));
+    *answer = answer_of(Answer::from(loaded.map(|l| l.commands)));
 }

@@ -1,36 +1,42 @@
 // `hemdroas_merge`: makes one policy from two.
 ghost use Rattle.std.specs.Prelude.{◌≡◌};
-ghost use Rattle.capi.specs.merge.Numbers.{side_from, merged_to, host_merged, merge_for};
+ghost use Rattle.policy_merge.specs.Results.{policy_of_side, merged_of};
+ghost use Rattle.capi.specs.merge.Numbers.{ceilings_from, policy_from, merged_to, host_merged, merge_for};
 
-use buffers::stores::store_cells;
+use buffers::stores::store;
 use capi_values::answers::{ANSWER, answer_of};
 use capi_values::layouts::ceilings_from;
-use policy_merge::{Merged, Side};
-use types::{Layout, PolicyNumbers};
+use policy_merge::{MergedPolicy, Side};
+use types::{Answer, Layout, PolicyNumbers};
 
 // Where the ceilings begin in a policy's numbers, after states and start, and how many numbers there are.
 const POLICY_CEILINGS: usize = 2;
 
 pub const POLICY: usize = POLICY_CEILINGS + Layout::CEILINGS;
 
-fn side_of(xs: &[u32; POLICY]) -> Side
-    ensures { result ≡ side_from xs.now }
+fn side_of<'a>(xs: &[u32; POLICY], table: &'a [u8]) -> Side<'a>
+    ensures policy { policy_of_side result ≡ policy_from xs.now table.now }
+    ensures ceilings { result.ceilings ≡ ceilings_from xs.now }
 {
     let policy = PolicyNumbers {
         states: xs[0],
         start: xs[1],
     };
     let ceilings = ceilings_from(xs, POLICY_CEILINGS);
-    Side { policy, ceilings }
+    Side {
+        policy,
+        table,
+        ceilings,
+    }
 }
 
-fn merged_of(m: Merged) -> [u32; POLICY]
-    ensures { result ≡ merged_to m }
+fn merged_numbers(m: MergedPolicy) -> [u32; POLICY]
+    ensures { result ≡ merged_to (merged_of (Ok m)) }
 {
     let mut xs = [0u32; POLICY];
     xs[0] = m.policy.states;
     xs[1] = m.policy.start;
-    store_cells(&mut xs, POLICY_CEILINGS, &m.ceilings);
+    store(&mut xs, POLICY_CEILINGS, &m.ceilings);
     xs
 }
 
@@ -47,7 +53,14 @@ pub extern "C" fn hemdroas_merge(
     ensures { host_merged answer.new merged.new table.new
         ≡ merge_for one.now left.now other.now right.now table.old }
 {
-    let done = policy_merge::merge(side_of(one), left, side_of(other), right, table);
-    *merged = merged_of(done);
-    *answer = answer_of(done.answer);
+    match policy_merge::merge(side_of(one, left), side_of(other, right), table) {
+        Ok(m) => {
+            *merged = merged_numbers(m);
+            *answer = answer_of(Answer::from(Ok(m.bytes)));
+        }
+        Err(reject) => {
+            *merged = [0; POLICY];
+            *answer = answer_of(Answer::from(Err(reject)));
+        }
+    }
 }

@@ -4,12 +4,19 @@ ghost use Rattle.policy_spec.specs.precedence.Precedence.{make_of, make_table};
 ghost use Rattle.capi.specs.precedence.Hosts.{precedence_to};
 
 use capi_values::answers::{MADE, made_of};
+use types::Answer;
 
 #[unsafe(no_mangle)]
 pub extern "C" fn hemdroas_precedence(pairs: &[u8], table: &mut [u8], made: &mut [u32; MADE])
     ensures made { made.new ≡ precedence_to (make_of pairs.now (length table.old)) }
     ensures table { table.new ≡ make_table pairs.now table.old }
 {
-    let m = policy_precedence::make(pairs, table);
-    *made = made_of(m.answer, m.policy.states, m.unreachable as u32);
+    *made = match policy_precedence::make(pairs, table) {
+        Ok(m) => made_of(
+            Answer::from(Ok(m.bytes)),
+            m.policy.states,
+            u32::from(m.unreachable),
+        ),
+        Err(reject) => made_of(Answer::from(Err(reject)), 0, 0),
+    };
 }

@@ -3,7 +3,7 @@ ghost use Rattle.std.specs.Prelude.{◌≡◌, ◌&&◌, cond, eqb, length};
 ghost use Rattle.spec.specs.Machines.{fits, MatchesResult, run_of};
 ghost use Rattle.capi_spec.specs.Hosts.{host_result, run_for, host_previewed, preview_for};
 
-use buffers::stores::store_cells;
+use buffers::stores::store;
 use capi_values::answers::{RUN_ANSWER, run_answer_of};
 use capi_values::layouts::{LAYOUT, layout_of};
 use capi_values::machines::{MACHINE_RECORD, machine_of, store_machine};
@@ -27,7 +27,7 @@ fn lend(
     let answer = sandbox::run(layout, commands, &mut lent, memory, budget, readings, log);
     Outcome {
         machine: lent,
-        answer: answer,
+        answer,
     }
 }
 
@@ -61,7 +61,7 @@ fn copy_memory(layout: Layout, memory: &[u32], work: &mut [u32]) -> bool
 {
     let fitting = fits(layout, memory.len()) & (work.len() == layout.size as usize);
     if fitting {
-        store_cells(work, 0, memory);
+        store(work, 0, memory);
     }
     fitting
 }
@@ -84,7 +84,7 @@ pub extern "C" fn hemdroas_preview(
         memory.now ≡ preview_for layout.now commands.now machine.now memory.now
         work.old budget readings.now log.old }
 {
-    store_cells(after, 0, machine);
+    store(after, 0, machine);
     if copy_memory(layout_of(layout), memory, work) {
         hemdroas_run(layout, commands, after, work, budget, readings, log, answer);
         return;

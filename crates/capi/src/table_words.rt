@@ -8,8 +8,5 @@ ghost use Rattle.capi.specs.table_words.Hosts.{yes_or_no};
 pub extern "C" fn hemdroas_word_right(states: u32, word: u32) -> u32
     ensures { result ≡ yes_or_no (word_right states word) }
 {
-    if installer::word_right(states, word) {
-        return 1;
-    }
-    0
+    u32::from(installer::word_right(states, word))
 }

@@ -15,16 +15,15 @@ pub fn answer_of(a: Answer) -> [u32; ANSWER]
     requires { a.place < 2 ^ 32 }
     ensures { result ≡ answer_to a }
 {
-    [a.number as u32, a.place as u32]
+    [u32::from(a.number), a.place as u32]
 }
 
 pub fn run_answer_of(a: RunAnswer) -> [u32; RUN_ANSWER]
     requires { (a.pairs < 2 ^ 32) × (a.used < 2 ^ 32) }
     ensures { result ≡ run_answer_to a }
 {
-    let e = a.ending;
     [
-        machine_step::endings::ending_number(e) as u32,
+        u32::from(u8::from(a.ending)),
         a.steps,
         a.pairs as u32,
         a.used as u32,
@@ -36,5 +35,5 @@ pub fn made_of(a: Answer, states: u32, more: u32) -> [u32; MADE]
     requires { a.place < 2 ^ 32 }
     ensures { result ≡ made_to a states more }
 {
-    [a.number as u32, a.place as u32, states, more]
+    [u32::from(a.number), a.place as u32, states, more]
 }

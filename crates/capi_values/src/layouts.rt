@@ -3,7 +3,7 @@ ghost use Rattle.std.specs.Prelude.{◌≡◌, ◌+◌, length};
 ghost use Rattle.types.specs.Names.{orders};
 ghost use Rattle.capi_spec.specs.Numbers.{numbers_from, layout_from};
 
-use buffers::stores::store_cells;
+use buffers::stores::store;
 use types::Layout;
 
 // Where the ceilings begin in a layout's numbers, and how many numbers there are.
@@ -17,7 +17,7 @@ pub fn ceilings_from(xs: &[u32], at: usize) -> [u32; Layout::CEILINGS]
     ensures { result ≡ numbers_from orders at xs.now }
 {
     let mut ceilings = [0u32; Layout::CEILINGS];
-    store_cells(&mut ceilings, 0, &xs[at..]);
+    store(&mut ceilings, 0, &xs[at..]);
     ceilings
 }
 

@@ -5,4 +5,3 @@ pub mod answers;
 pub mod layouts;
 pub mod machines;
 pub mod records;
-pub mod statuses;

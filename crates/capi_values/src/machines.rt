@@ -21,8 +21,7 @@ pub fn machine_of(xs: &[u32; MACHINE_RECORD]) -> Machine
 pub fn store_machine(xs: &mut [u32; MACHINE_RECORD], m: Machine)
     ensures { xs.new ≡ numbers_after registers xs.old (machine_to m) }
 {
-    let status = m.status;
-    store_record(xs, &m.regs, m.pc, status);
+    store_record(xs, &m.regs, m.pc, m.status);
 }
 
 // A machine as numbers. It is stored over zeros, because their status, running, is valid.

@@ -1,74 +1,94 @@
 -- Laws of checking.
 use mathlib.Core.Path.{◌≡◌, sym, ◌∙◌}
-use mathlib.Core.Bool.{Bool, true, false, ◌&&◌, ◌||◌}
-use mathlib.Core.List.{List}
+use mathlib.Core.Bool.{Bool, true, false, not}
+use mathlib.Core.List.{List, []}
 use Prim.Native.Nat.{ℕ, zero, suc, ◌+◌, ◌-◌, ◌*◌, ◌/◌, ◌%◌, ◌^◌, ◌≤◌, ◌<◌}
 use native.Mathlib.Omega.{arith}
 use lib.Count.{ones, ones-le}
-use lib.Dec.{ltb, eqb}
+use lib.Dec.{ltb}
 use lib.ListN.{length, get_or}
-use borrow.Author.Tests.{leb-true, eqb-true}
+use borrow.Author.Tests.{leb-true, eqb-true, not-true, not-false}
 use Rattle.types.specs.declared.Layout.{Layout}
 use Rattle.types.specs.declared.Answer.{Answer}
+use Rattle.types.specs.declared.Reject.{Reject}
 use Rattle.types.specs.declared.Refusal.TheVariants.{BadBase, BadBundle, BadCount, BadLayout}
-use Rattle.types.specs.Names.{taken_number, most_bundles, most_commands, bundle_length, base_bound, answer, refusal}
+use Rattle.types.specs.Names.{taken_number, most_bundles, most_commands, bundle_length, base_bound, answer}
+use Rattle.types.specs.Results.{reject_at, rejected}
+use Rattle.std.specs.Simd.{first_chunks}
+use Rattle.words.proofs.Chunks.{chunk_element}
+use Rattle.checker.specs.Fours.{on_four}
+use Rattle.checker.specs.shapes.FourWords.{passes_of}
 use Rattle.spec.specs.Layouts.{right_layout}
-use Rattle.spec.specs.Words.{kind_of}
-use Rattle.spec.specs.Bundles.{address_of, decode_bundle, bundle_at, is_bundle, shaped_at, passes_at, check_from, base_right, count_right, check_answer}
+use Rattle.spec.specs.Bundles.{address_of, bundle_at, shaped_at, passes_at, check_from, base_right, count_right, check_answer}
 use Rattle.spec.proofs.Bools.{both}
 use Rattle.spec.proofs.Masks.{base_room as list-room}
 
 -- ---- a bundle of the list
 
 module _ (l : Layout) (n : ℕ) (ws : List ℕ) (h : ℕ) where
-  pub passing_at : (r : Bool) → (w x y z : ℕ) → w ≡ get_or ws (bundle_length * h) 0 → x ≡ get_or ws (bundle_length * h + 1) 0 → y ≡ get_or ws (bundle_length * h + 2) 0 → z ≡ get_or ws (bundle_length * h + 3) 0
-      → r ≡ (is_bundle l n (decode_bundle l w y z) w x y z && (ltb (h + 1) n || eqb (kind_of w) 1)) → r ≡ passes_at l n ws h
+  -- the four words of chunk h are those of bundle h
+  passing_at : n ≡ length ws / bundle_length → h < n → (bs : List (List ℕ)) → bs ≡ first_chunks bundle_length (length ws / bundle_length) ws → on_four (λ w x y z. passes_of l n w x y z (ltb (h + 1) n)) (get_or bs h []) ≡ passes_at l n ws h
   unfolding passes_at shaped_at bundle_at
-  passing_at r w x y z ew ex ey ez p = p ∙ rw (ew, ex, ey, ez)
+  passing_at en lt bs eb =
+      let z : bundle_length * h + 0 ≡ bundle_length * h = omega arith in
+      rw (
+        eb,
+        ← en,
+        chunk_element bundle_length n ws h 0 [] 0 lt (omega arith),
+        chunk_element bundle_length n ws h 1 [] 0 lt (omega arith),
+        chunk_element bundle_length n ws h 2 [] 0 lt (omega arith),
+        chunk_element bundle_length n ws h 3 [] 0 lt (omega arith),
+        z,
+      )
 
   -- ---- the bundles in order
 
-  module _ (lt : h < n) (p : Bool) (ep : p ≡ passes_at l n ws h) (a : Answer) (ea : a ≡ check_from l n ws h (n - h)) where
-    left : n - h ≡ suc (n - (h + 1))
-    left = omega arith
+  -- no bundle before h is refused, so what follows is the answer
+  abbrev pub Reaches : Type 0
+  Reaches = check_from l n ws 0 n ≡ check_from l n ws h (n - h)
 
-    pub check_more : p ≡ true → a ≡ check_from l n ws (h + 1) (n - (h + 1))
+  module _ (q : Reaches) where
+    module _ (en : n ≡ length ws / bundle_length) (lt : h < n) (bs : List (List ℕ)) (eb : bs ≡ first_chunks bundle_length (length ws / bundle_length) ws) (p : Bool) (ep : p ≡ on_four (λ w x y z. passes_of l n w x y z (ltb (h + 1) n)) (get_or bs h [])) where
+      left : n - h ≡ suc (n - (h + 1))
+      left = omega arith
+
+      passes : p ≡ passes_at l n ws h
+      passes = ep ∙ passing_at en lt bs eb
+
+      pub check_more : p ≡ true → check_from l n ws 0 n ≡ check_from l n ws (h + 1) (n - (h + 1))
+      unfolding check_from
+      check_more e = q ∙ rw (left, ← passes, e)
+
+      pub check_stop : p ≡ false → (e : Reject) → e ≡ reject_at BadBundle h → rejected e ≡ check_from l n ws 0 n
+      unfolding check_from
+      check_stop e r er = rw er (sym (q ∙ rw (left, ← passes, e)))
+
+    pub check_done : n ≤ h → answer taken_number 0 ≡ check_from l n ws 0 n
     unfolding check_from
-    check_more e = ea ∙ rw (left, ← ep, e)
-
-    pub check_stop : p ≡ false → refusal BadBundle h ≡ a
-    unfolding check_from
-    check_stop e = sym (ea ∙ rw (left, ← ep, e))
-
-  pub check_done : n ≤ h → (a : Answer) → a ≡ check_from l n ws h (n - h) → answer taken_number 0 ≡ a
-  unfolding check_from
-  check_done g a ea = let none : n - h ≡ 0 = omega arith in sym (ea ∙ rw none)
+    check_done g = let none : n - h ≡ 0 = omega arith in sym (q ∙ rw none)
 
 -- ---- the whole
 
 module _ (l : Layout) (ws : List ℕ) (t : Bool) (et : t ≡ right_layout l) where
-  pub bad_layout : t ≡ false → refusal BadLayout 0 ≡ check_answer l ws
+  pub bad_layout : not t ≡ true → (e : Reject) → e ≡ reject_at BadLayout 0 → rejected e ≡ check_answer l ws
   unfolding check_answer
-  bad_layout e = rw (← et, e)
+  bad_layout f e ee = rw (ee, ← et, not-true t f)
 
-  module _ (e : t ≡ true) (c : Bool) (ec : c ≡ count_right (length ws)) where
-    pub bad_count : c ≡ false → refusal BadCount 0 ≡ check_answer l ws
+  module _ (e : not t ≡ false) (c : Bool) (ec : c ≡ count_right (length ws)) where
+    pub bad_count : not c ≡ true → (r : Reject) → r ≡ reject_at BadCount 0 → rejected r ≡ check_answer l ws
     unfolding check_answer
-    bad_count f = rw (← et, e, ← ec, f)
+    bad_count f r er = rw (er, ← et, not-false t e, ← ec, not-true c f)
 
     -- a right count means 1 to 1,024 bundles
-    module _ (f : c ≡ true) where
+    module _ (f : not c ≡ false) where
       count_facts : (length ws ≤ most_commands) × (length ws % bundle_length ≡ 0) × (ones (length ws / bundle_length) ≡ 1)
       count_facts =
-          let h = both _ _ (sym ec ∙ f) in
+          let h = both _ _ (sym ec ∙ not-false c f) in
           let g = both _ _ h.0 in
           (leb-true _ _ g.0, eqb-true _ _ g.1, eqb-true _ _ h.1)
 
-      pub count_most : length ws / bundle_length ≤ most_bundles
+      count_most : length ws / bundle_length ≤ most_bundles
       count_most = omega (arith, count_facts.0)
-
-      pub count_all : bundle_length * (length ws / bundle_length) ≤ length ws
-      count_all = omega arith
 
       pub count_some : 0 < length ws / bundle_length
       count_some = go (length ws / bundle_length) count_facts.2
@@ -78,14 +98,14 @@ module _ (l : Layout) (ws : List ℕ) (t : Bool) (et : t ≡ right_layout l) whe
           go (suc k) e = omega arith
 
       module _ (b : Bool) (eb : b ≡ base_right l (length ws / bundle_length)) where
-        pub bad_base : b ≡ false → refusal BadBase 0 ≡ check_answer l ws
+        pub bad_base : not b ≡ true → (r : Reject) → r ≡ reject_at BadBase 0 → rejected r ≡ check_answer l ws
         unfolding check_answer
-        bad_base g = rw (← et, e, ← ec, f, ← eb, g)
+        bad_base g r er = rw (er, ← et, not-false t e, ← ec, not-false c f, ← eb, not-true b g)
 
         -- a right base means that the list ends at or before 2 ^ 32
-        pub base_room : l.base < base_bound → b ≡ true → address_of l (length ws / bundle_length) ≤ 2 ^ 32
-        base_room h g = list-room l.base (length ws / bundle_length) count_facts.2 count_most (eqb-true _ _ (sym eb ∙ g)) h
+        pub base_room : l.base < base_bound → not b ≡ false → address_of l (length ws / bundle_length) ≤ 2 ^ 32
+        base_room h g = list-room l.base (length ws / bundle_length) count_facts.2 count_most (eqb-true _ _ (sym eb ∙ not-false b g)) h
 
-        pub checked : b ≡ true → (a : Answer) → a ≡ check_from l (length ws / bundle_length) ws 0 (length ws / bundle_length) → a ≡ check_answer l ws
+        pub checked : not b ≡ false → (a : Answer) → a ≡ check_from l (length ws / bundle_length) ws 0 (length ws / bundle_length) → a ≡ check_answer l ws
         unfolding check_answer
-        checked g a ea = ea ∙ rw (← et, e, ← ec, f, ← eb, g)
+        checked g a ea = ea ∙ rw (← et, not-false t e, ← ec, not-false c f, ← eb, not-false b g)

@@ -2,67 +2,52 @@
 #![tactic(auto)]
 
 pub mod event;
+pub mod extent;
 pub mod indirect_jump;
 pub mod masked_access;
 pub mod shapes;
 pub mod single;
 pub mod word;
 
-ghost use Rattle.std.specs.Prelude.{◌≡◌, ◌*◌, ◌≤◌, ◌<◌, ◌^◌, length};
-ghost use Rattle.types.specs.Names.{most_bundles, bundle_length};
-ghost use Rattle.spec.specs.Bundles.{address_of, passes_at, check_from, check_answer};
+ghost use Rattle.std.specs.Prelude.{◌≡◌, ◌/◌, length};
+ghost use Rattle.types.specs.Names.{bundle_length};
+ghost use Rattle.types.specs.Results.{verdict_of};
+ghost use Rattle.spec.specs.Bundles.{check_from, check_answer};
 
-use types::{Answer, Bundle, Layout, Refusal};
+use crate::extent::Extent;
+use crate::shapes::passes_words;
+use types::{Bundle, Layout, Refusal, Reject};
 use words::count::{base_right, count_right};
 use words::memory::layout_right;
 
-// Whether bundle h of n has a known shape, and is HALT if it is the last.
-fn passes(l: Layout, n: usize, commands: &[u64], h: usize) -> bool
-    requires { (0 < n) × (n ≤ most_bundles) × (address_of l n ≤ 2 ^ 32) × (h < n) × (bundle_length * n ≤ length commands.now) }
-    ensures { result ≡ passes_at l n commands.now h }
+// Refuses the first bundle of the list that does not pass as bad bundle (11).
+#[tactic(auto, using(crate::proofs::Passing::check_stop, crate::proofs::Passing::check_more, crate::proofs::Passing::check_done))]
+fn check_bundles(list: Extent, commands: &[u64]) -> Result<(), Reject>
+    requires { list.bundles ≡ length commands.now / bundle_length }
+    ensures { verdict_of result ≡ check_from list.layout list.bundles commands.now 0 list.bundles }
 {
-    let at = Bundle::LENGTH * h;
-    crate::shapes::passes_words(
-        l,
-        n,
-        commands[at],
-        commands[at + 1],
-        commands[at + 2],
-        commands[at + Bundle::TAIL],
-        h + 1 < n,
-    )
-}
-
-// Refuses the first of n bundles that does not pass as bad bundle (11).
-fn check_bundles(l: Layout, n: usize, commands: &[u64]) -> Answer
-    requires { (0 < n) × (n ≤ most_bundles) × (address_of l n ≤ 2 ^ 32) × (bundle_length * n ≤ length commands.now) }
-    ensures { result ≡ check_from l n commands.now 0 n }
-{
-    let mut h: usize = 0;
-    while h < n {
-        if !passes(l, n, commands, h) {
-            return Answer::refused_at(Refusal::BAD_BUNDLE, h);
+    let (bundles, _) = commands.as_chunks();
+    for (h, words) in bundles.iter().enumerate() {
+        if !passes_words(list, words, h + 1 < list.bundles) {
+            return Err(Reject::at(Refusal::BadBundle, h));
         }
-        h += 1;
     }
-    Answer::taken(0)
+    Ok(())
 }
 
-pub fn check(layout: Layout, commands: &[u64]) -> Answer
-    ensures { result ≡ check_answer layout commands.now }
+#[tactic(auto, using(crate::proofs::Passing::bad_layout, crate::proofs::Passing::bad_count, crate::proofs::Passing::bad_base, crate::proofs::Passing::count_some, crate::proofs::Passing::base_room, crate::proofs::Passing::checked))]
+pub fn check(layout: Layout, commands: &[u64]) -> Result<(), Reject>
+    ensures { verdict_of result ≡ check_answer layout commands.now }
 {
     if !layout_right(layout) {
-        return Answer::refused(Refusal::BAD_LAYOUT);
+        return Err(Reject::from(Refusal::BadLayout));
     }
-    let count = commands.len();
-    let n = count / Bundle::LENGTH;
-    let counted = count_right(count);
-    let based = base_right(layout, n);
-    if !counted {
-        return Answer::refused(Refusal::BAD_COUNT);
+    let bundles = commands.len() / Bundle::LENGTH;
+    if !count_right(commands.len()) {
+        return Err(Reject::from(Refusal::BadCount));
     }
-    if !based {
-        return Answer::refused(Refusal::BAD_BASE);
+    if !base_right(layout, bundles) {
+        return Err(Reject::from(Refusal::BadBase));
     }
-    check_bundles(layout, n, commands)
+    check_bundles(Extent { layout, bundles }, commands)
 }

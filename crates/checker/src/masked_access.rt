@@ -1,10 +1,10 @@
 // Tests the shapes of LOAD and STORE, which mask their address in the hidden register.
 ghost use Rattle.std.specs.Prelude.{◌≡◌};
-ghost use Rattle.spec.specs.Bundles.{is_bundle};
-ghost use Rattle.checker.specs.masked_access.MaskedAccess.{mask_words, load_word, store_word, access_of};
+ghost use Rattle.checker.specs.Fours.{on_four};
+ghost use Rattle.checker.specs.masked_access.MaskedAccess.{mask_words, load_word, store_word, access_words};
 
 use crate::word::is_word;
-use types::{Command, Layout};
+use types::{Bundle, Command, Layout};
 use words::command::NOP_WORD;
 use words::field;
 use words::fields::HIDDEN;
@@ -15,8 +15,8 @@ fn is_mask(l: Layout, w: u64, x: u64) -> bool
 {
     let a = field::a(w);
     (a < HIDDEN)
-        & is_word(w, Command::ANDI, HIDDEN, a, 0, 0, l.high as u64)
-        & is_word(x, Command::ORI, HIDDEN, HIDDEN, 0, 0, l.low as u64)
+        & is_word(w, Command::ANDI, HIDDEN, a, 0, 0, u64::from(l.high))
+        & is_word(x, Command::ORI, HIDDEN, HIDDEN, 0, 0, u64::from(l.low))
 }
 
 fn is_load(y: u64) -> bool
@@ -34,9 +34,11 @@ fn is_store(y: u64) -> bool
 }
 
 // Whether four words are a LOAD or a STORE.
-pub fn is_access(l: Layout, w: u64, x: u64, y: u64, z: u64) -> bool
-    ensures { result ≡ is_bundle l 0 (access_of w y) w x y z }
+#[tactic(auto, using(crate::proofs::masked_access::Laws::by_load, crate::proofs::masked_access::Laws::by_store))]
+pub fn is_access(l: Layout, words: &[u64; Bundle::LENGTH]) -> bool
+    ensures { result ≡ on_four (access_words l) words.now }
 {
+    let [w, x, y, z] = *words;
     let masked = is_mask(l, w, x);
     if field::kind(y) == Command::LOAD {
         return masked & is_load(y) & (z == NOP_WORD);

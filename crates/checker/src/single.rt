@@ -1,23 +1,25 @@
 // Tests the shapes of one command and three NOPs: HALT, a plain command, GOIF.
 ghost use Rattle.std.specs.Prelude.{◌≡◌, ◌<◌, ◌^◌};
-ghost use Rattle.types.specs.Names.{command};
-ghost use Rattle.checker.specs.single.Single.{single_words, plain_words, is_bundle_address, goif_words};
+ghost use Rattle.checker.specs.Fours.{on_four};
+ghost use Rattle.checker.specs.single.Single.{halt_words, plain_words, is_bundle_address, goif_words};
 
-use types::{Command, Layout};
+use types::{Bundle, Command, Layout};
 use words::command::{BUNDLE_LENGTH, NOP_WORD, is_command};
 use words::field;
 use words::fields::only_guest_registers;
 
-pub fn is_halt(w: u64, x: u64, y: u64, z: u64) -> bool
-    ensures { result ≡ single_words w x y z command.halt }
+pub fn is_halt(words: &[u64; Bundle::LENGTH]) -> bool
+    ensures { result ≡ on_four halt_words words.now }
 {
+    let [w, x, y, z] = *words;
     (w == Command::HALT) & (x == NOP_WORD) & (y == NOP_WORD) & (z == NOP_WORD)
 }
 
 // A plain command may use guest registers only.
-pub fn is_plain(w: u64, x: u64, y: u64, z: u64) -> bool
-    ensures { result ≡ plain_words w x y z }
+pub fn is_plain(words: &[u64; Bundle::LENGTH]) -> bool
+    ensures { result ≡ on_four plain_words words.now }
 {
+    let [w, x, y, z] = *words;
     is_command(w) & only_guest_registers(w) & (x == NOP_WORD) & (y == NOP_WORD) & (z == NOP_WORD)
 }
 
@@ -26,7 +28,7 @@ fn is_bundle_address(l: Layout, n: usize, v: u64) -> bool
     requires { v < 2 ^ 32 }
     ensures { result ≡ is_bundle_address l n v }
 {
-    let base = l.base as u64;
+    let base = u64::from(l.base);
     if v < base {
         return false;
     }
@@ -35,9 +37,10 @@ fn is_bundle_address(l: Layout, n: usize, v: u64) -> bool
 }
 
 // A GOIF must go to the first command of one of n bundles.
-pub fn is_goif(l: Layout, n: usize, w: u64, x: u64, y: u64, z: u64) -> bool
-    ensures { result ≡ goif_words l n w x y z }
+pub fn is_goif(l: Layout, n: usize, words: &[u64; Bundle::LENGTH]) -> bool
+    ensures { result ≡ on_four (goif_words l n) words.now }
 {
+    let [w, x, y, z] = *words;
     is_command(w)
         & only_guest_registers(w)
         & is_bundle_address(l, n, field::v(w))

@@ -1,82 +1,61 @@
 // Decodes any instruction, or finds its first refusal.
-ghost use Rattle.std.specs.Prelude.{◌≡◌, ◌+◌, ◌*◌, ◌/◌, ◌%◌, ◌≤◌, length};
-ghost use Rattle.spec.specs.Bytes.{size_of, byte_at, fields_at, decode_fields, decode_one};
-ghost use Rattle.codec_read.specs.full_path.Parts.{fields_from};
+ghost use Rattle.std.specs.Prelude.{◌≡◌, ◌≤◌, ◌<◌, length};
+ghost use Rattle.types.specs.Results.{decoded_of};
+ghost use Rattle.spec.specs.Bytes.{size_of, fields_at, decode_fields, decode_one};
 
-use crate::bytes::{quad, widen};
-use crate::map::{TOP_MAP, map_of, size_of};
-use types::{Decoded, Fields, Refusal};
+use crate::bytes::{byte, quad};
+use crate::map::{A, B, C, D, KIND, TOP_MAP, V, bit, map_of, size_of};
+use types::{Fields, Refusal};
 use words::fields::pack;
 use words::refusals::fields_refusal;
 
-// A field of one byte, or 0 if its bit is 0. To avoid a branch, an absent field reads the map byte and multiplies it by 0.
-fn byte(s: &[u8], at: usize, bit: usize) -> u64
-    requires { (bit ≤ 1) × (1 ≤ length s.now) × (at + bit ≤ length s.now) }
-    ensures { result ≡ byte_at bit s.now at }
-{
-    bit as u64 * widen(s[at * bit])
-}
-
-// Reads the fields from b on that the map m announces. The caller has read the others.
-fn fields_from(s: &[u8], at: usize, m: usize, kind: u64, d: u64, a: u64) -> Fields
-    requires { (1 ≤ length s.now) × (at + m % 2 + m / 2 % 2 + 4 * (m / 2 / 2) ≤ length s.now) }
-    ensures { result ≡ fields_from m s.now at kind d a }
-{
-    let c_at = at + m % 2;
-    let c_bit = m / 2 % 2;
-    Fields {
-        kind,
-        d,
-        a,
-        b: byte(s, at, m % 2),
-        c: byte(s, c_at, c_bit),
-        v: quad(s, c_at + c_bit, m / 2 / 2),
-    }
-}
-
 // Reads the fields that the map m announces.
+#[tactic(auto, using(crate::proofs::full_path::Reading::fields_read))]
 fn fields_of(s: &[u8], m: usize) -> Fields
-    requires { size_of m ≤ length s.now }
+    requires { (m < 64) × (size_of m ≤ length s.now) }
     ensures { result ≡ fields_at m s.now }
 {
-    let d_at = 1 + m % 2;
-    let d_bit = m / 2 % 2;
-    let a_at = d_at + d_bit;
-    let a_bit = m / 2 / 2 % 2;
-    let kind = byte(s, 1, m % 2);
-    let d = byte(s, d_at, d_bit);
-    let a = byte(s, a_at, a_bit);
-    fields_from(s, a_at + a_bit, m / 2 / 2 / 2, kind, d, a)
+    let d_at = 1 + bit(m, KIND);
+    let a_at = d_at + bit(m, D);
+    let b_at = a_at + bit(m, A);
+    let c_at = b_at + bit(m, B);
+    let v_at = c_at + bit(m, C);
+    Fields {
+        kind: byte(s, 1, bit(m, KIND)),
+        d: byte(s, d_at, bit(m, D)),
+        a: byte(s, a_at, bit(m, A)),
+        b: byte(s, b_at, bit(m, B)),
+        c: byte(s, c_at, bit(m, C)),
+        v: quad(s, v_at, bit(m, V)),
+    }
 }
 
 // Refuses the fields, or packs them. The map must mark exactly the nonzero fields, so a present field that is 0 is foreign matter (2).
-fn decode_fields(m: usize, size: usize, f: Fields) -> Decoded
+#[tactic(auto, using(crate::proofs::full_path::Reading::fields_good, crate::proofs::full_path::Reading::exit_decoded, spec::proofs::Bytes::fields_refused, types::proofs::Exits::refusal_counts))]
+fn decode_fields(m: usize, size: usize, f: Fields) -> Result<(u64, usize), Refusal>
     requires { size ≡ size_of m }
-    ensures { result ≡ decode_fields m f }
+    ensures { decoded_of result ≡ decode_fields m f }
 {
     let foreign = m != map_of(f);
-    let judged = fields_refusal(foreign, f);
-    if judged == Refusal::TAKEN {
-        Decoded::Word(pack(f), size)
-    } else {
-        Decoded::RefusedWith(judged)
-    }
+    fields_refusal(foreign, f)?;
+    Ok((pack(f), size))
 }
 
 // Decodes the instruction at the front of s: its word and its length in bytes, or its refusal.
-pub fn read_full(s: &[u8]) -> Decoded
-    ensures { result ≡ decode_one s.now }
+#[tactic(auto, using(spec::proofs::Bytes::one_none, spec::proofs::Bytes::one_large, spec::proofs::Bytes::one_short, spec::proofs::Bytes::one_fields))]
+pub fn read_full(s: &[u8]) -> Result<(u64, usize), Refusal>
+    ensures { decoded_of result ≡ decode_one s.now }
 {
-    if s.len() == 0 {
-        return Decoded::RefusedWith(Refusal::SHORT);
+    if s.is_empty() {
+        return Err(Refusal::Short);
     }
-    let m = widen(s[0]) as usize;
+    let m = usize::from(s[0]);
     if m > TOP_MAP {
-        return Decoded::RefusedWith(Refusal::FOREIGN);
+        return Err(Refusal::Foreign);
     }
     let size = size_of(m);
     if s.len() < size {
-        return Decoded::RefusedWith(Refusal::SHORT);
+        return Err(Refusal::Short);
     }
     decode_fields(m, size, fields_of(s, m))
 }

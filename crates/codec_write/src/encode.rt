@@ -1,17 +1,19 @@
 // Encodes one word as the bytes of its instruction.
-ghost use Rattle.std.specs.Prelude.{◌≡◌, ◌++◌, ◌+◌, ◌*◌, ◌/◌, ◌%◌, ◌≤◌, ◌<◌, length, set};
+ghost use Rattle.std.specs.Prelude.{◌≡◌, ◌+◌, ◌^◌, ◌≤◌, ◌<◌, length};
 ghost use Rattle.std.proofs.lemmas.List.Edits.{sets as stores};
-ghost use Rattle.spec.specs.Bytes.{bit_of, byte_out, quad_out, regs_out, fields_out, encode_one};
-ghost use Rattle.codec_write.specs.encode.Widths.{encoded_size, ByteFields};
+ghost use Rattle.spec.specs.Bytes.{byte_out, quad_out, encode_one};
 
+use buffers::stores::store;
 use codec_read::map::map_of;
-use types::Fields;
 use words::fields::fields;
 
+// `bytes` and `at` stay two parameters, since the public `encode_word` takes and returns the index: a struct of both would live for one call of it.
 // Writes a field of one byte, or nothing if it is 0. Returns the index after it.
+#[tactic(auto, using(std::proofs::lemmas::Bool::Decides::nat_tests), unfolding(spec::specs::Bytes::byte_out))]
 fn put_byte(bytes: &mut [u8], at: usize, x: u64) -> usize
-    requires { (at + bit_of x ≤ length bytes.old) × (x < 256) }
-    ensures next { result ≡ at + bit_of x }
+    requires room { at + length (byte_out x) ≤ length bytes.old }
+    requires small { x < 256 }
+    ensures next { result ≡ at + length (byte_out x) }
     ensures content { bytes.new ≡ stores bytes.old at (byte_out x) }
 {
     if x == 0 {
@@ -21,73 +23,34 @@ fn put_byte(bytes: &mut [u8], at: usize, x: u64) -> usize
     at + 1
 }
 
-// Writes two bytes, low first.
-fn put_pair(bytes: &mut [u8], at: usize, x: u64)
-    requires { at + 2 ≤ length bytes.old }
-    ensures { bytes.new ≡ set (set bytes.old at (x % 256)) (at + 1) (x / 256 % 256) }
-{
-    bytes[at] = (x % 256) as u8;
-    bytes[at + 1] = (x / 256 % 256) as u8;
-}
-
+// Not one function with `put_byte`: a slice of eight bytes, cut to the width, would stand for what each writes here.
 // Writes v in four bytes, low first, or nothing if it is 0. Returns the index after it.
+#[tactic(auto, using(crate::proofs::encode::Fields::quad_bytes, spec::proofs::Bytes::quad_none, spec::proofs::Bytes::length_quad))]
 fn put_quad(bytes: &mut [u8], at: usize, v: u64) -> usize
-    requires { at + 4 * bit_of v ≤ length bytes.old }
-    ensures next { result ≡ at + 4 * bit_of v }
+    requires room { at + length (quad_out v) ≤ length bytes.old }
+    requires small { v < 2 ^ 32 }
+    ensures next { result ≡ at + length (quad_out v) }
     ensures content { bytes.new ≡ stores bytes.old at (quad_out v) }
 {
     if v == 0 {
         return at;
     }
-    put_pair(bytes, at, v);
-    put_pair(bytes, at + 2, v / 256 / 256);
+    store(bytes, at, &(v as u32).to_le_bytes());
     at + 4
 }
 
-// Writes the map byte. Returns the index after it.
-fn put_map(bytes: &mut [u8], at: usize, x: usize) -> usize
-    requires { (at < length bytes.old) × (x < 256) }
-    ensures next { result ≡ at + 1 }
-    ensures content { bytes.new ≡ set bytes.old at x }
-{
-    bytes[at] = x as u8;
-    at + 1
-}
-
-fn put_two(bytes: &mut [u8], at: usize, x: u64, y: u64) -> usize
-    requires { (at + bit_of x + bit_of y ≤ length bytes.old) × (x < 256) × (y < 256) }
-    ensures next { result ≡ at + bit_of x + bit_of y }
-    ensures content { bytes.new ≡ stores bytes.old at (byte_out x ++ byte_out y) }
-{
-    let b = put_byte(bytes, at, x);
-    put_byte(bytes, b, y)
-}
-
-fn put_regs(bytes: &mut [u8], at: usize, f: Fields) -> usize
-    requires { (at + bit_of f.d + bit_of f.a + bit_of f.b + bit_of f.c ≤ length bytes.old) × ByteFields f }
-    ensures next { result ≡ at + bit_of f.d + bit_of f.a + bit_of f.b + bit_of f.c }
-    ensures content { bytes.new ≡ stores bytes.old at (regs_out f) }
-{
-    let b = put_two(bytes, at, f.d, f.a);
-    put_two(bytes, b, f.b, f.c)
-}
-
-fn put_fields(bytes: &mut [u8], at: usize, f: Fields) -> usize
-    requires { (at + encoded_size f ≤ length bytes.old) × ByteFields f }
-    ensures next { result ≡ at + encoded_size f }
-    ensures content { bytes.new ≡ stores bytes.old at (fields_out f) }
-{
-    let p = put_map(bytes, at, map_of(f));
-    let q = put_byte(bytes, p, f.kind);
-    let r = put_regs(bytes, q, f);
-    put_quad(bytes, r, f.v)
-}
-
 // Writes the bytes of a word from index `at` on. Returns the index after them.
+#[tactic(auto, using(crate::proofs::encode::Fields::encoding))]
 pub fn encode_word(bytes: &mut [u8], at: usize, w: u64) -> usize
     requires { at + length (encode_one w) ≤ length bytes.old }
     ensures next { result ≡ at + length (encode_one w) }
     ensures content { bytes.new ≡ stores bytes.old at (encode_one w) }
 {
-    put_fields(bytes, at, fields(w))
+    let f = fields(w);
+    bytes[at] = map_of(f) as u8;
+    let mut next = at + 1;
+    for x in [f.kind, f.d, f.a, f.b, f.c] {
+        next = put_byte(bytes, next, x);
+    }
+    put_quad(bytes, next, f.v)
 }

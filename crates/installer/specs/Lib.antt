@@ -1,2 +1,3 @@
+pub mod Lent
 pub mod table
 pub mod table_words

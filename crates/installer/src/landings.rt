@@ -13,44 +13,30 @@ const MOST_BUNDLES: u32 = Bundle::MOST as u32;
 pub fn landings_right(landings: &[u32]) -> bool
     ensures { result ≡ right_landings landings.now }
 {
-    let mut low: u32 = 0;
-    let mut i: usize = 0;
-    while i < landings.len() {
-        let x = landings[i];
-        if x < low {
-            return false;
-        }
-        if x >= MOST_BUNDLES {
-            return false;
-        }
-        low = x + 1;
-        i += 1;
-    }
-    true
+    landings.is_sorted_by(|x, y| x < y) && landings.iter().all(|x| *x < MOST_BUNDLES)
 }
 
 pub const CELLS: usize = Layout::LANDING_CELLS as usize;
 
 // Sets the bit of landing x.
+#[tactic(auto, using(crate::proofs::landings::Marks::marked_in))]
 fn mark(cells: &mut [u32; CELLS], x: u32)
     requires { (x < most_bundles) × (length cells.old ≡ landing_cells) }
     ensures { cells.new ≡ set cells.old (x / cell_bits)
         (bit_or (get_or cells.old (x / cell_bits) 0) (2 ^ (x % cell_bits))) }
 {
-    let k = (x / Layout::CELL_BITS) as usize;
-    cells[k] = cells[k] | (1u32 << (x % Layout::CELL_BITS));
+    cells[(x / Layout::CELL_BITS) as usize] |= 1 << (x % Layout::CELL_BITS);
 }
 
 // The landing cells of a list: landing 32k + j is bit j of cell k.
+#[tactic(auto, using(crate::proofs::landings::Marks::no_marks, crate::proofs::landings::Marks::below_most, crate::proofs::landings::Marks::mark_more, crate::proofs::landings::Marks::marked_all, crate::proofs::landings::Marks::marked_long))]
 pub fn landing_cells(landings: &[u32]) -> [u32; CELLS]
     requires { right_landings landings.now ≡ true }
     ensures { result ≡ landings_of landings.now }
 {
-    let mut cells = [0u32; CELLS];
-    let mut i: usize = 0;
-    while i < landings.len() {
-        mark(&mut cells, landings[i]);
-        i += 1;
+    let mut cells = [0; CELLS];
+    for x in landings {
+        mark(&mut cells, *x);
     }
     cells
 }

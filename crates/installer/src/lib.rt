@@ -6,77 +6,70 @@ pub mod table;
 pub mod table_words;
 
 ghost use Rattle.std.specs.Prelude.{◌≡◌, true, []};
+ghost use Rattle.types.specs.Results.{verdict_of, installed_of};
 ghost use Rattle.spec.specs.Layouts.{right_layout};
 ghost use Rattle.spec.specs.Policies.{lent_policy, right_policy};
 ghost use Rattle.spec.specs.Machines.{install_answer, install_of, install_memory};
+ghost use Rattle.installer.specs.Lent.{policy_of_lent};
 
 use crate::landings::{landing_cells, landings_right};
 use crate::table::table_right;
 pub use crate::table_words::word_right;
 use buffers::cells::poke;
-use buffers::stores::{store_bytes, store_cells};
-use types::{Answer, Installed, Layout, Machine, PolicyNumbers, Refusal};
+use buffers::stores::{store, store_bytes};
+use types::{Layout, Machine, PolicyNumbers, Refusal, Reject};
 use words::memory::fits;
 
+// A policy as a host lends it: its numbers, its table of 16 bytes a state, and its landings.
+#[derive(Clone, Copy)]
+pub struct LentPolicy<'a> {
+    pub numbers: PolicyNumbers,
+    pub table: &'a [u8],
+    pub landings: &'a [u32],
+}
+
 // Whether a policy fits a right layout. If not, it is refused as bad policy (10).
+#[tactic(auto, using(crate::proofs::Installs::own_states, crate::proofs::Installs::other_states))]
 fn policy_right(layout: Layout, policy: PolicyNumbers, table: &[u8]) -> bool
     requires { right_layout layout ≡ true }
     ensures { result ≡ right_policy layout (lent_policy policy table.now []) }
 {
-    if policy.states == layout.states {
-        return table_right(policy, table);
-    }
-    false
+    policy.states == layout.states && table_right(policy, table)
 }
 
 // What installing answers. It writes nothing.
-pub fn install_answer(
-    layout: Layout,
-    policy: PolicyNumbers,
-    table: &[u8],
-    landings: &[u32],
-    memory: &[u32],
-) -> Answer
-    ensures { result ≡ install_answer layout (lent_policy policy table.now landings.now) memory.now }
+#[tactic(auto, using(crate::proofs::Installs::layout_is, crate::proofs::Installs::no_layout, crate::proofs::Installs::no_policy, crate::proofs::Installs::no_landings, crate::proofs::Installs::all_right))]
+pub fn install_answer(layout: Layout, policy: LentPolicy, memory: &[u32]) -> Result<(), Reject>
+    ensures { verdict_of result
+        ≡ install_answer layout (policy_of_lent policy.entry) memory.now }
 {
     if !fits(layout, memory.len()) {
-        return Answer::refused(Refusal::BAD_LAYOUT);
+        return Err(Reject::from(Refusal::BadLayout));
     }
-    if !policy_right(layout, policy, table) {
-        return Answer::refused(Refusal::BAD_POLICY);
+    if !policy_right(layout, policy.numbers, policy.table) {
+        return Err(Reject::from(Refusal::BadPolicy));
     }
-    if !landings_right(landings) {
-        return Answer::refused(Refusal::BAD_LANDINGS);
+    if !landings_right(policy.landings) {
+        return Err(Reject::from(Refusal::BadLandings));
     }
-    Answer::taken(0)
+    Ok(())
 }
 
 // Writes the start state to the state cell, the table to its cells, the landing bits to theirs, and nothing else.
-pub fn install(
-    layout: Layout,
-    policy: PolicyNumbers,
-    table: &[u8],
-    landings: &[u32],
-    memory: &mut [u32],
-) -> Installed
-    ensures value { result ≡ install_of layout (lent_policy policy table.now landings.now) memory.old }
+#[tactic(auto, using(crate::proofs::Installs::refused_record, crate::proofs::Installs::refused_memory, crate::proofs::Installs::landings_are, crate::proofs::Installs::table_fits, crate::proofs::Installs::landings_fit, crate::proofs::Installs::record_made, crate::proofs::Installs::laid))]
+pub fn install(layout: Layout, policy: LentPolicy, memory: &mut [u32]) -> Result<Machine, Reject>
+    ensures value { installed_of result
+        ≡ install_of layout (policy_of_lent policy.entry) memory.old }
     ensures leaves { memory.new
-        ≡ install_memory layout (lent_policy policy table.now landings.now) memory.old }
+        ≡ install_memory layout (policy_of_lent policy.entry) memory.old }
 {
-    let answer = install_answer(layout, policy, table, landings, memory);
-    let refused = answer.number;
-    if refused != Refusal::TAKEN {
-        return Installed {
-            machine: Machine::refused(),
-            answer,
-        };
-    }
-    let marks = landing_cells(landings);
-    poke(memory, layout.cell as usize, policy.start);
-    store_bytes(memory, layout.table as usize, table);
-    store_cells(memory, layout.landings as usize, &marks);
-    Installed {
-        machine: Machine::new(layout.base),
-        answer,
-    }
+    install_answer(layout, policy, memory)?;
+    poke(memory, layout.cell as usize, policy.numbers.start);
+    store_bytes(memory, layout.table as usize, policy.table);
+    store(
+        memory,
+        layout.landings as usize,
+        &landing_cells(policy.landings),
+    );
+    Ok(Machine::new(layout.base))
 }

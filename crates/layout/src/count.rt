@@ -6,10 +6,11 @@ ghost use Rattle.spec.specs.Bundles.{count_right, base_right};
 use types::{Bundle, Layout};
 
 // The number of bundles for n instructions: the smallest power of two above n.
+#[tactic(auto, using(crate::proofs::count::Counts::next_power))]
 pub fn bundles(n: u32) -> usize
     ensures { result ≡ bundles_for n }
 {
-    1usize << (32 - u32::leading_zeros(n))
+    (n as usize + 1).next_power_of_two()
 }
 
 // Whether k commands are N bundles, where N is a power of two from 1 to 1,024.
@@ -17,17 +18,18 @@ pub fn count_right(k: usize) -> bool
     ensures { result ≡ count_right k }
 {
     (k <= Bundle::MOST_COMMANDS)
-        & (k % Bundle::LENGTH == 0)
-        & (usize::count_ones(k / Bundle::LENGTH) == 1)
+        & k.is_multiple_of(Bundle::LENGTH)
+        & ((k / Bundle::LENGTH).count_ones() == 1)
 }
 
 // Whether the base is a multiple of the length of n bundles. For n = 0, or n above the base, only base 0 is.
+#[tactic(auto, using(crate::proofs::count::Counts::below))]
 pub fn base_right(l: Layout, n: usize) -> bool
     ensures { result ≡ base_right l n }
 {
     let base = l.base as usize;
-    if (n == 0) | (base < n) {
-        return base == 0;
+    if base < n {
+        return base == 0; // the product could wrap
     }
-    base % (Bundle::LENGTH * n) == 0
+    base.is_multiple_of(Bundle::LENGTH * n)
 }

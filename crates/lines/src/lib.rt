@@ -1,27 +1,19 @@
-// Prints lines of text and numbers for the programs `trial` and `tray`. Each function fails where the output does.
+// What the programs `trial` and `tray` share: document 01's layout, and the line of a case.
 #![tactic(auto)]
 
 use std::io;
-use types::Answer;
+use types::{Answer, Layout, Reject};
 
-pub fn print_text(rt: &impl Print, text: &[u8]) -> io::Result<()> {
-    rt.write_all(text)
-}
+// The base in document 01's layout.
+pub const BASE: u32 = 4096;
 
-pub fn end(rt: &impl Print) -> io::Result<()> {
-    print_text(rt, b"\n")
-}
-
-// Prints a text and a number, without a line end.
-pub fn print(rt: &impl Print, text: &[u8], n: u64) -> io::Result<()> {
-    print_text(rt, text)?;
-    print!(rt; "{n}")
+// Document 01's layout, with this base.
+pub fn drum(base: u32) -> Layout {
+    let ceilings = [Layout::NO_LIMIT; Layout::CEILINGS];
+    Layout::new(1024, 256, 511, 0, 16, 2, base, 64, ceilings)
 }
 
 // Prints a line with a case's name and its answer.
-pub fn print_case(rt: &impl Print, name: &[u8], a: Answer) -> io::Result<()> {
-    print_text(rt, name)?;
-    print(rt, b" ", a.number as u64)?;
-    print(rt, b" ", a.place as u64)?;
-    end(rt)
+pub fn print_case(rt: &impl Print, name: &str, outcome: Result<usize, Reject>) -> io::Result<()> {
+    println!(rt; "{name} {}", Answer::from(outcome))
 }

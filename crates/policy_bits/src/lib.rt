@@ -5,6 +5,7 @@ ghost use Rattle.std.specs.Prelude.{◌≡◌, ◌<◌};
 ghost use Rattle.types.specs.Names.{events};
 ghost use Rattle.policy_spec.specs.maps.Maps.{bit};
 
+#[tactic(auto, unfolding(policy_spec::specs::maps::Maps::bit))]
 pub fn has_bit(map: usize, k: usize) -> bool
     requires { k < events }
     ensures { result ≡ bit map k }

@@ -5,8 +5,7 @@ use Rattle.types.specs.declared.Refusal.TheVariants.{BadDrawing}
 use Rattle.types.specs.Names.{events, most_states, refusal, first}
 use Rattle.spec.specs.Policies.{Policy, states_right}
 use Rattle.policy_spec.specs.maps.Maps.{bit}
-use Rattle.policy_spec.specs.reachability.Reach.{reached_policy, made_with, reach_of, reach_table}
-use Rattle.policy_spec.specs.declared.reachability.Made.{Made}
+use Rattle.policy_spec.specs.reachability.Reach.{Made, reached_policy, made_with, reach_of, reach_table}
 
 -- a drawing: the state count, the set of starts, and 'entry 16 × s + n such a map of the successors of state s under event n'
 pub record Drawing : Type 0 where

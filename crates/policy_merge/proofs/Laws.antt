@@ -1,90 +1,78 @@
 -- Laws of the functions, one for each return.
-use Prim.Native.Nat.{ℕ, zero, suc, ◌+◌, ◌*◌, ◌<◌, ◌≤◌, min}
-use mathlib.Core.Path.{◌≡◌, refl, sym, ap, ap₂, ◌∙◌}
-use mathlib.Core.Bool.{Bool, true, false, ◌&&◌}
-use mathlib.Core.List.{List, [], ◌∷◌, ◌++◌}
-use native.Mathlib.Omega.{arith}
-use lib.ListN.{length, get_or, drop, replicate, get_or-eq_default}
-use borrow.Author.Tests.{eq-eqb, ne_eqb, lt-ltb}
+use Rattle.std.proofs.Common.{ℕ, zero, suc, ◌+◌, ◌-◌, ◌*◌, ◌/◌, ◌%◌, ◌<◌, ◌≤◌, ◌≡◌, min, refl, sym, subst, ◌∙◌, Bool, true, false, ◌&&◌, Option, Some, None, MatchOption, Result, Ok, Err, List, length, get_or, arith}
+use Rattle.std.specs.Int.NonZero.{non_zero_u16_get}
+use Rattle.std.specs.declared.num.NonZeroU16.{NonZeroU16}
+use Rattle.std.specs.Result.{IsErrAnd}
+use borrow.Author.Tests.{ne_eqb, lt-ltb}
 use Rattle.types.specs.declared.Refusal.TheVariants.{BadPolicy}
-use Rattle.types.specs.Names.{most_states, events, orders, no_arrow, refusal}
-use Rattle.spec.specs.Policies.{Policy, policy_of}
+use Rattle.types.specs.declared.Reject.{Reject}
+use Rattle.types.proofs.Exits.{refusal_counts}
+use Rattle.std.specs.Array.{IsFromFnResult, IsFromFnResultFrom}
+use Rattle.std.proofs.lemmas.Grind.{same_number_lists}
+use Rattle.policy_spec.proofs.maps.Maps.{length_build, build_at}
+use Rattle.std.specs.Fn.{Called}
+use denote.Param.Members.{Mut}
+use Rattle.types.specs.Names.{most_states, events, orders, no_arrow, number_of, refusal}
+use Rattle.spec.specs.Policies.{Policy}
 use Rattle.spec.proofs.Bools as bools
-use Rattle.policy_spec.specs.maps.Maps.{build}
-use Rattle.policy_spec.specs.declared.reachability.Worklist.{Worklist}
-use Rattle.policy_spec.specs.declared.reachability.Made.{Made}
-use Rattle.policy_spec.specs.reachability.Reach.{made_with}
-use Rattle.policy_spec.specs.reachability.Worklists.{Explored, written_of, written_table}
+use Rattle.policy_spec.specs.declared.reachability.NewPolicy.{NewPolicy}
+use Rattle.policy_spec.specs.reachability.Reach.{Made, made_with}
+use Rattle.policy_spec.specs.reachability.Results.{made_of}
+use Rattle.policy_spec.specs.reachability.Worklists.{Worklist, node_number, Explored, written_of, written_table}
+use Rattle.policy_spec.specs.tables.Arrows.{arrow_from}
+use Rattle.policy_spec.proofs.tables.Arrows.{none_is, some_is}
 use Rattle.policy_spec.proofs.reachability.Explore.{written_made, written_table_lem}
-use Rattle.policy_merge.specs.declared.Merged.{Merged}
-use Rattle.policy_merge.specs.Pairs.{pair, left, right, both, pair_after, start_pair, side_right, smaller, merge_made, with_ceilings, merge_of, merge_table}
+use Rattle.policy_merge.specs.declared.MergedPolicy.{MergedPolicy}
+use Rattle.policy_merge.specs.Pairs.{pair, both, pair_after, start_pair, side_right, smaller, merge_made, with_ceilings, merge_of, merge_table}
+use Rattle.policy_merge.specs.Results.{merged_of}
 use Rattle.policy_merge.proofs.Pairs.{side_of_lem, start_pairs}
 
--- within a list, the default does not matter
-get_d_any : (l : List ℕ) (i d e : ℕ) → i < length l → get_or l i d ≡ get_or l i e
-get_d_any [] i d e h = absurd (omega arith)
-get_d_any (x ∷ l) zero d e h = refl
-get_d_any (x ∷ l) (suc i) d e h = get_d_any l i d e (omega arith)
-
-pub arrow_there : (l : List ℕ) (i r : ℕ) → i < length l → (r ≡ get_or l i 0) × (r < 256) → (r ≡ get_or l i no_arrow) × (r < 256)
-arrow_there l i r h e = (e.0 ∙ get_d_any l i 0 no_arrow h, e.1)
-
-pub arrow_out : (l : List ℕ) (i : ℕ) → length l ≤ i → (no_arrow ≡ get_or l i no_arrow) × (no_arrow < 256)
-arrow_out l i h = (sym (get_or-eq_default l no_arrow h), omega arith)
-
-pub both_left : (s t : ℕ) → s ≡ no_arrow → 0 ≡ both s t
-unfolding both
-both_left s t e = rw e
-
-pub both_right : (s t : ℕ) → (s ≡ no_arrow → ⊥) → t ≡ no_arrow → 0 ≡ both s t
-unfolding both
-both_right s t z e = rw (ne_eqb s no_arrow z, e)
-
-pub both_arrows : (s t r : ℕ) → (s ≡ no_arrow → ⊥) → (t ≡ no_arrow → ⊥) → r ≡ pair s t → r ≡ both s t
-unfolding both
-both_arrows s t r y z e = rw (ne_eqb s no_arrow y, ne_eqb t no_arrow z) e
-
+-- no pair has no next one
 pub next_none : (a b : Policy) (x n : ℕ) → x ≡ 0 → 0 ≡ pair_after a b x n
 unfolding pair_after
 next_none a b x n e = rw e
 
-pub next_pair : (a b : Policy) (x n s t r : ℕ) → (x ≡ 0 → ⊥) → n < events → s ≡ get_or a.table (events * left x + n) no_arrow
-    → t ≡ get_or b.table (events * right x + n) no_arrow → r ≡ both s t → r ≡ pair_after a b x n
-unfolding pair_after
-next_pair a b x n s t r z h e f g = rw (ne_eqb x 0 z, lt-ltb n events h) (g ∙ ap₂ both e f)
+module _ (a b : Policy) (x n p : ℕ) (above : 1 ≤ x) (e : p ≡ x - 1) (h : n < events) where
+  abbrev pub left_entry : ℕ
+  left_entry = get_or a.table (events * (p / most_states) + n) no_arrow
 
--- the pair after an event depends only on the tables
-pub tables_alone : (a b : Policy) → pair_after (policy_of 0 0 a.table []) (policy_of 0 0 b.table []) ≡ pair_after a b
-unfolding pair_after
-tables_alone a b = refl
+  abbrev pub right_entry : ℕ
+  right_entry = get_or b.table (events * (p % most_states) + n) no_arrow
 
-pub smaller_done : (c d out : List ℕ) (i : ℕ) → out ≡ build (λ j. min (get_or c j 0) (get_or d j 0)) i ++ drop i (replicate orders 0) → orders ≤ i → i ≤ orders → out ≡ smaller c d
-smaller_done c d out i e h k =
-    let q : i ≡ orders = omega arith in
-    e ∙ ap (λ (j : ℕ). build (λ j. min (get_or c j 0) (get_or d j 0)) j ++ drop j (replicate orders 0)) q ∙ append-nil (smaller c d)
-  where
-    append-nil : (l : List ℕ) → l ++ [] ≡ l
-    append-nil [] = refl
-    append-nil (x ∷ l) = ap (λ (z : List ℕ). x ∷ z) (append-nil l)
+  next_is : pair_after a b x n ≡ both left_entry right_entry
+  unfolding pair_after
+  next_is = rw (ne_eqb x 0 (λ z. omega arith), lt-ltb n events h, e)
 
-pub ceilings_taken : (m : Made) (c : List ℕ) → m.answer.number ≡ 0 → record { answer = m.answer; policy = m.policy; ceilings = c } ≡ with_ceilings m c
-unfolding with_ceilings
-ceilings_taken m c e = rw (eq-eqb m.answer.number 0 e)
+  pub next_left : None ≡ arrow_from left_entry → 0 ≡ pair_after a b x n
+  unfolding both
+  next_left f = rw (next_is, none_is left_entry f)
 
-pub ceilings_refused : (m : Made) (c : List ℕ) → (m.answer.number ≡ 0 → ⊥) → record { answer = m.answer; policy = m.policy; ceilings = replicate orders 0 } ≡ with_ceilings m c
-unfolding with_ceilings
-ceilings_refused m c e = rw (ne_eqb m.answer.number 0 e)
+  pub next_right : (s : ℕ) → Some s ≡ arrow_from left_entry → None ≡ arrow_from right_entry → 0 ≡ pair_after a b x n
+  unfolding both
+  next_right s f g = let k = some_is left_entry s f in rw (next_is, ← k.0, ne_eqb s no_arrow k.1, none_is right_entry g)
+
+  pub next_pair : (s t : ℕ) → Some s ≡ arrow_from left_entry → Some t ≡ arrow_from right_entry → pair s t ≡ pair_after a b x n
+  unfolding both
+  next_pair s t f g =
+      let k = some_is left_entry s f in
+      let l = some_is right_entry t g in
+      rw (next_is, ← k.0, ← l.0, ne_eqb s no_arrow k.1, ne_eqb t no_arrow l.1)
+
+-- a number above 0 as a node
+pub node_is : (o : Option NonZeroU16) (x : ℕ) → MatchOption o (x ≡ 0) (λ y. non_zero_u16_get y ≡ x) → node_number o ≡ x
+node_is None x h = sym h
+node_is (Some y) x h = h
 
 -- ---- merging
 
 module _ (a b : Policy) (x y : Bool) (e : x ≡ side_right a) (f : y ≡ side_right b) where
   -- what is answered and written
   abbrev pub Makes : List ℕ → Made → List ℕ → Type 0
-  Makes t made t' = (made ≡ merge_made a b (length t)) × (t' ≡ merge_table a b t)
+  Makes t made t' = record { made : made ≡ merge_made a b (length t); table : t' ≡ merge_table a b t }
 
-  pub bad_policy : (t : List ℕ) (made : Made) → (x && y) ≡ false → made ≡ made_with (refusal BadPolicy 0) 0 → Makes t made t
+  pub bad_policy : (t : List ℕ) → (x && y) ≡ false → Makes t (made_with (refusal BadPolicy 0) 0) t
   unfolding merge_made merge_table
-  bad_policy t made g q = rw (← e, ← f, g) (q, refl)
+  bad_policy t g = rw (← e, ← f, g) (record { made = refl; table = refl })
 
   pub sides : (x && y) ≡ true → (a.start < most_states) × (b.start < most_states)
   sides g =
@@ -93,14 +81,40 @@ module _ (a b : Policy) (x y : Bool) (e : x ≡ side_right a) (f : y ≡ side_ri
       let t = side_of_lem b (sym f ∙ r.1) in
       (omega (arith, s.start, s.few_states), omega (arith, t.start, t.few_states))
 
-  pub makes : (t t' : List ℕ) (made : Made) (q : ℕ) (w : Worklist) → (x && y) ≡ true → q ≡ start_pair a b
-      → Explored (pair_after (policy_of 0 0 a.table []) (policy_of 0 0 b.table [])) q w → made ≡ written_of w (length t) → t' ≡ written_table w t
+  pub makes : (t t' : List ℕ) (made : Made) (w : Worklist) → (x && y) ≡ true → Explored (pair_after a b) (start_pair a b) w → made ≡ written_of w (length t) → t' ≡ written_table w t
       → Makes t made t'
   unfolding merge_made merge_table
-  makes t t' made q w g i ex m n =
-      let z : Explored (pair_after a b) (start_pair a b) w = rw (tables_alone a b, i) at ex in
-      rw (← e, ← f, g) (m ∙ written_made (pair_after a b) (start_pair a b) (start_pairs a b) w z (length t), n ∙ written_table_lem (pair_after a b) (start_pair a b) (start_pairs a b) w z t)
+  makes t t' made w g ex m n =
+      rw (← e, ← f, g)
+      (record { made = m ∙ written_made (pair_after a b) (start_pair a b) (start_pairs a b) w ex (length t); table = n ∙ written_table_lem (pair_after a b) (start_pair a b) (start_pairs a b) w ex t })
 
-pub merged_is : (a b : Policy) (c d : List ℕ) (n : ℕ) (m : Made) (s : List ℕ) (r : Merged) → m ≡ merge_made a b n → s ≡ smaller c d → r ≡ with_ceilings m s → r ≡ merge_of a c b d n
-unfolding merge_of
-merged_is a b c d n m s r e f g = g ∙ ap₂ with_ceilings e f
+-- the ceilings of a policy that was made, and what `?` hands on of a refusal
+module _ (a b : Policy) (c d : List ℕ) (n : ℕ) where
+  pub merged_is : (m : NewPolicy) (s : List ℕ) → made_of (Ok m) ≡ merge_made a b n → s ≡ smaller c d
+      → merged_of (Ok (record { bytes = m.bytes; policy = m.policy; ceilings = s })) ≡ merge_of a c b d n
+  unfolding merge_of with_ceilings
+  merged_is m s e f = rw (← e, f)
+
+  pub refused_is : (x : Reject) (r : Result MergedPolicy Reject) → made_of (Err x) ≡ merge_made a b n → IsErrAnd r (λ y. y ≡ x) → merged_of r ≡ merge_of a c b d n
+  unfolding merge_of with_ceilings
+  refused_is x (Ok m) e f = absurd f
+  refused_is x (Err y) e f = rw (f, ← e, ne_eqb (number_of x.refusal) 0 (refusal_counts x.refusal))
+
+-- ---- ceilings
+
+-- what a closure that only reads answered at each of the n numbers from i on
+all_answered : {F : Type 0} (g : Mut F (ℕ × Unit {0}) ℕ) (f : F) (v : ℕ → ℕ) → ((i r : ℕ) (f' : F) → Called g f (i, tt) r f' → (r ≡ v i) × (f' ≡ f)) → (ys : List ℕ) (i n : ℕ) → IsFromFnResultFrom g f ys i n
+    → (k j : ℕ) → k < n → i + k ≡ j → get_or ys j 0 ≡ v j
+all_answered g f v calls ys i zero h k j l e = absurd (omega arith)
+all_answered {F} g f v calls ys i (suc n) h zero j l e =
+    let at : i ≡ j = omega arith in
+    rw (← at) (h.2.1 0 ∙ (calls i h.1 h.0 h.3).0)
+all_answered {F} g f v calls ys i (suc n) h (suc k) j l e =
+    all_answered g f v calls ys (i + 1) n (subst (λ (p : F). IsFromFnResultFrom g p ys (i + 1) n) (calls i h.1 h.0 h.3).1 h.4) k j (omega arith) (omega arith)
+
+pub smaller_is : {F : Type 0} (g : Mut F (ℕ × Unit {0}) ℕ) (f : F) (c d ys : List ℕ) → IsFromFnResult g f ys orders
+    → ((i r : ℕ) (f' : F) → Called g f (i, tt) r f' → (r ≡ min (get_or c i 0) (get_or d i 0)) × (f' ≡ f)) → ys ≡ smaller c d
+smaller_is g f c d ys h calls =
+    let v = λ (i : ℕ). min (get_or c i 0) (get_or d i 0) in
+    same_number_lists ys (smaller c d) (h.long ∙ sym (length_build v orders))
+    (λ k l. let b : k < orders = omega (arith, h.long) in all_answered g f v calls ys 0 orders h.each k k b (omega arith) ∙ sym (build_at v orders k 0 b))

@@ -6,8 +6,7 @@ use Rattle.types.specs.Names.{orders, top_word, answer}
 use Rattle.spec.specs.Policies.{Policy, policy_of, state_over, allowed, states_right, right_policy}
 use Rattle.policy_spec.specs.reachability.Reach.{states_of, nodes_fit, node_after}
 use Rattle.policy_spec.specs.reachability.Claims.{Exactly, row}
-use Rattle.policy_merge.specs.declared.Merged.{Merged}
-use Rattle.policy_merge.specs.Pairs.{pair, pair_after, start_pair, side_right, merged_policy, smaller, merge_of, merge_table}
+use Rattle.policy_merge.specs.Pairs.{Merged, pair, pair_after, start_pair, side_right, merged_policy, smaller, merge_of, merge_table}
 
 -- if the answer is taken (0), what was answered and written is `merged_policy`, the policy of the other claims
 pub record Merges (a : Policy) (c : List ℕ) (b : Policy) (d table : List ℕ) : Type 0 where

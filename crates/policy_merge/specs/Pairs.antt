@@ -3,19 +3,15 @@ use Rattle.std.specs.Prelude.{ℕ, ◌+◌, ◌-◌, ◌*◌, ◌/◌, ◌%◌, 
 use Rattle.types.specs.declared.PolicyNumbers.{PolicyNumbers}
 use Rattle.types.specs.declared.Refusal.TheVariants.{BadPolicy}
 use Rattle.types.specs.Names.{most_states, orders, no_arrow, refusal, if_taken, first}
-use Rattle.spec.specs.Policies.{Policy, policy_of, lent_policy, arrow}
+use Rattle.spec.specs.Policies.{Policy, lent_policy, arrow}
 use Rattle.installer.specs.table.Tables.{table_right}
 use Rattle.policy_spec.specs.maps.Maps.{build}
-use Rattle.policy_spec.specs.reachability.Reach.{reached_policy, made_with, reach_of, reach_table}
-use Rattle.policy_spec.specs.declared.reachability.Made.{Made}
-use Rattle.policy_merge.specs.declared.Merged.{Merged}
+use Rattle.types.specs.declared.Answer.{Answer}
+use Rattle.policy_spec.specs.reachability.Reach.{Made, reached_policy, made_with, reach_of, reach_table}
 
--- a policy from its numbers and its table, and one from its table alone, for its arrows; merging needs no landings
+-- a policy from its numbers and its table; merging needs no landings
 abbrev pub side_policy : PolicyNumbers → List ℕ → Policy
 side_policy p t = lent_policy p t []
-
-abbrev pub arrows_of : List ℕ → Policy
-arrows_of t = policy_of 0 0 t []
 
 -- the number of a pair of states, above 0, and the two states of a pair
 abbrev pub pair : ℕ → ℕ → ℕ
@@ -54,6 +50,12 @@ smaller c d = build (λ i. min (get_or c i 0) (get_or d i 0)) orders
 -- '10 for a bad input .. 15 .. follows it. 9 comes last': the result, with the policy's numbers
 unfoldable pub merge_made : Policy → Policy → ℕ → Made
 merge_made a b room = first ((not (side_right a && side_right b), made_with (refusal BadPolicy 0) 0) ∷ []) (reach_of (pair_after a b) (start_pair a b) room)
+
+-- what merging answers: on success the bytes written, as place, the policy's numbers, and the ceilings
+pub record Merged : Type 0 where
+  pub answer : Answer
+  pub policy : PolicyNumbers
+  pub ceilings : List ℕ
 
 -- the result with the ceilings: 'After a reject all else handed back is 0'
 unfoldable pub with_ceilings : Made → List ℕ → Merged

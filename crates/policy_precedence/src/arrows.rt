@@ -3,48 +3,47 @@ ghost use Rattle.std.specs.Prelude.{◌≡◌, ◌-◌, ◌^◌, ◌≤◌, ◌<
 ghost use Rattle.std.specs.Int.Bits.{bit_and};
 ghost use Rattle.std.specs.Int.Count.{ones};
 ghost use Rattle.types.specs.Names.{events};
-ghost use Rattle.policy_spec.specs.precedence.Precedence.{ValidPairs, pairs_in, states_of, firsts_in, arrow_of};
+ghost use Rattle.policy_spec.specs.tables.Arrows.{arrow_from};
+ghost use Rattle.policy_spec.specs.precedence.Precedence.{pairs_in, states_of, firsts_in, arrow_of};
 
-use buffers::cells::index_of;
-use policy_spec::tables::NO_ARROW;
+use crate::pairs::{PAIR, Pairs};
+use policy_bits::has_bit;
 
-pub const PAIR: usize = 2;
-
-// The bit of event e in a state's number: how many named events are smaller.
-fn bit_index(names: usize, e: usize) -> usize
-    requires { e < events }
-    ensures { (result ≡ ones (bit_and names (2 ^ e - 1))) × (result ≤ e) }
-{
-    usize::count_ones(names & ((1 << e) - 1)) as usize
-}
-
-// Whether all events that must come before e are recorded in state s.
-fn firsts_recorded(names: usize, pairs: &[u8], s: usize, e: usize) -> bool
-    requires { ValidPairs pairs.now names }
-    ensures { result ≡ firsts_in pairs.now s e (pairs_in pairs.now) }
-{
-    let mut ok = true;
-    let mut i: usize = 0;
-    while i < pairs.len() / PAIR {
-        ok = ok
-            & ((index_of(pairs[PAIR * i + 1]) != e)
-                | policy_bits::has_bit(s, bit_index(names, index_of(pairs[PAIR * i]))));
-        i += 1;
+impl Pairs<'_> {
+    // The bit of event e in a state's number: how many named events are smaller.
+    fn bit_index(&self, e: usize) -> usize
+        requires { e < events }
+        ensures { (result ≡ ones (bit_and self.now.names (2 ^ e - 1))) × (result ≤ e) }
+    {
+        (self.names & ((1 << e) - 1)).count_ones() as usize
     }
-    ok
-}
 
-// The state after event e in state s, or no arrow.
-pub fn arrow(names: usize, pairs: &[u8], s: usize, e: usize) -> usize
-    requires { ValidPairs pairs.now names × (s < states_of pairs.now) × (e < events) }
-    ensures { (result ≡ arrow_of pairs.now s e) × (result < 256) }
-{
-    if !policy_bits::has_bit(names, e) {
-        return s;
+    // Whether all events that must come before e are recorded in state s.
+    fn firsts_recorded(&self, s: usize, e: usize) -> bool
+        ensures { result ≡ firsts_in self.now.pairs.now s e (pairs_in self.now.pairs.now) }
+    {
+        // The two halves of a pair are read at once. A chain over chunks of two is no shorter, and each chunk's length has to be proved.
+        let mut ok = true;
+        for i in 0..self.pairs.len() / PAIR {
+            let first = usize::from(self.pairs[PAIR * i]);
+            let second = usize::from(self.pairs[PAIR * i + 1]);
+            ok &= (second != e) | has_bit(s, self.bit_index(first));
+        }
+        ok
     }
-    if firsts_recorded(names, pairs, s, e) {
-        s | (1 << bit_index(names, e))
-    } else {
-        NO_ARROW
+
+    // The state after event e in state s, if the event has an arrow.
+    pub fn arrow(&self, s: usize, e: usize) -> Option<usize>
+        requires { (s < states_of self.now.pairs.now) × (e < events) }
+        ensures { result ≡ arrow_from (arrow_of self.now.pairs.now s e) }
+    {
+        if !has_bit(self.names, e) {
+            return Some(s);
+        }
+        if self.firsts_recorded(s, e) {
+            Some(s | (1 << self.bit_index(e)))
+        } else {
+            None
+        }
     }
 }

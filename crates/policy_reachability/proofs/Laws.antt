@@ -1,45 +1,27 @@
--- Laws of the functions, one for each return.
-use Prim.Native.Nat.{ℕ, suc, ◌+◌, ◌<◌, ◌≤◌}
-use mathlib.Core.Path.{◌≡◌, sym, ap, ◌∙◌}
-use mathlib.Core.List.{List, ◌∷◌}
-use native.Mathlib.Omega.{arith}
-use lib.ListN.{length, get_or, take, drop, set}
-use lib.Seq.{drop-cons, length-take-le, get_or-take, drop-length}
-use borrow.Author.Tests.{eq-eqb, ne_eqb, lt-ltb, le-ltb}
+-- Laws of the work list's functions, one for each return.
+use Rattle.std.proofs.Common.{ℕ, ◌+◌, ◌≤◌, ◌≡◌, refl, sym, ap, Bool, true, false, cond, Option, Some, None, MatchOption, List, length, set, eqb, arith}
+use Rattle.std.specs.List.{position, position_or_len}
+use Rattle.std.proofs.lemmas.List.Recursion.{is_position_or_len}
+use Rattle.std.proofs.Math.Seq.{length-take-le}
+use borrow.Author.Tests.{ne_eqb, ltb-false}
 use Rattle.types.specs.Names.{no_arrow}
-use Rattle.policy_spec.specs.reachability.Reach.{index_of}
-use Rattle.policy_spec.specs.declared.reachability.Worklist.{Worklist}
-use Rattle.policy_spec.specs.reachability.Worklists.{WorklistSized, nodes_of, insert_target}
+use Rattle.policy_spec.specs.reachability.Reach.{index_of, known}
+use Rattle.policy_spec.specs.reachability.Worklists.{Worklist, nodes_of, insert_target}
+use Rattle.policy_spec.proofs.reachability.Places.{place_le}
 
--- the number is none of the first i elements
-abbrev pub Sought : List ℕ → ℕ → ℕ → Type 0
-Sought l x i = i + index_of (drop i l) x ≡ index_of l x
+place_is : (ns : List ℕ) (x : ℕ) → position_or_len (λ y. eqb y x) ns ≡ index_of ns x
+place_is ns x = sym (is_position_or_len (λ l. index_of l x) (λ y. eqb y x) refl (λ y ys. ap (cond (eqb y x) 0) (omega arith)) ns)
 
-pub sought_none : (l : List ℕ) (x : ℕ) → Sought l x 0
-sought_none l x = omega arith
+-- what a search for a node answers
+abbrev pub Place : List ℕ → ℕ → Option ℕ → Type 0
+Place ns x o = MatchOption o (known ns x ≡ false) (λ p. (p ≡ index_of ns x) × (known ns x ≡ true))
 
-module _ (ns : List ℕ) (n x i : ℕ) (size : n ≤ length ns) (so : Sought (take n ns) x i) where
-  head : i < n → drop i (take n ns) ≡ get_or ns i 0 ∷ drop (suc i) (take n ns)
-  head h = drop-cons (take n ns) i 0 (omega (arith, length-take-le n ns size)) ∙ ap (λ (y : ℕ). y ∷ drop (suc i) (take n ns)) (get_or-take n ns i 0 h)
-
-  pub sought_here : i < n → get_or ns i 0 ≡ x → i ≡ index_of (take n ns) x
-  sought_here h e =
-      let p : index_of (drop i (take n ns)) x ≡ 0 = rw (head h, eq-eqb (get_or ns i 0) x e) in
-      omega (arith, so)
-
-  pub sought_on : i < n → (get_or ns i 0 ≡ x → ⊥) → Sought (take n ns) x (i + 1)
-  sought_on h e =
-      let n₁ : i + 1 ≡ suc i = omega arith in
-      let p : index_of (drop i (take n ns)) x ≡ suc (index_of (drop (suc i) (take n ns)) x) = rw (head h, ne_eqb (get_or ns i 0) x e) in
-      rw n₁ (omega (arith, so))
-
-  pub sought_end : n ≤ i → i ≤ n → n ≡ index_of (take n ns) x
-  sought_end h k =
-      let l : length (take n ns) ≡ i = length-take-le n ns size ∙ omega arith in
-      let p : index_of (drop i (take n ns)) x ≡ 0 = ap (λ (j : ℕ). index_of (drop j (take n ns)) x) (sym l) ∙ ap (λ (y : List ℕ). index_of y x) (drop-length (take n ns)) in
-      omega (arith, so)
-
--- ---- steps
+pub placed : (ns : List ℕ) (x : ℕ) (o : Option ℕ) → o ≡ position (λ y. eqb y x) ns → Place ns x o
+placed ns x o e = rw (e, place_is ns x) (go (known ns x) refl)
+  where
+    go : (b : Bool) → known ns x ≡ b → Place ns x (cond b (Some (index_of ns x)) None)
+    go true k = (refl, k)
+    go false k = k
 
 -- the work list with an arrow's target stored
 abbrev pub numbered : Worklist → ℕ → ℕ → Worklist
@@ -49,14 +31,14 @@ pub step_none : (f : Worklist) (k x : ℕ) → x ≡ 0 → numbered f k no_arrow
 unfolding insert_target
 step_none f k x e = rw e
 
-module _ (f : Worklist) (k x p : ℕ) (sized : WorklistSized f) (z : x ≡ 0 → ⊥) (e : p ≡ index_of (nodes_of f) x) where
-  size : length (nodes_of f) ≡ f.count
-  size = length-take-le f.count f.nodes (omega (arith, sized.most, sized.nodes))
-
-  pub step_known : p < f.count → numbered f k p ≡ insert_target f k x
+module _ (f : Worklist) (k x : ℕ) (z : x ≡ 0 → ⊥) where
+  pub step_known : (p : ℕ) → Place (nodes_of f) x (Some p) → numbered f k p ≡ insert_target f k x
   unfolding insert_target
-  step_known h = rw (ne_eqb x 0 z, lt-ltb (index_of (nodes_of f) x) (length (nodes_of f)) (omega (arith, size, e)), e)
+  step_known p e = rw (ne_eqb x 0 z, e.1, e.0)
 
-  pub step_new : f.count ≤ p → record { nodes = set f.nodes f.count x; count = f.count + 1; arrows = set f.arrows k p } ≡ insert_target f k x
+  -- a new node's number is the count
+  pub step_new : f.count ≤ length f.nodes → Place (nodes_of f) x None → record { nodes = set f.nodes f.count x; count = f.count + 1; arrows = set f.arrows k f.count } ≡ insert_target f k x
   unfolding insert_target
-  step_new h = rw (ne_eqb x 0 z, le-ltb (index_of (nodes_of f) x) (length (nodes_of f)) (omega (arith, size, e)), e)
+  step_new h e =
+      let n : index_of (nodes_of f) x ≡ f.count = omega (arith, place_le (nodes_of f) x, length-take-le f.count f.nodes h, ltb-false (index_of (nodes_of f) x) (length (nodes_of f)) e) in
+      rw (ne_eqb x 0 z, e, n)

@@ -1,80 +1,107 @@
-// A work list of the nodes that events lead to. The caller's loop takes the next arrow and says where it leads.
+// Finds the nodes that events lead to. The caller says where each event leads from a node.
 #![tactic(auto)]
 
 pub mod writing;
 
-ghost use Rattle.std.specs.Prelude.{◌≡◌, ◌+◌, ◌*◌, ◌/◌, ◌≤◌, ◌<◌, length, get_or, take};
+ghost use Rattle.std.specs.Prelude.{◌≡◌, ◌+◌, ◌*◌, ◌^◌, ◌≤◌, ◌<◌, ◌==◌, ℕ, position};
 ghost use Rattle.types.specs.Names.{events, most_states};
-ghost use Rattle.policy_spec.specs.reachability.Reach.{index_of as place_of};
-ghost use Rattle.policy_spec.specs.reachability.Worklists.{WorklistSized, initial_worklist, insert_target, has_pending};
+ghost use Rattle.policy_spec.specs.reachability.Claims.{Arrows};
+ghost use Rattle.policy_spec.specs.reachability.Worklists.{initial_worklist, insert_target, node_number, PendingNode, Follows, Explored};
 
-use policy_spec::reachability::{ARROWS, NODES, Worklist};
-use policy_spec::tables::{EVENTS, MOST_STATES};
-use types::PolicyNumbers;
+use policy_spec::tables::{EVENTS, MOST_STATES, NO_ARROW};
+use std::marker::Model;
+use std::num::NonZeroU16;
 
-// The first work list has the start node only.
-pub fn begin(start: u16) -> Worklist
-    ensures { result ≡ initial_worklist start }
-{
-    let mut nodes: [u16; NODES] = [0; NODES];
-    nodes[0] = start;
-    Worklist {
-        nodes,
-        count: 1,
-        arrows: [0; ARROWS],
-    }
+// Room for one node more than a policy may have, and for the arrows of the nodes that it may have.
+const NODES: usize = MOST_STATES + 1;
+
+const ARROWS: usize = EVENTS * MOST_STATES;
+
+// The work list: the nodes found so far, with room for one too many, their count, and for each arrow the number of the node that it leads to.
+// It is arrays and a count, since the library has no heap. Contracts see a record of the specs.
+#[derive(Drop)]
+pub struct Worklist {
+    nodes: [u16; NODES],
+    count: usize,
+    arrows: [u8; ARROWS],
 }
 
-// Whether arrow k still has to be followed: its node was found, and there are not too many nodes.
-pub fn has_pending(f: Worklist, k: usize) -> bool
-    requires { WorklistSized f }
-    ensures { result ≡ has_pending f k }
-{
-    (k < EVENTS * f.count) & (f.count <= MOST_STATES)
+impl Model for Worklist {
+    ghost use Rattle.std.specs.Prelude.{◌≤◌};
+    ghost use Rattle.policy_spec.specs.reachability.Worklists.{Worklist as FoundNodes, capacity};
+
+    ghost Value = { FoundNodes };
+
+    ghost view = { λ w. record { nodes = w.nodes; count = w.count; arrows = w.arrows } };
+
+    ghost invariant = { λ w. w.count ≤ capacity };
 }
 
-// The node that arrow k starts from.
-pub fn node(f: Worklist, k: usize) -> u16
-    requires { k < events * most_states }
-    ensures { result ≡ get_or f.nodes (k / events) 0 }
+// The index of node x, if it is there.
+fn index_of_node(nodes: &[u16], x: u16) -> Option<usize>
+    ensures { result ≡ position (λ y. y == x) nodes.now }
 {
-    let nodes = f.nodes;
-    nodes[k / EVENTS]
+    nodes.iter().position(|y| *y == x)
 }
 
-// The index of node x among the first n, or n if it is not there.
-fn index_of_node(nodes: &[u16; NODES], n: usize, x: u16) -> usize
-    requires { (n ≤ most_states + 1) × (n ≤ length nodes.now) }
-    ensures { (result ≡ place_of (take n nodes.now) x) × (result ≤ n) }
-{
-    let mut i: usize = 0;
-    while i < n {
-        if nodes[i] == x {
-            return i;
+impl Worklist {
+    // The first work list has the start node only.
+    fn new(start: u16) -> Worklist
+        ensures { result ≡ initial_worklist start }
+    {
+        let mut nodes: [u16; NODES] = [0; NODES];
+        nodes[0] = start;
+        Worklist {
+            nodes,
+            count: 1,
+            arrows: [0; ARROWS],
         }
-        i += 1;
     }
-    n
+
+    // The node that arrow k still has to be followed from: it was found, and there are not too many nodes.
+    fn pending(&self, k: usize) -> Option<u16>
+        requires { k < events * most_states }
+        ensures { PendingNode self.now k result }
+    {
+        if k < EVENTS * self.count && self.count <= MOST_STATES {
+            Some(self.nodes[k / EVENTS])
+        } else {
+            None
+        }
+    }
+
+    // Arrow k leads to node x, or to none. A new node is added at the end.
+    fn insert(&mut self, k: usize, x: Option<NonZeroU16>)
+        requires { (self.old.count ≤ most_states) × (k < events * most_states) }
+        ensures { self.new ≡ insert_target self.old k (node_number x) }
+    {
+        let Some(x) = x else {
+            self.arrows[k] = NO_ARROW as u8;
+            return;
+        };
+        let n = self.count;
+        let x = x.get();
+        if let Some(at) = index_of_node(&self.nodes[..n], x) {
+            self.arrows[k] = at as u8;
+            return;
+        }
+        self.arrows[k] = n as u8;
+        self.nodes[n] = x;
+        self.count = n + 1;
+    }
 }
 
-// The work list after arrow k, which leads to node x.
-pub fn insert_target(f: Worklist, k: usize, x: u16) -> Worklist
-    requires { WorklistSized f × (f.count ≤ most_states) × (k < events * most_states) }
-    ensures { result ≡ insert_target f k x }
+// Finds all nodes that events lead to from `start`. `step` gives the node after an event.
+pub fn explore<F: Fn(u16, usize) -> Option<NonZeroU16>>(start: u16, step: F) -> Worklist
+    requires { (x n : ℕ) → n < events → F.pre step x n }
+    ensures { (next : ℕ → ℕ → ℕ) → Arrows next start → Follows (F.post step) next → Explored next start result }
 {
-    let mut g = f;
-    if x == 0 {
-        g.arrows[k] = PolicyNumbers::NO_ARROW as u8;
-        return g;
+    let mut found = Worklist::new(start);
+    for k in 0..ARROWS {
+        let Some(x) = found.pending(k) else {
+            return found;
+        };
+        found.insert(k, step(x, k % EVENTS));
     }
-    let n = f.count;
-    let nodes = f.nodes;
-    let p = index_of_node(&nodes, n, x);
-    g.arrows[k] = p as u8;
-    if p < n {
-        return g;
-    }
-    g.nodes[n] = x;
-    g.count = n + 1;
-    g
+    found
 }

@@ -1,3 +1,4 @@
 pub mod maps
 pub mod precedence
 pub mod reachability
+pub mod tables

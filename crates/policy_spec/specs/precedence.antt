@@ -1,3 +1,4 @@
 pub mod Precedence
+pub mod Results
 pub mod Claims
 pub mod Proved

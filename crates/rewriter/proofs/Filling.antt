@@ -1,17 +1,16 @@
 -- Laws of the output of rewriting.
-use mathlib.Core.Path.{◌≡◌, ◌∙◌}
+use mathlib.Core.Path.{◌≡◌, refl, sym, ap}
 use mathlib.Core.List.{List, [], ◌∷◌}
 use Prim.Native.Nat.{ℕ, ◌+◌, ◌*◌, ◌≤◌}
+use native.Mathlib.Omega.{arith}
 use native.Mathlib.Numerals.{towards_suc}
 use lib.ListN.{length, get_or, set, get_or-eq_default}
 use lib.Seq.{sets, length-sets}
 use Rattle.types.specs.declared.Layout.{Layout}
 use Rattle.types.specs.declared.Instr.{Instr}
 use Rattle.types.specs.declared.Instr.TheVariants.{HALT}
-use Rattle.types.specs.declared.Bundle.{Bundle}
 use Rattle.types.specs.Names.{bundle_length}
 use Rattle.spec.specs.Words.{instr_of, routine}
-use Rattle.spec.specs.Bundles.{bundle_of}
 use Rattle.words.specs.Packing.{Packable}
 use Rattle.rewriter.specs.Rewriting.{BundlesFit}
 
@@ -29,18 +28,22 @@ module _ (ws : List ℕ) (h : ℕ) where
   pub fits : (l : Layout) (n room : ℕ) → BundlesFit l n ws room → (i : Instr) → i ≡ routine ws h → Packable l n i
   fits l n room r i e = record { some = r.some; most = r.most; top = r.top; valid = rw e (r.each h) }
 
-pub put_four : (out : List ℕ) (at w x y z : ℕ) → set (set (set (set out at w) (at + 1) x) (at + 2) y) (at + 3) z ≡ sets out at (w ∷ x ∷ y ∷ z ∷ [])
-put_four out at w x y z = simp towards_suc
+four_words : (ws : List ℕ) → length ws ≡ bundle_length → ws ≡ get_or ws 0 0 ∷ get_or ws 1 0 ∷ get_or ws 2 0 ∷ get_or ws 3 0 ∷ []
+four_words (w ∷ x ∷ y ∷ z ∷ []) e = refl
+four_words [] e = absurd (omega (arith, e))
+four_words (w ∷ []) e = absurd (omega (arith, e))
+four_words (w ∷ x ∷ []) e = absurd (omega (arith, e))
+four_words (w ∷ x ∷ y ∷ []) e = absurd (omega (arith, e))
+four_words (w ∷ x ∷ y ∷ z ∷ v ∷ vs) e = absurd (omega (arith, e))
+
+-- a bundle's words, set one by one
+pub put_four : (out ws : List ℕ) (at : ℕ) → length ws ≡ bundle_length → set (set (set (set out at (get_or ws 0 0)) (at + 1) (get_or ws 1 0)) (at + 2) (get_or ws 2 0)) (at + 3) (get_or ws 3 0) ≡ sets out at ws
+put_four out ws at e = simp towards_suc (ap (sets out at) (sym (four_words ws e)))
 
 -- ---- one bundle
 
 pub ready_room : (l : Layout) (n room room' : ℕ) (ws : List ℕ) → BundlesFit l n ws room → room' ≡ room → bundle_length * n ≤ room'
 ready_room l n room room' ws r e = rw e r.fit
-
-pub put_bundle : (l : Layout) (n h : ℕ) (i : Instr) (b : Bundle) → b ≡ bundle_of l n i
-    → (out out' : List ℕ) → out' ≡ sets out (bundle_length * h) (get_or b.words 0 0 ∷ get_or b.words 1 0 ∷ get_or b.words 2 0 ∷ get_or b.words 3 0 ∷ [])
-    → out' ≡ sets out (bundle_length * h) (bundle_of l n i).words
-put_bundle l n h i b eb out out' eo = eo ∙ rw eb
 
 pub length_put : (out out' : List ℕ) (at : ℕ) (xs : List ℕ) → out' ≡ sets out at xs → length out' ≡ length out
 length_put out out' at xs e = rw e (length-sets out at xs)

@@ -6,4 +6,5 @@ pub mod loading;
 mod writing;
 
 pub use crate::loading::load;
+pub use installer::LentPolicy;
 pub use machine_lent::{run, step};

@@ -11,6 +11,7 @@ use types::{Instr, Layout};
 use words::count::bundles;
 
 // Writes the words to the start of `commands`, then replaces them by their bundles.
+#[tactic(auto, using(crate::proofs::writing::Laws::read_two, crate::proofs::writing::Laws::read_few, crate::proofs::writing::Laws::all_ready, crate::proofs::writing::Laws::all_long, crate::proofs::writing::Laws::all_written))]
 pub fn write_routine(layout: Layout, bytes: &[u8], commands: &mut [u64])
     requires { (translate_answer layout bytes.now (length commands.old)).number ≡ 0 }
     ensures { commands.new ≡ sets commands.old 0 (commands_of layout (words_in bytes.now)) }

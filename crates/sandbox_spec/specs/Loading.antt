@@ -1,10 +1,12 @@
 -- What loading a routine's bytes answers and leaves.
-use Rattle.std.specs.Prelude.{ℕ, List, length}
+use Rattle.std.specs.Prelude.{ℕ, List, length, Result, Ok, Err}
 use Rattle.types.specs.declared.Layout.{Layout}
 use Rattle.types.specs.declared.Machine.{Machine}
 use Rattle.types.specs.declared.Answer.{Answer}
-use Rattle.types.specs.Results.{Installed}
-use Rattle.types.specs.Names.{most_instructions, answer, if_taken, or_else, output_of}
+use Rattle.types.specs.declared.Reject.{Reject}
+use Rattle.types.specs.Results.{Installed, rejected}
+use Rattle.sandbox_spec.specs.declared.LoadedRoutine.{LoadedRoutine}
+use Rattle.types.specs.Names.{taken_number, most_instructions, answer, if_taken, or_else, output_of}
 use Rattle.spec.specs.Policies.{Policy}
 use Rattle.spec.specs.Bytes.{words_in, read_answer}
 use Rattle.spec.specs.Bundles.{commands_of, command_count, rewrite_answer, check_answer}
@@ -34,3 +36,8 @@ load_machine lay pol s room mem = if_taken (load_answer lay pol s room mem) (ins
 
 abbrev pub load_of : Layout → Policy → List ℕ → ℕ → List ℕ → Installed
 load_of lay pol s room mem = record { machine = load_machine lay pol s room mem; answer = load_answer lay pol s room mem }
+
+-- what the code's result is in these terms; after a refusal the record is that of a refused installation
+abbrev pub loaded_of : Result LoadedRoutine Reject → Installed
+loaded_of (Ok l) = record { machine = l.machine; answer = answer taken_number l.commands }
+loaded_of (Err e) = record { machine = machine_refused; answer = rejected e }

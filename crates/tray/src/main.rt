@@ -4,78 +4,59 @@
 
 pub mod reading;
 
-use lines::print_case;
+use lines::{BASE, drum, print_case};
 use std::io;
 use types::{Bundle, Instr, Layout};
 
-// The base in document 01's layout.
-const BASE: u32 = 4096;
+const MOST: usize = Bundle::MOST_COMMANDS;
 
-fn rewrites(rt: &impl Print, name: &[u8], layout: Layout, words: &[u64]) -> io::Result<()> {
-    let mut commands = [0u64; Bundle::MOST_COMMANDS];
+// One command less than two bundles have.
+const TOO_FEW: usize = 7;
+
+// Rewrites into room for `ROOM` commands.
+fn rewrites_into<const ROOM: usize>(
+    rt: &impl Print,
+    name: &str,
+    layout: Layout,
+    words: &[u64],
+) -> io::Result<()> {
+    let mut commands = [0u64; ROOM];
     print_case(rt, name, rewriter::rewrite(layout, words, &mut commands))
 }
 
-// The output has room for seven commands, one less than two bundles.
-fn rewrites_to_7(rt: &impl Print, name: &[u8], layout: Layout, words: &[u64]) -> io::Result<()> {
-    let mut commands = [0u64; 7];
-    print_case(rt, name, rewriter::rewrite(layout, words, &mut commands))
-}
-
-fn drum(base: u32) -> Layout {
-    let ceilings = [Layout::NO_LIMIT; Layout::CEILINGS];
-    Layout::new(1024, 256, 511, 0, 16, 2, base, 64, ceilings)
+fn rewrites(rt: &impl Print, name: &str, layout: Layout, words: &[u64]) -> io::Result<()> {
+    rewrites_into::<MOST>(rt, name, layout, words)
 }
 
 fn bad_words(rt: &impl Print, layout: Layout) -> io::Result<()> {
-    rewrites(rt, b"rewrite kind_13", layout, &[0, 0xd])?;
-    rewrites(rt, b"rewrite stray_bit_24", layout, &[0, 0x100_0000])?;
-    rewrites(rt, b"rewrite present_field", layout, &[0x1_0000_0000])?;
-    rewrites(rt, b"rewrite register_14", layout, &[0, 0, 0xe0003])?;
-    rewrites(rt, b"rewrite register_15", layout, &[0, 0, 0xf0003])
+    rewrites(rt, "rewrite kind_13", layout, &[0, 0xd])?;
+    rewrites(rt, "rewrite stray_bit_24", layout, &[0, 0x100_0000])?;
+    rewrites(rt, "rewrite present_field", layout, &[0x1_0000_0000])?;
+    rewrites(rt, "rewrite register_14", layout, &[0, 0, 0xe0003])?;
+    rewrites(rt, "rewrite register_15", layout, &[0, 0, 0xf0003])
 }
 
 fn landings(rt: &impl Print, layout: Layout) -> io::Result<()> {
-    rewrites(rt, b"rewrite goif_to_the_end", layout, &[0x1_0000_000a])?;
-    rewrites(
-        rt,
-        b"rewrite goif_past_the_end",
-        layout,
-        &[0, 0x3_0000_000a],
-    )?;
-    rewrites(
-        rt,
-        b"rewrite grade_before_landing",
-        layout,
-        &[0x9_0000_f00a],
-    )
+    rewrites(rt, "rewrite goif_to_the_end", layout, &[0x1_0000_000a])?;
+    rewrites(rt, "rewrite goif_past_the_end", layout, &[0, 0x3_0000_000a])?;
+    rewrites(rt, "rewrite grade_before_landing", layout, &[0x9_0000_f00a])
 }
 
 fn lists(rt: &impl Print, layout: Layout) -> io::Result<()> {
     let most = [0u64; Instr::MOST];
-    rewrites(rt, b"rewrite 1023", layout, &most)?;
+    rewrites(rt, "rewrite 1023", layout, &most)?;
     let more = [0u64; Instr::MOST + 1];
-    rewrites(rt, b"rewrite 1024", layout, &more)?;
-    rewrites_to_7(rt, b"rewrite room_for_7_of_8", layout, &[0])
+    rewrites(rt, "rewrite 1024", layout, &more)?;
+    rewrites_into::<TOO_FEW>(rt, "rewrite room_for_7_of_8", layout, &[0])
 }
 
 fn layouts(rt: &impl Print) -> io::Result<()> {
     let ceilings = [Layout::NO_LIMIT; Layout::CEILINGS];
     let unaligned = Layout::new(64, 6, 9, 0, 16, 1, 0, 32, ceilings);
-    rewrites(rt, b"rewrite sandbox_6_to_9", unaligned, &[0xd])?;
-    rewrites(
-        rt,
-        b"rewrite base_16_of_7",
-        drum(16),
-        &[0, 0, 0, 0, 0, 0, 0],
-    )?;
-    rewrites(
-        rt,
-        b"rewrite base_32_of_7",
-        drum(32),
-        &[0, 0, 0, 0, 0, 0, 0],
-    )?;
-    rewrites_to_7(rt, b"rewrite base_before_room", drum(4), &[0])
+    rewrites(rt, "rewrite sandbox_6_to_9", unaligned, &[0xd])?;
+    rewrites(rt, "rewrite base_16_of_7", drum(16), &[0, 0, 0, 0, 0, 0, 0])?;
+    rewrites(rt, "rewrite base_32_of_7", drum(32), &[0, 0, 0, 0, 0, 0, 0])?;
+    rewrites_into::<TOO_FEW>(rt, "rewrite base_before_room", drum(4), &[0])
 }
 
 fn main(rt: HostRuntime) -> io::Result<()> {

@@ -7,16 +7,13 @@ pub mod input;
 ghost use Rattle.std.specs.Prelude.{◌*◌, ◌≤◌, length};
 ghost use Rattle.types.specs.Names.{pair_cells};
 
-use lines::print;
+use lines::{BASE, drum};
+use sandbox::LentPolicy;
 use std::io;
-use types::{Bundle, Instr, Layout, Machine, PolicyNumbers, Refusal, RunAnswer};
+use types::{Answer, Bundle, Instr, Layout, Machine, PolicyNumbers, RunAnswer};
 
-// Memory cells, as a number and as a length, and the base.
-const SIZE: u32 = 1024;
-
-const CELLS: usize = SIZE as usize;
-
-const BASE: u32 = 4096;
+// The cells of document 01's layout.
+const CELLS: usize = 1024;
 
 // An event that is not allowed, as a byte of a table.
 const NO_ARROW: u8 = PolicyNumbers::NO_ARROW as u8;
@@ -25,35 +22,17 @@ const NO_ARROW: u8 = PolicyNumbers::NO_ARROW as u8;
 const LONGEST: usize = Instr::COUNT_BYTES + Instr::MOST_BYTES * Instr::MOST;
 
 fn print_answer(rt: &impl Print, number: u8) -> io::Result<()> {
-    print(rt, b"answer ", number as u64)?;
-    lines::end(rt)
-}
-
-fn print_event(rt: &impl Print, event: u32, value: u32) -> io::Result<()> {
-    print(rt, b"event ", event as u64)?;
-    print(rt, b" ", value as u64)?;
-    lines::end(rt)
+    println!(rt; "answer {number}")
 }
 
 // Prints the pairs at the start of a log, a line each.
 fn print_events(rt: &impl Print, log: &[u32], pairs: usize) -> io::Result<()>
     requires { pair_cells * pairs ≤ length log.now }
 {
-    for i in 0..pairs {
-        print_event(
-            rt,
-            log[RunAnswer::PAIR_CELLS * i],
-            log[RunAnswer::PAIR_CELLS * i + 1],
-        )?;
+    for pair in log[..RunAnswer::PAIR_CELLS * pairs].chunks_exact(RunAnswer::PAIR_CELLS) {
+        println!(rt; "event {} {}", pair[0], pair[1])?;
     }
     Ok(())
-}
-
-fn print_end(rt: &impl Print, ending: u8, steps: u32, state: u32) -> io::Result<()> {
-    print(rt, b"end ", ending as u64)?;
-    print(rt, b" steps ", steps as u64)?;
-    print(rt, b" state ", state as u64)?;
-    lines::end(rt)
 }
 
 // Runs a loaded routine once. The state cell is cell 0.
@@ -69,57 +48,53 @@ fn run(
     let out = machine::run_value(layout, commands, start, memory, 1000, &readings, &mut log);
     let a = out.answer;
     print_events(rt, &log, a.pairs)?;
-    let e = a.ending;
-    print_end(
-        rt,
-        machine_step::endings::ending_number(e),
+    println!(rt;
+        "end {} steps {} state {}",
+        u8::from(a.ending),
         a.steps,
-        memory[0],
+        memory[0]
     )
 }
 
 // Every instruction is a landing.
 fn all_landings() -> [u32; Bundle::MOST] {
     let mut xs = [0u32; Bundle::MOST];
-    for i in 0..Bundle::MOST {
-        xs[i] = i as u32;
+    for (i, x) in xs.iter_mut().enumerate() {
+        *x = i as u32;
     }
     xs
 }
 
 fn try_routine(rt: &impl Print, bytes: &[u8]) -> io::Result<()> {
-    let ceilings = [Layout::NO_LIMIT; Layout::CEILINGS];
-    let layout = Layout::new(SIZE, 256, 511, 0, 16, 2, BASE, 64, ceilings);
+    let layout = drum(BASE);
     // In state 0 all is allowed, and event 2, the door, leads to state 1. In state 1 event 0, gas, is not allowed.
     let table = [
         0u8, 0, 1, 0, 0, 0, 0, 0, 0, 0, 0, 0, 0, 0, 0, 0, NO_ARROW, 1, 1, 1, 1, 1, 1, 1, 1, 1, 1,
         1, 1, 1, 1, 1,
     ];
-    let policy = PolicyNumbers {
-        states: 2,
-        start: 0,
+    let policy = LentPolicy {
+        numbers: PolicyNumbers {
+            states: 2,
+            start: 0,
+        },
+        table: &table,
+        landings: &all_landings(),
     };
-    let landings = all_landings();
     let mut commands = [0u64; Bundle::MOST_COMMANDS];
     let mut memory = [0u32; CELLS];
-    let i = sandbox::load(
-        layout,
-        policy,
-        &table,
-        &landings,
-        bytes,
-        &mut commands,
-        &mut memory,
-    );
-    let a = i.answer;
-    let refused = a.number;
-    print_answer(rt, refused)?;
-    if refused != Refusal::TAKEN {
-        return Ok(());
+    match sandbox::load(layout, policy, bytes, &mut commands, &mut memory) {
+        Err(reject) => print_answer(rt, u8::from(reject.refusal)),
+        Ok(loaded) => {
+            print_answer(rt, Answer::TAKEN)?;
+            run(
+                rt,
+                layout,
+                &commands[..loaded.commands],
+                loaded.machine,
+                &mut memory,
+            )
+        }
     }
-    let n = a.place;
-    let m = i.machine;
-    run(rt, layout, &commands[..n], m, &mut memory)
 }
 
 // Reads one byte more than the longest routine has, so that a longer input is refused.

@@ -4,8 +4,10 @@
 ghost use Rattle.std.specs.Prelude.{◌≡◌};
 ghost use Rattle.types.specs.declared.Ending.TheVariants.{Refused};
 ghost use Rattle.types.specs.Names.{number_of, ending_number, status_number, ending_of, NamesStatus};
-ghost use Rattle.types.specs.Results.{reject_at, answer_of};
-ghost use Rattle.types.specs.Records.{machine_at, machine_refused, outcome_of};
+ghost use Rattle.types.specs.Results.{reject_at, answer_of, verdict_of};
+ghost use Rattle.types.specs.Records.{layout_of, machine_of, machine_at, machine_refused, outcome_of};
+
+use std::fmt;
 
 // Where things lie in a drum's memory. U, SL, SH, M, P, S, B and Q are the paper's letters. Orders 0 to 7 have a ceiling each.
 #[derive(Clone, Copy)]
@@ -33,6 +35,32 @@ impl Layout {
     pub const CEILINGS: usize = PolicyNumbers::ORDERS as usize;
     // A ceiling that limits nothing.
     pub const NO_LIMIT: u32 = 4294967295;
+
+    pub fn new(
+        size: u32,
+        low: u32,
+        high: u32,
+        cell: u32,
+        table: u32,
+        states: u32,
+        base: u32,
+        landings: u32,
+        ceilings: [u32; Layout::CEILINGS],
+    ) -> Layout
+        ensures { result ≡ layout_of size low high cell table states base landings ceilings }
+    {
+        Layout {
+            size,
+            low,
+            high,
+            cell,
+            table,
+            states,
+            base,
+            landings,
+            ceilings,
+        }
+    }
 }
 
 // A policy's state count and start state. Its table, 16 bytes a state, and its landings are passed beside it as slices.
@@ -43,7 +71,7 @@ pub struct PolicyNumbers {
 }
 
 impl PolicyNumbers {
-    // In a table, this entry means that the event is not allowed.
+    // In a table, this entry means that the event is not allowed. It is a byte of the paper's form of a policy.
     pub const NO_ARROW: u32 = 255;
     // Entries in one row of a table.
     pub const EVENTS: u32 = 16;
@@ -73,6 +101,7 @@ pub struct Limits {
 }
 
 // A guest instruction. PLAIN covers the kinds SET to SAR; its fields are kind, d, a, b, v.
+// A kind is a number and no enum: it is a field of a word, the definitions compute with it (`shape_with` adds `plain_step`), and SET to SAR are one range.
 #[derive(Clone, Copy, Debug, PartialEq, Eq)]
 pub enum Instr {
     HALT,
@@ -121,7 +150,8 @@ impl Instr {
     pub const PLAIN_STEP: u64 = Command::SET - Instr::KIND_SET;
 }
 
-// A command of the machine. Plain covers the kinds SET to SHL; its fields are kind, d, a, b, v. Invalid is any word that is no command.
+// A command of the machine. Plain covers the kinds SET to SHL; its fields are kind, d, a, b, v. A kind is a number, as a guest's is.
+// Invalid is any word that is no command. It is a case and no None because `command_of` and `effect_of` of the specs give every word a command and an effect.
 #[derive(Clone, Copy, Debug, PartialEq, Eq)]
 pub enum Command {
     Nop,
@@ -212,10 +242,6 @@ pub enum Status {
     Strayed = 4,
 }
 
-impl Status {
-    pub const COUNT: u32 = Status::Strayed as u32 + 1;
-}
-
 impl From<Status> for u32 {
     ghost from_gives = { λ status n. n ≡ status_number status };
 
@@ -259,26 +285,24 @@ impl Machine {
 
     pub const REGISTERS: usize = Machine::HIDDEN + 1;
 
+    pub fn from_parts(regs: [u32; Machine::REGISTERS], pc: u32, status: Status) -> Machine
+        ensures { result ≡ machine_of regs pc status }
+    {
+        Machine { regs, pc, status }
+    }
+
     // The record that installing yields: all registers 0, pc at the base, running.
     pub fn new(base: u32) -> Machine
         ensures { result ≡ machine_at base }
     {
-        Machine {
-            regs: [0; Machine::REGISTERS],
-            pc: base,
-            status: Status::Running,
-        }
+        Machine::from_parts([0; Machine::REGISTERS], base, Status::Running)
     }
 
     // The record that a refused installation yields: zeros, and faulted.
     pub fn refused() -> Machine
         ensures { result ≡ machine_refused }
     {
-        Machine {
-            regs: [0; Machine::REGISTERS],
-            pc: 0,
-            status: Status::Faulted,
-        }
+        Machine::from_parts([0; Machine::REGISTERS], 0, Status::Faulted)
     }
 }
 
@@ -364,6 +388,21 @@ impl From<Result<usize, Reject>> for Answer {
                 place: reject.place,
             },
         }
+    }
+}
+
+impl From<Result<(), Reject>> for Answer {
+    ghost from_gives = { λ r a. a ≡ verdict_of r };
+
+    fn from(outcome: Result<(), Reject>) -> Answer {
+        Answer::from(outcome.map(|()| 0usize))
+    }
+}
+
+// The number and the place.
+impl fmt::Display for Answer {
+    fn fmt<W: fmt::Write>(&self, f: &mut fmt::Formatter<W>) -> fmt::Result {
+        write!(f, "{} {}", self.number, self.place)
     }
 }
 

@@ -1,3 +1,4 @@
 pub mod RefusalLaws
 pub mod Laws
 pub mod BundleWords
+pub mod Chunks

@@ -1,10 +1,10 @@
 -- Laws of storing a list over another.
 use Prim.Native.Nat.{ℕ, suc, ◌+◌, ◌<◌, ◌≤◌}
 use mathlib.Core.Path.{◌≡◌, refl, sym, ap, ◌∙◌}
-use mathlib.Core.List.{List, append-nil, ◌++◌}
+use mathlib.Core.List.{List, append-nil}
 use native.Mathlib.Omega.{arith}
 use native.Mathlib.Nat.{add-zero, le_of_eq}
-use lib.ListN.{length, get_or, set, drop, take, length-set, drop_of_length-le}
+use lib.ListN.{length, get_or, set, drop, length-set, drop_of_length-le}
 use Rattle.std.proofs.Common.{drop-drop, append_assoc}
 use lib.Seq.{sets, sets-eq, drop-cons}
 use borrow.Rule.Slice.PartMut.{put_mid}

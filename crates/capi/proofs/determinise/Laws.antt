@@ -9,7 +9,7 @@ use lib.ListN.{length}
 use lib.Pow.{pow_mono}
 use borrow.Author.Tests.{ltb-false, lt-ltb, le-ltb}
 use Rattle.types.specs.Names.{most_states}
-use Rattle.policy_spec.specs.declared.reachability.Made.{Made}
+use Rattle.policy_spec.specs.reachability.Reach.{Made}
 use Rattle.policy_spec.proofs.reachability.Reach.{place_most}
 use Rattle.policy_determinise.specs.Drawings.{drawing_of, set_after, drawing_right, determinise_of, determinise_table}
 use Rattle.policy_determinise.proofs.Runs.{fit_of}

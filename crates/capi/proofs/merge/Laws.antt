@@ -1,23 +1,17 @@
 -- What merging answers and leaves, as a C host's numbers.
 use Prim.Native.Nat.{ℕ, ◌+◌, ◌^◌, ◌<◌}
-use mathlib.Core.Path.{◌≡◌, refl, sym, ◌∙◌, ap, ap₂, subst}
+use mathlib.Core.Path.{◌≡◌, refl, sym, ◌∙◌, ap, subst}
 use mathlib.Core.Bool.{Bool, true, false, ◌&&◌}
-use mathlib.Core.List.{List, [], ◌∷◌, ◌++◌, append-nil}
+use mathlib.Core.List.{List, ◌∷◌, ◌++◌, append-nil}
 use native.Mathlib.Omega.{arith}
-use lib.ListN.{length, get_or, drop, replicate}
+use lib.ListN.{length, drop, replicate}
 use lib.Seq.{sets, sets-eq}
 use Rattle.types.specs.Names.{orders}
-use Rattle.spec.specs.Policies.{Policy, policy_of}
+use Rattle.spec.specs.Policies.{Policy}
 use Rattle.capi_spec.specs.Numbers.{answer_to}
 use Rattle.policy_spec.proofs.reachability.Reach.{place_most}
-use Rattle.policy_merge.specs.declared.Merged.{Merged}
-use Rattle.policy_merge.specs.declared.Side.{Side}
-use Rattle.policy_merge.specs.Pairs.{pair_after, start_pair, side_right, merge_made, with_ceilings, merge_of, merge_table}
-use Rattle.capi.specs.merge.Numbers.{ceilings_from, side_of, side_from, merged_to, HostMerged, host_merged, merge_for}
-
-pub side_of_lem : (xs cs : List ℕ) → cs ≡ ceilings_from xs → side_of (get_or xs 0 0) (get_or xs 1 0) cs ≡ side_from xs
-unfolding side_from
-side_of_lem xs cs e = ap (side_of (get_or xs 0 0) (get_or xs 1 0)) e
+use Rattle.policy_merge.specs.Pairs.{Merged, pair_after, start_pair, side_right, merge_made, with_ceilings, merge_of, merge_table}
+use Rattle.capi.specs.merge.Numbers.{ceilings_from, policy_from, merged_to, host_merged, merge_for}
 
 -- the ceilings are stored after states and start, over zeros
 pub merged_of : (m : Merged) (xs : List ℕ) → length m.ceilings ≡ orders → xs ≡ sets (m.policy.states ∷ m.policy.start ∷ replicate orders 0) 2 m.ceilings → xs ≡ merged_to m
@@ -36,17 +30,7 @@ narrow_merged a c b d room m e = subst (λ (x : Merged). x.answer.place < 2 ^ 32
     go true f = rw f (omega (arith, place_most (pair_after a b) (start_pair a b) room))
 
 -- the result is that for the policies from a host's numbers
-module _ (xs ys left right table : List ℕ) (one other : Side) (e : one ≡ side_from xs) (f : other ≡ side_from ys) where
-  abbrev policy_with : Side → List ℕ → Policy
-  policy_with s t = policy_of s.policy.states s.policy.start t []
-
-  pub merged : (m : Merged) (t' ms ns : List ℕ)
-      → m ≡ merge_of (policy_with one left) one.ceilings (policy_with other right) other.ceilings (length table)
-      → t' ≡ merge_table (policy_with one left) (policy_with other right) table → ms ≡ merged_to m → ns ≡ answer_to m.answer
-      → host_merged ns ms t' ≡ merge_for xs left ys right table
-  unfolding side_from merge_for
-  merged m t' ms ns q r k n =
-      let host : Merged → Side → Side → HostMerged = λ d x y. host_merged (answer_to d.answer) (merged_to d) (merge_table (policy_with x left) (policy_with y right) table) in
-      rw (k, n, r)
-      (ap (λ (d : Merged). host d one other) q
-      ∙ ap₂ (λ (x y : Side). host (merge_of (policy_with x left) x.ceilings (policy_with y right) y.ceilings (length table)) x y) e f)
+pub hosted : (xs left ys right table : List ℕ) (a b : Policy) (c d : List ℕ) → a ≡ policy_from xs left → c ≡ ceilings_from xs → b ≡ policy_from ys right → d ≡ ceilings_from ys
+    → (m : Merged) (t : List ℕ) → m ≡ merge_of a c b d (length table) → t ≡ merge_table a b table → host_merged (answer_to m.answer) (merged_to m) t ≡ merge_for xs left ys right table
+unfolding merge_for
+hosted xs left ys right table a b c d p q r s m t e f = rw (e, f, p, q, r, s)

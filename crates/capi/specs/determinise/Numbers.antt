@@ -2,7 +2,7 @@
 use Rattle.std.specs.Prelude.{ℕ, ◌^◌, cond, List, ltb}
 use Rattle.types.specs.Names.{most_states}
 use Rattle.capi_spec.specs.Numbers.{made_to}
-use Rattle.policy_spec.specs.declared.reachability.Made.{Made}
+use Rattle.policy_spec.specs.reachability.Reach.{Made}
 
 -- a start set with a bit above 15 becomes empty; both are refused as bad drawing (16)
 unfoldable pub starts_from : ℕ → ℕ

@@ -3,19 +3,11 @@ use Rattle.std.specs.Prelude.{ℕ, List, [], ◌∷◌, length, get_or}
 use Rattle.types.specs.Names.{orders}
 use Rattle.spec.specs.Policies.{Policy, policy_of}
 use Rattle.capi_spec.specs.Numbers.{numbers_from, answer_to}
-use Rattle.policy_merge.specs.declared.Merged.{Merged}
-use Rattle.policy_merge.specs.declared.Side.{Side}
-use Rattle.policy_merge.specs.Pairs.{merge_of, merge_table}
+use Rattle.policy_merge.specs.Pairs.{Merged, merge_of, merge_table}
 
 -- one of the two policies from its numbers: state count, start, ceilings
 abbrev pub ceilings_from : List ℕ → List ℕ
 ceilings_from xs = numbers_from orders 2 xs
-
-abbrev pub side_of : ℕ → ℕ → List ℕ → Side
-side_of states start ceilings = record { policy = record { states = states; start = start }; ceilings = ceilings }
-
-unfoldable pub side_from : List ℕ → Side
-side_from xs = side_of (get_or xs 0 0) (get_or xs 1 0) (ceilings_from xs)
 
 -- its policy, with its table
 abbrev pub policy_from : List ℕ → List ℕ → Policy

@@ -1,7 +1,7 @@
 -- What `hemdroas_precedence` answers, as numbers.
 use Rattle.std.specs.Prelude.{ℕ, List}
 use Rattle.capi_spec.specs.Numbers.{made_to}
-use Rattle.policy_spec.specs.declared.precedence.PrecedenceResult.{PrecedenceResult}
+use Rattle.policy_spec.specs.precedence.Precedence.{PrecedenceResult}
 
 -- a made policy as four numbers: number, place, states, and the set of events that it never allows
 abbrev pub precedence_to : PrecedenceResult → List ℕ

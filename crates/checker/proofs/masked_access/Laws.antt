@@ -5,21 +5,11 @@ use Prim.Native.Nat.{ℕ}
 use lib.Dec.{ltb, eqb}
 use borrow.Author.Tests.{ne_eqb}
 use Rattle.types.specs.declared.Layout.{Layout}
-use Rattle.types.specs.Names.{guest_registers, hidden, command}
-use Rattle.spec.specs.Words.{kind_of, d_of, a_of, b_of, pack_of}
+use Rattle.types.specs.Names.{guest_registers, command}
+use Rattle.spec.specs.Words.{kind_of, d_of, a_of, b_of}
 use Rattle.spec.specs.Commands.{word_of}
 use Rattle.spec.specs.Bundles.{shape_of, valid, is_bundle}
 use Rattle.checker.specs.masked_access.MaskedAccess.{mask_words, load_word, store_word, access_of}
-
-pub masks_is : (l : Layout) (w x a : ℕ) (p q : Bool) → a ≡ a_of w → p ≡ eqb w (pack_of command.andi hidden a 0 0 l.high)
-    → q ≡ eqb x (pack_of command.ori hidden hidden 0 0 l.low) → (ltb a guest_registers && p && q) ≡ mask_words l w x
-masks_is l w x a p q ea ep eq = rw (ep, eq, ea)
-
-pub loads_is : (y d : ℕ) (p : Bool) → d ≡ d_of y → p ≡ eqb y (pack_of command.load d hidden 0 0 0) → (ltb d guest_registers && p) ≡ load_word y
-loads_is y d p ed ep = rw (ep, ed)
-
-pub stores_is : (y b : ℕ) (p : Bool) → b ≡ b_of y → p ≡ eqb y (pack_of command.store 0 hidden b 0 0) → (ltb b guest_registers && p) ≡ store_word y
-stores_is y b p eb ep = rw (ep, eb)
 
 -- the tests of three words, in another order
 load_order : (a p q d s t : Bool) → (a && p && q && (d && s) && t) ≡ (d && a && p && q && s && t)

@@ -5,6 +5,7 @@ use Rattle.types.specs.declared.Instr.{Instr}
 use Rattle.types.specs.declared.Instr.TheVariants.{LOAD, STORE}
 use Rattle.types.specs.Names.{guest_registers, hidden, command}
 use Rattle.spec.specs.Words.{kind_of, d_of, a_of, b_of, pack_of}
+use Rattle.spec.specs.Bundles.{is_bundle}
 
 -- whether two words are the mask of LOAD and STORE, and whether the third is that of each
 abbrev pub mask_words : Layout → ℕ → ℕ → Bool
@@ -19,3 +20,7 @@ store_word y = ltb (b_of y) guest_registers && eqb y (pack_of command.store 0 hi
 -- the instruction, LOAD or STORE, by the third word
 abbrev pub access_of : ℕ → ℕ → Instr
 access_of w y = cond (eqb (kind_of y) command.load) (LOAD (d_of y) (a_of w)) (STORE (a_of w) (b_of y))
+
+-- whether four words are a LOAD or a STORE; how long the list is makes no difference
+abbrev pub access_words : Layout → ℕ → ℕ → ℕ → ℕ → Bool
+access_words l w x y z = is_bundle l 0 (access_of w y) w x y z

@@ -1,7 +1,7 @@
 -- Tests bundles of one command and three NOPs.
 use Rattle.std.specs.Prelude.{ℕ, ◌-◌, ◌/◌, Bool, ◌&&◌, ltb, eqb}
 use Rattle.types.specs.declared.Layout.{Layout}
-use Rattle.types.specs.Names.{bundle_length}
+use Rattle.types.specs.Names.{bundle_length, command}
 use Rattle.spec.specs.Words.{v_of}
 use Rattle.spec.specs.Commands.{is_command}
 use Rattle.spec.specs.Bundles.{address_of}
@@ -10,6 +10,10 @@ use Rattle.words.specs.Guests.{only_guest_registers}
 -- whether four words are this command's word and three NOPs
 abbrev pub single_words : ℕ → ℕ → ℕ → ℕ → ℕ → Bool
 single_words w x y z w' = eqb w w' && eqb x 0 && eqb y 0 && eqb z 0
+
+-- whether four words are a HALT
+abbrev pub halt_words : ℕ → ℕ → ℕ → ℕ → Bool
+halt_words w x y z = single_words w x y z command.halt
 
 -- whether four words are a command on guest registers and three NOPs
 abbrev pub plain_words : ℕ → ℕ → ℕ → ℕ → Bool

@@ -1,13 +1,6 @@
-use mathlib.Core.Path.{◌∙◌}
-use borrow.Author.Rules.{rules}
-use Rattle.forward.proofs.Scan.{oversize, judge_refused, judge_taken}
+use Rattle.std.proofs.Common.{arith}
+use Rattle.forward.proofs.Scan.{bad_word}
 use Rattle.forward.proofs.forward.Goals as goal
 
-pub returns-then-words-gt-MOST : goal.returns-then-words-gt-MOST
-returns-then-words-gt-MOST c = c.refused.ensures ∙ search (oversize, rules)
-
-pub returns-then-refused-ne-TAKEN : goal.returns-then-refused-ne-TAKEN
-returns-then-refused-ne-TAKEN c = search (judge_refused, rules)
-
-pub returns : goal.returns
-returns c = search (judge_taken, rules)
+pub returns-in_err-first_refusal : goal.returns-in_err-first_refusal
+returns-in_err-first_refusal c = bad_word _ (omega arith) _ c.in_err-first_refusal.ensures _ c.from_residual.ensures.1

@@ -1,7 +1,7 @@
 -- Laws of the check of command lists, one for each return.
 use mathlib.Core.Path.{◌≡◌, refl, sym, ◌∙◌, ap}
 use mathlib.Core.Bool.{Bool, true, false, not}
-use mathlib.Core.List.{List}
+use mathlib.Core.List.{List, []}
 use Prim.Native.Nat.{ℕ, ◌+◌, ◌-◌, ◌*◌, ◌/◌, ◌<◌, ◌≤◌}
 use native.Mathlib.Omega.{arith}
 use borrow.Author.Tests.{ne_eqb, le-ltb, eqb-true}
@@ -11,7 +11,13 @@ use Rattle.types.specs.declared.Layout.{Layout}
 use Rattle.types.specs.declared.Answer.{Answer}
 use Rattle.types.specs.declared.Instr.{Instr}
 use Rattle.types.specs.declared.Refusal.TheVariants.{NotForward}
-use Rattle.types.specs.Names.{taken_number, bundle_length, answer, refusal, command}
+use Rattle.types.specs.declared.Reject.{Reject}
+use Rattle.std.specs.Prelude.{Result, IsErrAnd}
+use Rattle.std.specs.Simd.{first_chunks}
+use Rattle.types.specs.Names.{taken_number, bundle_length, answer, command}
+use Rattle.types.specs.Results.{reject_at, rejected, verdict_of}
+use Rattle.types.proofs.Exits.{exit_rejected, refusal_counts}
+use Rattle.words.proofs.Chunks.{chunk_element}
 use Rattle.spec.specs.Words.{kind_of, v_of}
 use Rattle.spec.specs.Bundles.{decode_bundle, bundle_at, check_answer}
 use Rattle.spec.proofs.Bools.{cond_ind}
@@ -56,25 +62,37 @@ module _ (lay : Layout) (h w : ℕ) where
   unfolding forward_word
   word_jump e = rw e
 
-module _ (lay : Layout) (ws : List ℕ) (h : ℕ) (a : Answer) (ea : a ≡ forward_from (bundle_at lay ws) h (length ws / bundle_length - h)) where
-  module _ (lt : h < length ws / bundle_length) (w : ℕ) (ew : w ≡ get_or ws (bundle_length * h) 0) (p : Bool) (ep : p ≡ forward_word lay h w) where
-    bundle_forward : p ≡ forward_at h (bundle_at lay ws h)
-    unfolding bundle_at
-    bundle_forward = ep ∙ ap (forward_word lay h) ew ∙ read_is lay h _ _ _
+module _ (lay : Layout) (ws : List ℕ) (h : ℕ) where
+  abbrev size : ℕ
+  size = length ws / bundle_length
 
-    pub bundle_more : p ≡ true → a ≡ forward_from (bundle_at lay ws) (h + 1) (length ws / bundle_length - (h + 1))
-    bundle_more = scan_more (bundle_at lay ws) (length ws / bundle_length) h a ea lt p bundle_forward
+  -- no bundle before h breaks the class, so what follows is the answer
+  abbrev pub Reaches : Type 0
+  Reaches = forward_from (bundle_at lay ws) 0 size ≡ forward_from (bundle_at lay ws) h (size - h)
 
-    pub bundle_stop : p ≡ false → refusal NotForward h ≡ a
-    bundle_stop = scan_stop (bundle_at lay ws) (length ws / bundle_length) h a ea lt p bundle_forward
+  module _ (q : Reaches) where
+    module _ (lt : h < size) (bs : List (List ℕ)) (eb : bs ≡ first_chunks bundle_length (length ws / bundle_length) ws) (p : Bool) (ep : p ≡ forward_word lay h (get_or (get_or bs h []) 0 0)) where
+      first_word : get_or (get_or bs h []) 0 0 ≡ get_or ws (bundle_length * h) 0
+      first_word = let z : bundle_length * h + 0 ≡ bundle_length * h = omega arith in rw (eb, chunk_element bundle_length (length ws / bundle_length) ws h 0 [] 0 lt (omega arith), z)
 
-  pub bundle_done : length ws / bundle_length ≤ h → answer taken_number 0 ≡ a
-  bundle_done = scan_done (bundle_at lay ws) (length ws / bundle_length) h a ea
+      bundle_forward : p ≡ forward_at h (bundle_at lay ws h)
+      unfolding bundle_at
+      bundle_forward = ep ∙ ap (forward_word lay h) first_word ∙ read_is lay h _ _ _
+
+      pub bundle_more : p ≡ true → forward_from (bundle_at lay ws) 0 size ≡ forward_from (bundle_at lay ws) (h + 1) (size - (h + 1))
+      bundle_more = scan_more (bundle_at lay ws) size h _ q lt p bundle_forward
+
+      pub bundle_stop : p ≡ false → (e : Reject) → e ≡ reject_at NotForward h → rejected e ≡ forward_from (bundle_at lay ws) 0 size
+      bundle_stop f e ee = rw ee (scan_stop (bundle_at lay ws) size h _ q lt p bundle_forward f)
+
+    pub bundle_done : size ≤ h → answer taken_number 0 ≡ forward_from (bundle_at lay ws) 0 size
+    bundle_done = scan_done (bundle_at lay ws) size h _ q
 
 -- ---- the whole
-module _ (lay : Layout) (ws : List ℕ) (a : Answer) (ea : a ≡ check_answer lay ws) where
-  pub check_refused : (a.number ≡ 0 → ⊥) → a ≡ check_forward_answer lay ws
-  check_refused f = ea ∙ sym (list_refused lay ws (λ e. f (ap (λ (x : Answer). x.number) ea ∙ e)))
+module _ (lay : Layout) (ws : List ℕ) where
+  pub bad_list : (x : Reject) → rejected x ≡ check_answer lay ws → (r : Result Unit Reject) → IsErrAnd r (λ y. y ≡ x) → verdict_of r ≡ check_forward_answer lay ws
+  bad_list x ex r er =
+      exit_rejected (λ _. 0) r x er ∙ ex ∙ sym (list_refused lay ws (λ z. refusal_counts x.refusal (ap (λ (a : Answer). a.number) ex ∙ z)))
 
-  pub check_passed : a.number ≡ 0 → (b : Answer) → b ≡ forward_from (bundle_at lay ws) 0 (length ws / bundle_length) → b ≡ check_forward_answer lay ws
-  check_passed z b eb = eb ∙ sym (list_passed lay ws (sym (ap (λ (x : Answer). x.number) ea) ∙ z))
+  pub good_list : answer taken_number 0 ≡ check_answer lay ws → (b : Answer) → b ≡ forward_from (bundle_at lay ws) 0 (length ws / bundle_length) → b ≡ check_forward_answer lay ws
+  good_list q b eb = eb ∙ sym (list_passed lay ws (ap (λ (a : Answer). a.number) (sym q)))

@@ -1,17 +1,18 @@
 -- The list of landings, entry by entry: whether it rises, and the cells that hold its bits.
 use Prim.Native.Nat.{ℕ, zero, suc, ◌+◌, ◌*◌, ◌/◌, ◌%◌, ◌^◌, ◌<◌, ◌≤◌, max}
-use mathlib.Core.Path.{◌≡◌, refl, sym, ap, ap₂, ◌∙◌}
+use mathlib.Core.Path.{◌≡◌, refl, sym, ap, ap₂, ◌∙◌, subst}
 use mathlib.Core.Bool.{Bool, true, false, ◌&&◌, ◌||◌, cond, or-true, or-false, or_assoc}
 use mathlib.Core.Logic.{◌⊎◌, inl, inr, ⊎_elim}
 use mathlib.Core.List.{List, [], ◌∷◌}
 use native.Mathlib.Omega.{arith}
 use native.Mathlib.Nat.{pow-suc, max-zero}
 use lib.Dec.{eqb, leb, ltb}
+use Rattle.std.specs.List.{IsAllAdjacentAnswer, list_all}
 use lib.Bits.{bit_or, or_step, or_zero_r}
 use lib.Pow.{pow_mono, pow_pos}
-use lib.ListN.{length, get_or, set, take, drop, drop_of_length-le, length-set, replicate}
-use lib.Seq.{drop-cons, take-suc, take_all, ext_get_or, get_or-set_same, get_or-set_other}
-use borrow.Author.Tests.{lt-ltb, le-ltb, le-leb, lt-leb, eqb-true, eqb-false, eq-eqb, ne_eqb, ltb-true, ltb-false}
+use lib.ListN.{length, get_or, set, take, length-set, replicate}
+use lib.Seq.{take-suc, take_all, ext_get_or, get_or-set_same, get_or-set_other}
+use borrow.Author.Tests.{leb-true, le-leb, eqb-true, eqb-false, eq-eqb, ne_eqb, ltb-true, ltb-false}
 use Rattle.types.specs.Names.{most_bundles, landing_cells, cell_bits}
 use Rattle.spec.specs.Landings.{listed, rising_from, right_landings, bits_from, landings_of}
 use Rattle.spec.specs.Guests.{snoc}
@@ -20,26 +21,45 @@ use Rattle.spec.proofs.Landings.{length_landings, landings_at}
 
 -- ---- a rising list
 
-module _ (ls : List ℕ) (low i : ℕ) (b : Bool) (e : rising_from low (drop i ls) ≡ b) where
-  module _ (h : i < length ls) where
-    split : rising_from low (get_or ls i 0 ∷ drop (i + 1) ls) ≡ b
-    split = let n : i + 1 ≡ suc i = omega arith in rw n (ap (rising_from low) (sym (drop-cons ls i 0 h)) ∙ e)
+-- neighbours of a rising list rise
+neighbours : (low : ℕ) (ls : List ℕ) (k : ℕ) → rising_from low ls ≡ true → k + 1 < length ls → get_or ls k 0 < get_or ls (k + 1) 0
+neighbours low [] k e h = absurd (omega arith)
+neighbours low (x ∷ []) k e h = absurd (omega arith)
+neighbours low (x ∷ y ∷ ys) zero e h =
+    let r = (both (leb low x && ltb x most_bundles) (rising_from (x + 1) (y ∷ ys)) e).1 in
+    let g = leb-true (x + 1) y (both (leb (x + 1) y) (ltb y most_bundles) (both (leb (x + 1) y && ltb y most_bundles) (rising_from (y + 1) ys) r).0).0 in
+    omega (arith, g)
+neighbours low (x ∷ y ∷ ys) (suc k) e h =
+    let n : suc k + 1 ≡ suc (k + 1) = omega arith in
+    rw n (neighbours (x + 1) (y ∷ ys) k (both (leb low x && ltb x most_bundles) (rising_from (x + 1) (y ∷ ys)) e).1 (omega arith))
 
-    pub not_rising : get_or ls i 0 < low → false ≡ b
-    not_rising l = rw (lt-leb low (get_or ls i 0) l) at split
+-- a list whose neighbours rise is a rising one if its entries are low enough
+rises : (low : ℕ) (ls : List ℕ) → ((k : ℕ) → k + 1 < length ls → get_or ls k 0 < get_or ls (k + 1) 0) → (0 < length ls → low ≤ get_or ls 0 0)
+    → list_all (λ x. ltb x most_bundles) ls ≡ rising_from low ls
+rises low [] up l = refl
+rises low (x ∷ xs) up l =
+    rw (
+      le-leb low x (l (omega arith)),
+      rises (x + 1) xs (λ k h. let n : suc k + 1 ≡ suc (k + 1) = omega arith in rw n at (up (suc k) (omega arith))) (λ h. omega (arith, up 0 (omega arith))),
+    )
 
-    pub too_high : low ≤ get_or ls i 0 → most_bundles ≤ get_or ls i 0 → false ≡ b
-    too_high l k = rw (le-leb low (get_or ls i 0) l, le-ltb (get_or ls i 0) most_bundles k) at split
+-- what `is_sorted_by` and `all` answer
+module _ (ls : List ℕ) (r : Bool) (s : IsAllAdjacentAnswer (λ x y b. b ≡ ltb x y) ls r) where
+  pub all_rise : r ≡ true → (b : Bool) → b ≡ list_all (λ x. ltb x most_bundles) ls → b ≡ right_landings ls
+  unfolding right_landings
+  all_rise e b eb =
+      let a : IsAllAdjacentAnswer (λ x y b. b ≡ ltb x y) ls true = subst (λ (q : Bool). IsAllAdjacentAnswer (λ x y b. b ≡ ltb x y) ls q) e s in
+      eb ∙ rises 0 ls (λ k h. ltb-true _ _ (sym (a k 0 h))) (λ _. omega arith)
 
-    pub rising_more : low ≤ get_or ls i 0 → get_or ls i 0 < most_bundles → rising_from (get_or ls i 0 + 1) (drop (i + 1) ls) ≡ b
-    rising_more l k = rw (le-leb low (get_or ls i 0) l, lt-ltb (get_or ls i 0) most_bundles k) at split
-
-  pub rising_done : length ls ≤ i → true ≡ b
-  rising_done h = ap (rising_from low) (sym (drop_of_length-le ls h)) ∙ e
-
-pub rising_start : (ls : List ℕ) → rising_from 0 (drop 0 ls) ≡ right_landings ls
-unfolding right_landings
-rising_start ls = refl
+  pub one_falls : r ≡ false → r ≡ right_landings ls
+  unfolding right_landings
+  one_falls e =
+      let a : IsAllAdjacentAnswer (λ x y b. b ≡ ltb x y) ls false = subst (λ (q : Bool). IsAllAdjacentAnswer (λ x y b. b ≡ ltb x y) ls q) e s in
+      e ∙ sym (wrong (rising_from 0 ls) refl a.0 a.1 (a.2 0))
+    where
+      wrong : (q : Bool) → rising_from 0 ls ≡ q → (k : ℕ) → k + 1 < length ls → false ≡ ltb (get_or ls k 0) (get_or ls (k + 1) 0) → q ≡ false
+      wrong true eq k h f = absurd (let u = neighbours 0 ls k eq h in let v = ltb-false _ _ (sym f) in omega arith)
+      wrong false eq k h f = refl
 
 -- every entry is below 1,024
 each_below : (low : ℕ) (ls : List ℕ) (i : ℕ) → rising_from low ls ≡ true → i < length ls → get_or ls i 0 < most_bundles

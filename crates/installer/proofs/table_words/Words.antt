@@ -9,6 +9,9 @@ use lib.Bits.{bit_and, bit_or, and_block, or_block, and_lt, or_lt, and_shr, or_s
 use lib.Dec.{eqb, leb, ltb, lit<, lit≤}
 use lib.ListN.{length, get_or, take, drop}
 use lib.Seq.{drop-cons}
+use Rattle.std.specs.Simd.{first_chunks}
+use Rattle.std.specs.Int.{from_le_bytes, w32}
+use Rattle.words.proofs.Chunks.{chunk_element}
 use lib.Pow.{split}
 use borrow.Author.Tests.{eqb-true, eqb-false, ltb-true, ltb-false, leb-true, le-leb, eq-eqb, ne_eqb, not-true, not-false}
 use Rattle.types.specs.Names.{most_states, no_arrow}
@@ -168,11 +171,12 @@ four t i h =
     let e₃ : i + 3 ≡ suc (suc (suc i)) = omega arith in
     rw (e₁, e₂, e₃, drop-cons t i 0 (omega arith), drop-cons t (suc i) 0 (omega arith), drop-cons t (suc (suc i)) 0 (omega arith), drop-cons t (suc (suc (suc i))) 0 (omega arith))
 
-pub word_of : (t : List ℕ) (i a b c d : ℕ) → i + word_bytes ≤ length t → (a ≡ get_or t i 0) × (a < 256) → (b ≡ get_or t (i + 1) 0) × (b < 256)
-    → (c ≡ get_or t (i + 2) 0) × (c < 256) → (d ≡ get_or t (i + 3) 0) × (d < 256)
-    → low_bytes word_bytes (a + (b * 2 ^ 8) % 2 ^ 32 + (c * 2 ^ 16) % 2 ^ 32 + (d * 2 ^ 24) % 2 ^ 32) ≡ take word_bytes (drop i t)
-word_of t i a b c d h ea eb ec ed =
-    let wb : (b * 2 ^ 8) % 2 ^ 32 ≡ b * 2 ^ 8 = omega arith in
-    let wc : (c * 2 ^ 16) % 2 ^ 32 ≡ c * 2 ^ 16 = omega arith in
-    let wd : (d * 2 ^ 24) % 2 ^ 32 ≡ d * 2 ^ 24 = omega arith in
-    rw (wb, wc, wd) (bytes_word a b c d ea.1 eb.1 ec.1 ed.1 ∙ rw (ea.0, eb.0, ec.0, ed.0) (sym (four t i h)))
+-- the word of the four bytes of chunk i
+pub word_of : (t : List ℕ) (k i : ℕ) (bs : List (List ℕ)) → bs ≡ first_chunks word_bytes k t → i < k → word_bytes * k ≤ length t → ((j : ℕ) → get_or t j 0 < 256)
+    → (w : ℕ) → w ≡ from_le_bytes w32 (get_or bs i []) → low_bytes word_bytes w ≡ take word_bytes (drop (word_bytes * i) t)
+word_of t k i bs eb h l small w e =
+    let at : ℕ = word_bytes * i in
+    let byte : (j : ℕ) → j < word_bytes → get_or (get_or bs i []) j 0 ≡ get_or t (at + j) 0 = λ j m. rw eb (chunk_element word_bytes k t i j [] 0 h m) in
+    let z : at + 0 ≡ at = omega arith in
+    rw (e, byte 0 (omega arith), z, byte 1 (omega arith), byte 2 (omega arith), byte 3 (omega arith))
+    (bytes_word (get_or t at 0) (get_or t (at + 1) 0) (get_or t (at + 2) 0) (get_or t (at + 3) 0) (small at) (small (at + 1)) (small (at + 2)) (small (at + 3)) ∙ sym (four t at (omega arith)))

@@ -1,25 +1,14 @@
-use Prim.Native.Nat.{zero-le}
-use mathlib.Core.Path.{refl}
-use native.Mathlib.Omega.{arith}
-use borrow.Author.Rules.{rules}
-use Rattle.policy_spec.specs.precedence.Precedence.{byte_of}
-use Rattle.policy_spec.proofs.maps.Tables.{fill_none, fill_more, fill_done}
-use Rattle.policy_spec.proofs.precedence.Laws.{row_below}
+use Rattle.std.proofs.Common.{arith}
+use Rattle.policy_spec.proofs.maps.Tables.{fill_none, fill_more}
+use Rattle.policy_spec.proofs.tables.Arrows.{entry_is}
+use Rattle.policy_spec.proofs.precedence.Laws.{arrow_fits}
 use Rattle.policy_precedence.proofs.fill.Goals as goal
 
 pub loop-i-init : goal.loop-i-init
-loop-i-init c = (fill_none _ _, zero-le, refl)
+loop-i-init c = fill_none _ _
 
-pub arrow-requires : goal.arrow-requires
-arrow-requires c = (search rules, search (row_below, rules), search rules)
-
-pub overflow_cast-table : goal.overflow_cast-table
-overflow_cast-table c = record { fits = c.arrow.ensures.1 }
+pub overflow_cast-entry : goal.overflow_cast-entry
+overflow_cast-entry c = record { fits = rw (entry_is _ _ _ c.arrow.ensures c.unwrap_or.ensures) (arrow_fits _ _ c.args.pairs.now.valid _ _ (omega (arith, c.requires)) (omega arith)) }
 
 pub loop-i-preserved : goal.loop-i-preserved
-loop-i-preserved c = let start = c in
-    let at = c.loop-i in
-    (fill_more (byte_of start.args.pairs.now) start.args.table.now at.table at.i _ at.invariant.0 (omega (arith, start.requires.2)) c.arrow.ensures.0, search rules, search rules)
-
-pub returns : goal.returns
-returns c = search (fill_done, rules)
+loop-i-preserved c = fill_more _ _ _ _ _ c.loop-i.invariant c.loop-i-test.true (entry_is _ _ _ c.arrow.ensures c.unwrap_or.ensures)

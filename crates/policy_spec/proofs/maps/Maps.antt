@@ -1,7 +1,7 @@
 -- Laws of sets of bits, and of tests, counts and lists over the numbers below n.
 use Prim.Native.Nat.{ℕ, zero, suc, ◌+◌, ◌-◌, ◌*◌, ◌/◌, ◌%◌, ◌^◌, ◌<◌, ◌≤◌, max}
 use mathlib.Core.Path.{◌≡◌, refl, sym, ap, ap₂, ◌∙◌}
-use mathlib.Core.Bool.{Bool, true, false, ◌||◌, cond}
+use mathlib.Core.Bool.{Bool, true, false, ◌&&◌, ◌||◌, cond, and_assoc, and-true}
 use mathlib.Core.List.{List, [], ◌∷◌, ◌++◌}
 use mathlib.Core.Logic.{⊎_elim}
 use native.Mathlib.Nat.{mod-lt, mod-eq_of_lt, lt_of_lt_of_le, pow-suc}
@@ -34,6 +34,15 @@ pub every_all : (p : ℕ → Bool) (n : ℕ) → ((i : ℕ) → i < n → p i �
 unfolding every
 every_all p zero f = refl
 every_all p (suc n) f = rw (every_all p n (λ i h. f i (omega arith)), f n (omega arith))
+
+pub every_none : (p : ℕ → Bool) → every p 0 ≡ true
+unfolding every
+every_none p = refl
+
+pub every_first : (p : ℕ → Bool) (n : ℕ) → every p (suc n) ≡ (p 0 && every (λ j. p (suc j)) n)
+unfolding every
+every_first p zero = sym (and-true (p 0))
+every_first p (suc n) = ap (λ (b : Bool). b && p (suc n)) (every_first p n) ∙ and_assoc (p 0) (every (λ j. p (suc j)) n) (p (suc n))
 
 pub some_at : (p : ℕ → Bool) (n i : ℕ) → i < n → p i ≡ true → some p n ≡ true
 unfolding some

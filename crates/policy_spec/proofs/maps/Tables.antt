@@ -1,5 +1,5 @@
 -- Tables by index: filled from the start, and with every entry right.
-use Prim.Native.Nat.{ℕ, zero, suc, ◌+◌, ◌<◌, ◌≤◌}
+use Prim.Native.Nat.{ℕ, zero, suc, ◌+◌, ◌<◌}
 use mathlib.Core.Path.{◌≡◌, refl, ap, ap₂, ◌∙◌}
 use mathlib.Core.Bool.{Bool, true, ◌&&◌}
 use mathlib.Core.List.{List, [], ◌∷◌, ◌++◌}
@@ -16,9 +16,6 @@ fill_none f t = refl
 
 pub fill_more : (f : ℕ → ℕ) (t₀ t : List ℕ) (i r : ℕ) → t ≡ build f i ++ drop i t₀ → i < length t₀ → r ≡ f i → set t i r ≡ build f (i + 1) ++ drop (i + 1) t₀
 fill_more f t₀ t i r e h g = rw (e, g) (build_more f t₀ i h)
-
-pub fill_done : (f : ℕ → ℕ) (t₀ t : List ℕ) (i n : ℕ) → t ≡ build f i ++ drop i t₀ → n ≤ i → i ≤ n → t ≡ build f n ++ drop n t₀
-fill_done f t₀ t i n e h k = let q : i ≡ n = omega arith in e ∙ ap (λ (j : ℕ). build f j ++ drop j t₀) q
 
 pub entries_build : (s : ℕ) (f : ℕ → ℕ) (n : ℕ) → ((i : ℕ) → i < n → entry_right s (f i) ≡ true) → entries_right s (build f n) ≡ true
 unfolding build

@@ -1,64 +1,62 @@
 -- Laws of the functions, one for each return.
 use Prim.Native.Nat.{ℕ, zero, suc, ◌+◌, ◌-◌, ◌*◌, ◌/◌, ◌%◌, ◌^◌, ◌<◌, ◌≤◌}
 use mathlib.Core.Path.{◌≡◌, refl, sym, ap, ◌∙◌}
-use mathlib.Core.Bool.{Bool, true, false, ◌&&◌, ◌||◌, not, cond}
-use mathlib.Core.List.{List, ◌++◌}
+use mathlib.Core.Bool.{Bool, true, false, ◌&&◌, ◌||◌, not, cond, and-false}
+use mathlib.Core.List.{List, [], ◌∷◌, ◌++◌}
 use native.Mathlib.Omega.{arith}
 use native.Mathlib.Nat.{mod-eq_of_lt}
 use lib.Bits.{bit_and, bit_or, and_mask, mask_lt, or_lt}
 use lib.Count.{ones, ones-le}
 use lib.Dec.{eqb, leb, ltb}
 use lib.ListN.{length, get_or, drop}
-use borrow.Author.Tests.{ltb-true, eq-eqb, ne_eqb, lt-ltb, le-ltb, leb-true}
+use Rattle.std.specs.List.{list_all}
+use Rattle.std.specs.Option.{is_none, unwrap_or}
+use Rattle.std.proofs.Common.{Option, Some, None, Result, Ok, Err}
+use Rattle.std.specs.Result.{IsErrAnd}
+use Rattle.types.specs.declared.Refusal.{Refusal}
+use Rattle.types.specs.declared.Reject.{Reject}
+use Rattle.types.specs.Results.{reject_at}
+use Rattle.policy_spec.specs.declared.precedence.PrecedencePolicy.{PrecedencePolicy}
+use Rattle.policy_spec.specs.precedence.Results.{precedence_of}
+use borrow.Author.Tests.{ltb-true, eq-eqb, ne_eqb, lt-ltb, le-ltb, le-leb, lt-leb}
 use lib.Pow.{pow-lt, pow_pos, pow_mono}
 use Rattle.types.specs.declared.Refusal.TheVariants.{SmallOutput, BadPair}
-use Rattle.types.specs.declared.Answer.{Answer}
 use Rattle.types.specs.Names.{events, no_arrow, answer, refusal}
-use Rattle.spec.proofs.Bools.{both}
-use Rattle.policy_spec.specs.declared.precedence.PrecedenceResult.{PrecedenceResult}
-use Rattle.policy_spec.specs.maps.Maps.{every, some, map_where, bit, build}
-use Rattle.policy_spec.specs.precedence.Precedence.{ValidPairs, named_in, is_named, known_in, events_known, most_named, first_at, pairs_in, bit_index}
+use Rattle.policy_spec.specs.maps.Maps.{every, some, map_where, bit}
+use Rattle.policy_spec.specs.tables.Arrows.{arrow_from}
+use Rattle.policy_spec.proofs.tables.Arrows.{no_arrow_is_none, arrow_or, arrow_some}
+use Rattle.policy_spec.specs.precedence.Precedence.{PrecedenceResult, ValidPairs, named_in, is_named, known_in, events_known, most_named, first_at, pairs_in, bit_index}
 use Rattle.policy_spec.specs.precedence.Precedence.{firsts_in, states_of, table_bytes, named_count, arrow_of, byte_of, blocked, advance_of, iterate}
-use Rattle.policy_spec.specs.precedence.Precedence.{fixpoint_of, unreachable_events, pairs_right, make_answer, precedence_result, make_of, make_table}
-use Rattle.policy_spec.proofs.maps.Maps.{every_at, map_or, map_one, map_none, map_low, map_ones, bit_map, count_less, map_lt, length_build}
+use Rattle.policy_spec.specs.precedence.Precedence.{table_of, fixpoint_of, unreachable_events, pairs_right, make_answer, precedence_result, make_of, make_table}
+use Rattle.policy_spec.proofs.maps.Maps.{every_at, every_none, every_first, map_or, map_one, map_low, map_ones, bit_map, count_less, map_lt, length_build}
 
-pub known_none : (ps : List ℕ) → known_in ps 0 ≡ true
-unfolding known_in every
-known_none ps = refl
+-- what a test of every number of a list tests
+pub every_listed : (p : ℕ → Bool) (ps : List ℕ) → list_all p ps ≡ every (λ j. p (get_or ps j 0)) (length ps)
+every_listed p [] = sym (every_none (λ j. p 0))
+every_listed p (x ∷ ps) = ap (λ (b : Bool). p x && b) (every_listed p ps) ∙ sym (every_first (λ j. p (get_or (x ∷ ps) j 0)) (length ps))
 
-pub known_more : (ps : List ℕ) (i x : ℕ) (ok : Bool) → ok ≡ known_in ps i → x ≡ get_or ps i 0 → (ok && ltb x events) ≡ known_in ps (i + 1)
-unfolding known_in every
-known_more ps i x ok e f = let n : i + 1 ≡ suc i = omega arith in rw (n, e, f)
+pub known_is : (ps : List ℕ) → list_all (λ e. ltb e events) ps ≡ events_known ps
+unfolding known_in
+known_is ps = every_listed (λ e. ltb e events) ps
+
+pub event_below : (ps : List ℕ) → events_known ps ≡ true → (i : ℕ) → i < length ps → get_or ps i 0 < events
+unfolding known_in
+event_below ps e i h = ltb-true (get_or ps i 0) events (every_at _ (length ps) i e h)
 
 -- 1 shifted by k in 64 bits is 2 ^ k
 pub shifted : (k : ℕ) → k < events → (1 * 2 ^ k) % 2 ^ 64 ≡ 2 ^ k
 shifted k h = let o : 1 * 2 ^ k ≡ 2 ^ k = omega arith in rw o (mod-eq_of_lt (pow-lt {i = k} {j = 64} (omega arith)))
 
-pub shifted_some : (k : ℕ) → k < events → 1 ≤ (1 * 2 ^ k) % 2 ^ 64
-shifted_some k h = rw (shifted k h) (pow_pos k)
-
--- the set of one event
-pub one_in : (e : ℕ) → e < events → (1 * 2 ^ e) % 2 ^ 64 ≡ map_where (eqb e) events
-one_in e h = shifted e h ∙ sym (map_one e events h)
-
-pub one_out : (e : ℕ) → events ≤ e → 0 ≡ map_where (eqb e) events
-one_out e h = sym (map_none e events h)
-
 pub names_none : (ps : List ℕ) → 0 ≡ map_where (named_in ps 0) events
 unfolding named_in some map_where
 names_none ps = refl
 
-pub names_more : (ps : List ℕ) (i m x o : ℕ) → m ≡ map_where (named_in ps i) events → x ≡ get_or ps i 0 → o ≡ map_where (eqb x) events → bit_or m o ≡ map_where (named_in ps (i + 1)) events
+-- one more event named
+pub names_more : (ps : List ℕ) (i m x : ℕ) → m ≡ map_where (named_in ps i) events → x ≡ get_or ps i 0 → x < events → bit_or m ((1 * 2 ^ x) % 2 ^ 64) ≡ map_where (named_in ps (i + 1)) events
 unfolding named_in some
-names_more ps i m x o e f g =
+names_more ps i m x e f h =
     let n : i + 1 ≡ suc i = omega arith in
-    rw (n, e, g, f) (map_or (named_in ps i) (eqb (get_or ps i 0)) events)
-
-pub names_done : (ps : List ℕ) (i m : ℕ) → m ≡ map_where (named_in ps i) events → length ps ≤ i → i ≤ length ps → m ≡ map_where (is_named ps) events
-names_done ps i m e h k = let q : i ≡ length ps = omega arith in e ∙ ap (λ (j : ℕ). map_where (named_in ps j) events) q
-
-pub known_done : (ps : List ℕ) (i : ℕ) (ok : Bool) → ok ≡ known_in ps i → length ps ≤ i → i ≤ length ps → ok ≡ events_known ps
-known_done ps i ok e h k = let q : i ≡ length ps = omega arith in e ∙ ap (known_in ps) q
+    rw (n, e, shifted x h, ← map_one x events h, f) (map_or (named_in ps i) (eqb (get_or ps i 0)) events)
 
 -- how many bits of a set are below bit e
 abbrev pub ones_below : ℕ → ℕ → ℕ
@@ -70,9 +68,6 @@ few_below m e = ones-le e (bit_and m (2 ^ e - 1)) (mask_lt m e)
 pub below_is : (m e : ℕ) → e < events → (ones (bit_and m ((1 * 2 ^ e) % 2 ^ 64 - 1)) ≡ ones_below m e) × (ones (bit_and m ((1 * 2 ^ e) % 2 ^ 64 - 1)) ≤ e)
 below_is m e h = rw (shifted e h) (refl, few_below m e)
 
-pub below_fits : (m e : ℕ) → e < events → ones (bit_and m ((1 * 2 ^ e) % 2 ^ 64 - 1)) < 2 ^ 64
-below_fits m e h = rw (shifted e h) (omega (arith, few_below m e))
-
 module _ (ps : List ℕ) (m : ℕ) (fit : ValidPairs ps m) where
   -- an event's bit index is the number of named events below it
   pub place_is : (e k : ℕ) → e < events → k ≡ ones_below m e → k ≡ bit_index ps e
@@ -80,10 +75,6 @@ module _ (ps : List ℕ) (m : ℕ) (fit : ValidPairs ps m) where
       let s : e + (events - e) ≡ events = omega arith in
       let l : map_where (is_named ps) events % 2 ^ e ≡ map_where (is_named ps) e = rw s at (map_low (is_named ps) (events - e) e) in
       f ∙ ap ones (and_mask m e ∙ ap (λ (x : ℕ). x % 2 ^ e) fit.map ∙ l) ∙ map_ones (is_named ps) e
-
-  pub event_below : (i : ℕ) → i < length ps → get_or ps i 0 < events
-  unfolding known_in
-  event_below i h = ltb-true (get_or ps i 0) events (every_at _ (length ps) i fit.below h)
 
   pub named_is : (e : ℕ) → e < events → bit m e ≡ is_named ps e
   named_is e h = ap (λ (x : ℕ). bit x e) fit.map ∙ bit_map (is_named ps) events e h
@@ -93,7 +84,7 @@ module _ (ps : List ℕ) (m : ℕ) (fit : ValidPairs ps m) where
   place_less e h t = omega (arith, count_less (is_named ps) events e h t, fit.few)
 
   pub first_below : (i y : ℕ) → i < length ps / 2 → y ≡ get_or ps (2 * i) 0 → y < events
-  first_below i y h e = rw e (event_below (2 * i) (omega arith))
+  first_below i y h e = rw e (event_below ps fit.below (2 * i) (omega arith))
 
   pub bit_below : (i y k : ℕ) → i < length ps / 2 → y ≡ get_or ps (2 * i) 0 → k ≤ y → k < events
   bit_below i y k h e l = omega (arith, first_below i y h e)
@@ -110,43 +101,37 @@ pub firsts_none : (ps : List ℕ) (s e : ℕ) → firsts_in ps s e 0 ≡ true
 unfolding firsts_in every
 firsts_none ps s e = refl
 
-pub firsts_done : (ps : List ℕ) (s e i : ℕ) (ok : Bool) → ok ≡ firsts_in ps s e i → length ps / 2 ≤ i → i ≤ length ps / 2 → ok ≡ firsts_in ps s e (pairs_in ps)
-firsts_done ps s e i ok f h k = let q : i ≡ length ps / 2 = omega arith in f ∙ ap (firsts_in ps s e) q
-
 -- ---- arrows
 
 module _ (ps : List ℕ) (m : ℕ) (fit : ValidPairs ps m) where
   pub states_most : states_of ps ≤ 16
   states_most = pow_mono {i = named_count ps} {j = most_named} fit.few
 
-  abbrev pub Arrow : ℕ → ℕ → ℕ → Type 0
-  Arrow s e r = (r ≡ arrow_of ps s e) × (r < 256)
-
   module _ (s e : ℕ) (h : s < states_of ps) (k : e < events) (b : Bool) (g : b ≡ bit m e) where
-    pub arrow_stays : b ≡ false → Arrow s e s
+    pub arrow_stays : b ≡ false → Some s ≡ arrow_from (arrow_of ps s e)
     unfolding arrow_of
     arrow_stays f =
         let n : is_named ps e ≡ false = sym (named_is ps m fit e k) ∙ sym g ∙ f in
-        (rw n, omega (arith, states_most))
+        rw n (sym (arrow_some s (λ z. omega (arith, states_most))))
 
     module _ (f : b ≡ true) (r : Bool) (q : r ≡ firsts_in ps s e (pairs_in ps)) where
       is_named_lem : is_named ps e ≡ true
       is_named_lem = sym (named_is ps m fit e k) ∙ sym g ∙ f
 
-      pub arrow_goes : r ≡ true → (x : ℕ) → x ≡ ones_below m e → Arrow s e (bit_or s ((1 * 2 ^ x) % 2 ^ 64))
+      pub arrow_goes : r ≡ true → (x : ℕ) → x ≡ ones_below m e → Some (bit_or s ((1 * 2 ^ x) % 2 ^ 64)) ≡ arrow_from (arrow_of ps s e)
       unfolding arrow_of
       arrow_goes t x y =
           let z : x ≡ bit_index ps e = place_is ps m fit e x k y in
           let l : bit_index ps e < most_named = place_less ps m fit e k is_named_lem in
           let w : firsts_in ps s e (pairs_in ps) ≡ true = sym q ∙ t in
-          rw (z, shifted (bit_index ps e) (omega arith), is_named_lem, w)
-          (refl, omega (arith, or_lt 4 s (2 ^ bit_index ps e) (omega (arith, states_most)) (pow-lt {i = bit_index ps e} {j = 4} l)))
+          let low : bit_or s (2 ^ bit_index ps e) < 2 ^ 4 = or_lt 4 s (2 ^ bit_index ps e) (omega (arith, states_most)) (pow-lt {i = bit_index ps e} {j = 4} l) in
+          rw (z, shifted (bit_index ps e) (omega arith), is_named_lem, w) (sym (arrow_some (bit_or s (2 ^ bit_index ps e)) (λ z. omega (arith, low))))
 
-      pub arrow_none : r ≡ false → Arrow s e no_arrow
+      pub arrow_none : r ≡ false → None ≡ arrow_from (arrow_of ps s e)
       unfolding arrow_of
       arrow_none t =
           let w : firsts_in ps s e (pairs_in ps) ≡ false = sym q ∙ t in
-          rw (is_named_lem, w) (refl, omega arith)
+          rw (is_named_lem, w)
 
   -- the state after a named event is a state
   pub sets_below : (s e : ℕ) → s < states_of ps → e < events → is_named ps e ≡ true → bit_or s (2 ^ bit_index ps e) < states_of ps
@@ -183,6 +168,16 @@ module _ (ps : List ℕ) (m : ℕ) (fit : ValidPairs ps m) where
       go true false t = h
       go false f t = h
 
+  -- an entry is a byte
+  pub arrow_fits : (s e : ℕ) → s < states_of ps → e < events → arrow_of ps s e < 256
+  unfolding arrow_of
+  arrow_fits s e h k = go (is_named ps e) (firsts_in ps s e (pairs_in ps)) refl
+    where
+      go : (n f : Bool) → is_named ps e ≡ n → cond n (cond f (bit_or s (2 ^ bit_index ps e)) no_arrow) s < 256
+      go true true t = omega (arith, sets_below s e h k t, states_most)
+      go true false t = omega arith
+      go false f t = omega (arith, states_most)
+
   pub turns_below : (i : ℕ) → iterate ps i < states_of ps
   unfolding iterate
   turns_below zero = pow_pos (named_count ps)
@@ -198,100 +193,100 @@ row_below ps i n e h = omega arith
 
 -- ---- iteration and blocked events
 
-pub on_stays : (ps : List ℕ) (s e a : ℕ) → a ≡ arrow_of ps s e → a ≡ no_arrow → s ≡ advance_of ps s e
-on_stays ps s e a g t = rw (eq-eqb (arrow_of ps s e) no_arrow (sym g ∙ t))
-
-pub on_goes : (ps : List ℕ) (s e a : ℕ) → a ≡ arrow_of ps s e → (a ≡ no_arrow → ⊥) → a ≡ advance_of ps s e
-on_goes ps s e a g t = rw (ne_eqb (arrow_of ps s e) no_arrow (λ z. t (g ∙ z))) g
-
 pub turns_none : (ps : List ℕ) → 0 ≡ iterate ps 0
 unfolding iterate
 turns_none ps = refl
 
-pub turns_more : (ps : List ℕ) (s i r : ℕ) → s ≡ iterate ps i → r ≡ advance_of ps s (i % events) → r ≡ iterate ps (i + 1)
+-- one more step: the state after the event if it has an arrow
+pub turns_more : (ps : List ℕ) (s i : ℕ) (o : Option ℕ) → s ≡ iterate ps i → o ≡ arrow_from (arrow_of ps s (i % events)) → unwrap_or o s ≡ iterate ps (i + 1)
 unfolding iterate
-turns_more ps s i r e g = let n : i + 1 ≡ suc i = omega arith in rw n (g ∙ ap (λ (x : ℕ). advance_of ps x (i % events)) e)
-
-pub turns_done : (ps : List ℕ) (m : ℕ) → ValidPairs ps m → (s i : ℕ) → s ≡ iterate ps i → most_named * events ≤ i → i ≤ most_named * events → (s ≡ fixpoint_of ps) × (s < states_of ps)
-turns_done ps m fit s i e h k = let q : i ≡ most_named * events = omega arith in (e ∙ ap (iterate ps) q, turned ps m fit s i e)
-
-module _ (ps : List ℕ) (s e a : ℕ) (g : a ≡ arrow_of ps s e) where
-  pub blocked_yes : e < events → a ≡ no_arrow → (1 * 2 ^ e) % 2 ^ 64 ≡ cond (blocked ps s e) (2 ^ e) 0
-  blocked_yes h t = rw (eq-eqb (arrow_of ps s e) no_arrow (sym g ∙ t)) (shifted e h)
-
-  pub blocked_no : (a ≡ no_arrow → ⊥) → 0 ≡ cond (blocked ps s e) (2 ^ e) 0
-  blocked_no t = rw (ne_eqb (arrow_of ps s e) no_arrow (λ z. t (g ∙ z)))
+turns_more ps s i o e g =
+    let n : i + 1 ≡ suc i = omega arith in
+    rw (n, g, arrow_or (arrow_of ps s (i % events)) s) (ap (λ (x : ℕ). advance_of ps x (i % events)) e)
 
 pub all_none : (p : ℕ → Bool) → 0 ≡ map_where p 0
 unfolding map_where
 all_none p = refl
 
-pub all_more : (p : ℕ → Bool) (e m r : ℕ) → m ≡ map_where p e → r ≡ cond (p e) (2 ^ e) 0 → m + r ≡ map_where p (e + 1)
-unfolding map_where
-all_more p e m r f g = let n : e + 1 ≡ suc e = omega arith in rw (n, f, g)
+-- one more event that has no arrow, or that has one
+module _ (ps : List ℕ) (s e m : ℕ) (o : Option ℕ) (f : m ≡ map_where (blocked ps s) e) (g : o ≡ arrow_from (arrow_of ps s e)) where
+  is : is_none o ≡ blocked ps s e
+  is = ap is_none g ∙ no_arrow_is_none (arrow_of ps s e)
 
-pub all_fits : (p : ℕ → Bool) (e m r : ℕ) → m ≡ map_where p e → r ≡ cond (p e) (2 ^ e) 0 → e < events → m + r < 2 ^ 64
-all_fits p e m r f g h =
-    let l : map_where p (e + 1) < 2 ^ (e + 1) = map_lt p (e + 1) in
-    let b : 2 ^ (e + 1) < 2 ^ 64 = pow-lt {i = e + 1} {j = 64} (omega arith) in
-    omega (arith, all_more p e m r f g)
+  pub all_with : is_none o ≡ true → e < events → m + (1 * 2 ^ e) % 2 ^ 64 ≡ map_where (blocked ps s) (e + 1)
+  unfolding map_where
+  all_with t h = let n : e + 1 ≡ suc e = omega arith in rw (n, f, shifted e h, sym is ∙ t)
 
-pub all_done : (p : ℕ → Bool) (e m : ℕ) → m ≡ map_where p e → events ≤ e → e ≤ events → m ≡ map_where p events
-all_done p e m f h k = let q : e ≡ events = omega arith in f ∙ ap (map_where p) q
+  pub all_without : is_none o ≡ false → m ≡ map_where (blocked ps s) (e + 1)
+  unfolding map_where
+  all_without t = let n : e + 1 ≡ suc e = omega arith in rw (n, f, sym is ∙ t) (omega arith)
+
+pub all_fits : (p : ℕ → Bool) (e m : ℕ) → m ≡ map_where p e → e < events → m + (1 * 2 ^ e) % 2 ^ 64 < 2 ^ 64
+all_fits p e m f h =
+    let b : 2 ^ e < 2 ^ events = pow-lt {i = e} {j = events} h in
+    rw (shifted e h) (omega (arith, map_lt p e, ap (λ (x : ℕ). x) f))
+
+-- ---- right pairs
+
+module _ (ps : List ℕ) where
+  pub unknown_wrong : events_known ps ≡ false → pairs_right ps ≡ false
+  unfolding pairs_right
+  unknown_wrong e = rw e
+
+  pub odd_wrong : (length ps % 2 ≡ 0 → ⊥) → pairs_right ps ≡ false
+  unfolding pairs_right
+  odd_wrong z = rw (ne_eqb (length ps % 2) 0 z) (ap (λ (b : Bool). b && leb (named_count ps) most_named) (and-false (events_known ps)))
+
+  module _ (m : ℕ) (e : m ≡ map_where (is_named ps) events) where
+    pub ones_are : ones m ≡ named_count ps
+    ones_are = ap ones e ∙ map_ones (is_named ps) events
+
+    pub ones_fit : ones m < 2 ^ 64
+    ones_fit = rw e (omega (arith, ones-le events (map_where (is_named ps) events) (map_lt (is_named ps) events)))
+
+    module _ (known : events_known ps ≡ true) where
+      pub few_right : length ps % 2 ≡ 0 → ones m ≤ most_named → pairs_right ps ≡ true
+      unfolding pairs_right
+      few_right even h = rw (known, eq-eqb (length ps % 2) 0 even, le-leb (named_count ps) most_named (omega (arith, ones_are)))
+
+      pub many_wrong : most_named < ones m → pairs_right ps ≡ false
+      unfolding pairs_right
+      many_wrong h = rw (lt-leb (named_count ps) most_named (omega (arith, ones_are))) (and-false (events_known ps && eqb (length ps % 2) 0))
+
+      pub pairs_valid : ones m ≤ most_named → ValidPairs ps m
+      pairs_valid h = record { below = known; few = omega (arith, ones_are); map = e }
+
+  module _ (m : ℕ) (fit : ValidPairs ps m) where
+    pub ones_few : ones m ≤ most_named
+    ones_few = omega (arith, ones_are m fit.map, fit.few)
+
+    pub states_are : (1 * 2 ^ ones m) % 2 ^ 64 ≡ states_of ps
+    states_are = shifted (ones m) (omega (arith, ones_few)) ∙ ap (λ (x : ℕ). 2 ^ x) (ones_are m fit.map)
 
 -- ---- making
 
-pub ones_fit : (p : ℕ → Bool) (m : ℕ) → m ≡ map_where p events → ones m < 2 ^ 64
-ones_fit p m e = rw e (omega (arith, ones-le events (map_where p events) (map_lt p events)))
-
-pub right_is : (ps : List ℕ) (m : ℕ) (r : Bool) → m ≡ map_where (is_named ps) events → r ≡ events_known ps → ((r && eqb (length ps % 2) 0) && leb (ones m) most_named) ≡ pairs_right ps
-unfolding pairs_right
-right_is ps m r e f = rw (f, e, map_ones (is_named ps) events)
-
-module _ (ps : List ℕ) (m : ℕ) (e : m ≡ map_where (is_named ps) events) (r : Bool) (g : r ≡ pairs_right ps) where
-  pub fit_of : r ≡ true → ValidPairs ps m
-  unfolding pairs_right
-  fit_of t =
-      let f = both (events_known ps && eqb (length ps % 2) 0) _ (sym g ∙ t) in
-      record { below = (both (events_known ps) _ f.0).0; few = leb-true (named_count ps) most_named f.1; map = e }
-
-  pub few_ones : r ≡ true → ones m ≤ most_named
-  few_ones t = rw (ap ones e ∙ map_ones (is_named ps) events) (fit_of t).few
-
-  pub states_are : (s : ℕ) → s ≡ 2 ^ ones m → s ≡ states_of ps
-  states_are s f = f ∙ ap (λ (x : ℕ). 2 ^ x) (ap ones e ∙ map_ones (is_named ps) events)
-
+module _ (ps t : List ℕ) where
   -- what is answered and written
-  abbrev pub Makes : List ℕ → PrecedenceResult → List ℕ → Type 0
-  Makes t made t' = (made ≡ make_of ps (length t)) × (t' ≡ make_table ps t)
+  abbrev pub Makes : PrecedenceResult → List ℕ → Type 0
+  Makes made t' = record { made : made ≡ make_of ps (length t); table : t' ≡ make_table ps t }
 
-  pub no_pairs : (t : List ℕ) (made : PrecedenceResult) → r ≡ false → made ≡ precedence_result (refusal BadPair 0) 0 0 → Makes t made t
+  pub no_pairs : pairs_right ps ≡ false → Makes (precedence_result (refusal BadPair 0) 0 0) t
   unfolding make_of make_table make_answer
-  no_pairs t made f q = rw (← g, f) (q, refl)
+  no_pairs e = rw e (record { made = refl; table = refl })
 
-  pub no_room : (t : List ℕ) (made : PrecedenceResult) (b : ℕ) → r ≡ true → b ≡ table_bytes ps → length t < b → made ≡ precedence_result (refusal SmallOutput 0) 0 0 → Makes t made t
-  unfolding make_of make_table make_answer
-  no_room t made b f z h q = let l : ltb (length t) (table_bytes ps) ≡ true = lt-ltb (length t) (table_bytes ps) (rw z at h) in rw (← g, f, l) (q, refl)
+  module _ (right : pairs_right ps ≡ true) where
+    pub no_room : length t < table_bytes ps → Makes (precedence_result (refusal SmallOutput 0) 0 0) t
+    unfolding make_of make_table make_answer
+    no_room h = rw (right, lt-ltb (length t) (table_bytes ps) h) (record { made = refl; table = refl })
 
-  pub makes : (t t' : List ℕ) (made : PrecedenceResult) (b : ℕ) → r ≡ true → b ≡ table_bytes ps → b ≤ length t → t' ≡ build (byte_of ps) b ++ drop b t
-      → made ≡ precedence_result (answer 0 b) (states_of ps) (unreachable_events ps) → Makes t made t'
-  unfolding make_of make_table make_answer
-  makes t t' made b f z h w q =
-      let l : ltb (length t) (table_bytes ps) ≡ false = le-ltb (length t) (table_bytes ps) (rw z at h) in
-      rw (← g, f, l, length_build (byte_of ps) (table_bytes ps)) (rw z at q, rw z at w)
+    pub makes : table_bytes ps ≤ length t → Makes (precedence_result (answer 0 (table_bytes ps)) (states_of ps) (unreachable_events ps)) (table_of ps ++ drop (table_bytes ps) t)
+    unfolding make_of make_table make_answer
+    makes h = rw (right, le-ltb (length t) (table_bytes ps) h, length_build (byte_of ps) (table_bytes ps)) (record { made = refl; table = refl })
 
-pub states_fit : (ps : List ℕ) (m s : ℕ) → ValidPairs ps m → s ≡ states_of ps → s < 2 ^ 32
-states_fit ps m s fit e = omega (arith, states_most ps m fit)
+-- a refusal that `?` hands on
+pub handed_on : (r : Result PrecedencePolicy Reject) (e : Refusal) → IsErrAnd r (λ x. x ≡ reject_at e 0) → precedence_of r ≡ precedence_result (refusal e 0) 0 0
+handed_on (Ok m) e h = absurd h
+handed_on (Err x) e h = rw h
 
-pub unreachable_fits : (p : ℕ → Bool) (x : ℕ) → x ≡ map_where p events → x < 2 ^ 16
-unreachable_fits p x e = rw e (map_lt p events)
-
-pub taken_is : (ps : List ℕ) (b s r x : ℕ) → s ≡ states_of ps → r ≡ fixpoint_of ps → x ≡ map_where (blocked ps r) events → (a : Answer) → a ≡ answer 0 b
-    → precedence_result a s x ≡ precedence_result (answer 0 b) (states_of ps) (unreachable_events ps)
-taken_is ps b s r x e f g a ea = let h : x ≡ unreachable_events ps = g ∙ ap (λ (y : ℕ). map_where (blocked ps y) events) f in rw (ea, e, h)
-
-pub bytes_are : (ps : List ℕ) (s : ℕ) → s ≡ states_of ps → events * s ≡ table_bytes ps
-bytes_are ps s e = rw e
-
-pub bytes_fit : (ps : List ℕ) (m s : ℕ) → ValidPairs ps m → s ≡ states_of ps → events * s < 2 ^ 64
-bytes_fit ps m s fit e = omega (arith, states_most ps m fit)
+pub unreachable_fits : (ps : List ℕ) → unreachable_events ps < 2 ^ 16
+unreachable_fits ps = map_lt (blocked ps (fixpoint_of ps)) events

@@ -1,27 +1,30 @@
 -- The made policy: what is answered and written, its arrows, and that it is right.
 use Prim.Native.Nat.{ℕ, ◌+◌, ◌*◌, ◌/◌, ◌%◌, ◌<◌, ◌≤◌}
 use mathlib.Core.Path.{◌≡◌, refl, sym, ap₂, ◌∙◌}
-use mathlib.Core.Bool.{Bool, true, false, ◌||◌, cond}
+use mathlib.Core.Bool.{Bool, true, false, ◌&&◌, ◌||◌, cond}
 use mathlib.Core.List.{List}
 use native.Mathlib.Omega.{arith}
-use lib.Dec.{ltb}
+use lib.Dec.{eqb, ltb}
 use lib.ListN.{length, drop}
 use lib.Seq.{take_at}
 use lib.Pow.{pow_pos}
-use borrow.Author.Tests.{eq-eqb, lt-ltb, le-ltb}
+use borrow.Author.Tests.{eq-eqb, lt-ltb, le-ltb, leb-true}
 use Rattle.types.specs.Names.{events, most_states, no_arrow}
 use Rattle.spec.specs.Policies.{Policy, arrow, entry_right, right_policy}
 use Rattle.policy_spec.specs.maps.Maps.{map_where}
-use Rattle.policy_spec.specs.precedence.Precedence.{ValidPairs, is_named, named_count, states_of, table_bytes, arrow_of, byte_of, blocked, table_of}
+use Rattle.policy_spec.specs.precedence.Precedence.{ValidPairs, events_known, most_named, is_named, named_count, states_of, table_bytes, arrow_of, byte_of, blocked, table_of}
 use Rattle.policy_spec.specs.precedence.Precedence.{made_policy, pairs_right, make_answer, make_of, make_table}
 use Rattle.policy_spec.specs.precedence.Claims.{WritesPolicy, TakenWritesPolicy, MadeRight}
 use Rattle.policy_spec.proofs.maps.Tables.{entries_build}
 use Rattle.policy_spec.proofs.maps.Maps.{length_build, build_at}
-use Rattle.policy_spec.proofs.precedence.Laws.{fit_of, states_most, on_below}
-use Rattle.spec.proofs.Bools.{or_left, or_right}
+use Rattle.policy_spec.proofs.precedence.Laws.{states_most, on_below}
+use Rattle.spec.proofs.Bools.{both, or_left, or_right}
 
 pub fit_right : (ps : List ℕ) → pairs_right ps ≡ true → ValidPairs ps (map_where (is_named ps) events)
-fit_right ps t = fit_of ps (map_where (is_named ps) events) refl (pairs_right ps) refl t
+unfolding pairs_right
+fit_right ps t =
+    let f = both (events_known ps && eqb (length ps % 2) 0) _ t in
+    record { below = (both (events_known ps) _ f.0).0; few = leb-true (named_count ps) most_named f.1; map = refl }
 
 pub taken_writes_policy : TakenWritesPolicy
 unfolding make_answer make_of make_table

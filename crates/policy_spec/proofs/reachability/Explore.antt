@@ -13,9 +13,8 @@ use Rattle.spec.proofs.Bools.{both}
 use Rattle.policy_spec.specs.maps.Maps.{build}
 use Rattle.policy_spec.proofs.maps.Maps.{length_build}
 use Rattle.policy_spec.proofs.maps.Tables.{fill_none, fill_more}
-use Rattle.policy_spec.specs.declared.reachability.Worklist.{Worklist}
 use Rattle.policy_spec.specs.reachability.Reach.{index_of, known, insert, target, reached_by, nodes, node_state, byte_of, states_of, table_of, reach_answer, reach_of, reach_table}
-use Rattle.policy_spec.specs.reachability.Worklists.{WorklistSized, initial_worklist, nodes_of, has_pending, insert_target, WorklistInvariant, Explored, worklist_answer, written_of, written_table}
+use Rattle.policy_spec.specs.reachability.Worklists.{Worklist, initial_worklist, nodes_of, has_pending, insert_target, WorklistInvariant, Explored, worklist_answer, written_of, written_table}
 use Rattle.policy_spec.specs.reachability.Claims.{Arrows}
 use Rattle.policy_spec.proofs.reachability.Places.{place_le, place_append, place_new, Inserts, none, again, anew, inserts, reached_known}
 use Rattle.policy_spec.proofs.reachability.Reach.{reached_zero, reached_suc, grows, rests}
@@ -65,10 +64,6 @@ step_arrows f k x = refl
 
 more_few : (f : Worklist) (k : ℕ) → has_pending f k ≡ true → (f.count ≤ most_states) × (k < events * f.count)
 more_few f k t = let b = both (ltb k (events * f.count)) (leb f.count most_states) t in (leb-true f.count most_states b.1, ltb-true k (events * f.count) b.0)
-
--- an arrow that is still to be followed belongs to one of the first sixteen nodes
-pub going : (f : Worklist) (k : ℕ) (b : Bool) → b ≡ has_pending f k → b ≡ true → (f.count ≤ most_states) × (k < events * most_states)
-going f k b e t = let m = more_few f k (sym e ∙ t) in (m.0, omega arith)
 
 module _ (next : ℕ → ℕ → ℕ) (q : ℕ) (ok : Arrows next q) where
   pub holds_start : (f : Worklist) → f ≡ initial_worklist q → WorklistInvariant next q f 0
@@ -200,7 +195,3 @@ module _ (next : ℕ → ℕ → ℕ) (q : ℕ) (ok : Arrows next q) (f : Workli
       go : (b : Bool) → leb f.count most_states ≡ b → written_table f table ≡ reach_table next q table
       go true t = let w = whole t in rw (t, w.few_nodes, w.table, w.count)
       go false t = let w = many t in rw (t, w.many_nodes)
-
-  -- what the code needs of it
-  pub explored_sized : WorklistSized f
-  explored_sized = ex.holds.sized

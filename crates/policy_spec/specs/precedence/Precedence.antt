@@ -2,11 +2,11 @@
 use Rattle.std.specs.Prelude.{ℕ, zero, suc, ◌+◌, ◌*◌, ◌/◌, ◌%◌, ◌^◌, ◌≤◌, ◌≡◌, Bool, true, ◌&&◌, ◌||◌, not, cond, List, [], ◌∷◌, length, get_or, eqb, leb, ltb}
 use Rattle.std.specs.Int.Bits.{bit_or}
 use Rattle.types.specs.declared.Answer.{Answer}
+use Rattle.types.specs.declared.PolicyNumbers.{PolicyNumbers}
 use Rattle.types.specs.declared.Refusal.TheVariants.{BadPair}
 use Rattle.types.specs.Names.{events, no_arrow, refusal, if_taken, output_of, room_for, first}
 use Rattle.spec.specs.Policies.{Policy, policy_of}
 use Rattle.policy_spec.specs.maps.Maps.{every, some, count, map_where, bit, build}
-use Rattle.policy_spec.specs.declared.precedence.PrecedenceResult.{PrecedenceResult}
 
 -- 'more than four named events' are too many
 abbrev pub most_named : ℕ
@@ -104,6 +104,12 @@ unreachable_events ps = map_where (blocked ps (fixpoint_of ps)) events
 -- '17 .. comes first. 9 follows it'
 unfoldable pub make_answer : List ℕ → ℕ → Answer
 make_answer ps room = first ((not (pairs_right ps), refusal BadPair 0) ∷ []) (room_for room (table_bytes ps))
+
+-- what making a policy answers: on success the bytes written, as place, the policy's numbers, and the set of events that it never allows
+pub record PrecedenceResult : Type 0 where
+  pub answer : Answer
+  pub policy : PolicyNumbers
+  pub unreachable : ℕ
 
 -- 'After a reject all else handed back is 0'
 abbrev pub precedence_result : Answer → ℕ → ℕ → PrecedenceResult

@@ -3,10 +3,10 @@
 use Rattle.std.specs.Prelude.{ℕ, zero, suc, ◌*◌, ◌/◌, ◌%◌, Bool, ◌||◌, not, cond, List, [], ◌∷◌, ◌++◌, length, get_or, eqb, leb, ltb}
 use Rattle.types.specs.declared.Answer.{Answer}
 use Rattle.types.specs.declared.Refusal.TheVariants.{TooManyStates}
+use Rattle.types.specs.declared.PolicyNumbers.{PolicyNumbers}
 use Rattle.types.specs.Names.{most_states, events, no_arrow, refusal, if_taken, output_of, room_for, first}
 use Rattle.spec.specs.Policies.{Policy, policy_of}
 use Rattle.policy_spec.specs.maps.Maps.{build}
-use Rattle.policy_spec.specs.declared.reachability.Made.{Made}
 
 -- the first index of a number in a list, or the list's length if it is not there
 abbrev pub index_of : List ℕ → ℕ → ℕ
@@ -58,6 +58,11 @@ nodes_fit next q = leb (states_of next q) most_states
 -- '15 .. and then 9 follow'
 unfoldable pub reach_answer : (ℕ → ℕ → ℕ) → ℕ → ℕ → Answer
 reach_answer next q room = first ((not (nodes_fit next q), refusal TooManyStates 0) ∷ []) (room_for room (events * states_of next q))
+
+-- what making a policy answers: on success the bytes written, as place, and the policy's numbers
+pub record Made : Type 0 where
+  pub answer : Answer
+  pub policy : PolicyNumbers
 
 -- 'After a reject all else handed back is 0'
 abbrev pub made_with : Answer → ℕ → Made

@@ -1,12 +1,18 @@
 -- The work list of the search as the code keeps it: arrays of the nodes found, with room for one too many, and of the arrows' targets.
-use Rattle.std.specs.Prelude.{ℕ, ◌+◌, ◌*◌, ◌≤◌, ◌≡◌, Bool, false, ◌&&◌, ◌||◌, not, cond, List, [], ◌∷◌, ◌++◌, length, take, drop, set, replicate, eqb, leb, ltb}
+use Rattle.std.specs.Prelude.{ℕ, ◌+◌, ◌*◌, ◌/◌, ◌^◌, ◌<◌, ◌≤◌, ◌≡◌, Bool, true, false, ◌&&◌, ◌||◌, not, cond, Option, None, Some, MatchOption, List, [], ◌∷◌, ◌++◌, length, get_or, take, drop, set, replicate, eqb, leb, ltb}
+use Rattle.std.specs.declared.num.NonZeroU16.{NonZeroU16}
+use Rattle.std.specs.Int.NonZero.{non_zero_u16_get}
 use Rattle.types.specs.declared.Answer.{Answer}
 use Rattle.types.specs.declared.Refusal.TheVariants.{TooManyStates}
 use Rattle.types.specs.Names.{most_states, events, refusal, if_taken, output_of, room_for, first}
 use Rattle.policy_spec.specs.maps.Maps.{build}
-use Rattle.policy_spec.specs.declared.reachability.Worklist.{Worklist}
-use Rattle.policy_spec.specs.declared.reachability.Made.{Made}
-use Rattle.policy_spec.specs.reachability.Reach.{known, node_state, byte_of, reached_by, nodes, made_with}
+use Rattle.policy_spec.specs.reachability.Reach.{Made, known, node_state, byte_of, reached_by, nodes, made_with}
+
+-- the nodes found so far, their count, and for each arrow the number of the node that it leads to
+pub record Worklist : Type 0 where
+  pub nodes : List ℕ
+  pub count : ℕ
+  pub arrows : List ℕ
 
 -- room for one node too many
 abbrev pub capacity : ℕ
@@ -20,6 +26,15 @@ initial_worklist q = record { nodes = set (replicate capacity 0) 0 q; count = 1;
 abbrev pub nodes_of : Worklist → List ℕ
 nodes_of f = take f.count f.nodes
 
+-- the code's node as a number: 0 where there is none
+abbrev pub node_number : Option NonZeroU16 → ℕ
+node_number None = 0
+node_number (Some x) = non_zero_u16_get x
+
+-- what a step of the code may answer for an event in a node is what `next` says
+abbrev pub Follows : (ℕ → ℕ → Option NonZeroU16 → Type 0) → (ℕ → ℕ → ℕ) → Type 0
+Follows step next = (x n : ℕ) (r : Option NonZeroU16) → x < 2 ^ 16 → n < events → step x n r → node_number r ≡ next x n
+
 -- the arrays have their lengths, and the nodes found fit
 pub record WorklistSized (f : Worklist) : Type 0 where
   pub most : f.count ≤ capacity
@@ -29,6 +44,10 @@ pub record WorklistSized (f : Worklist) : Type 0 where
 -- whether arrow k belongs to a node found, and there are not too many nodes
 abbrev pub has_pending : Worklist → ℕ → Bool
 has_pending f k = ltb k (events * f.count) && leb f.count most_states
+
+-- the node that arrow k still has to be followed from
+abbrev pub PendingNode : Worklist → ℕ → Option ℕ → Type 0
+PendingNode f k o = MatchOption o (has_pending f k ≡ false) (λ x. (has_pending f k ≡ true) × (x ≡ get_or f.nodes (k / events) 0))
 
 -- after arrow k, which leads to x: its target is stored, and x is added if it is new
 unfoldable pub insert_target : Worklist → ℕ → ℕ → Worklist

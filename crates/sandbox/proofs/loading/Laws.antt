@@ -9,7 +9,11 @@ use borrow.Author.Tests.{eq-eqb, ne_eqb}
 use Rattle.types.specs.declared.Layout.{Layout}
 use Rattle.types.specs.declared.Machine.{Machine}
 use Rattle.types.specs.declared.Answer.{Answer}
-use Rattle.types.specs.Results.{Installed}
+use Rattle.types.specs.declared.Reject.{Reject}
+use Rattle.types.specs.Results.{Installed, rejected}
+use Rattle.std.proofs.Common.{Result, Ok, Err}
+use Rattle.std.specs.Prelude.{IsErrAnd}
+use Rattle.sandbox_spec.specs.declared.LoadedRoutine.{LoadedRoutine}
 use Rattle.types.specs.Names.{most_instructions, answer, or_else, output_of}
 use Rattle.spec.specs.Policies.{Policy}
 use Rattle.spec.specs.Bytes.{words_in, read_answer}
@@ -18,7 +22,12 @@ use Rattle.spec.specs.Machines.{install_answer, install_memory, install_of}
 use Rattle.types.specs.Records.{machine_refused}
 use Rattle.spec.proofs.Refusals.{else_next, else_kept, else_none, output_written, output_start}
 use Rattle.spec.proofs.Counts.{length_commands, rewrite_taken, rewrite_bound}
-use Rattle.sandbox_spec.specs.Loading.{translate_answer, load_answer, load_commands, load_memory, load_machine, load_of}
+use Rattle.sandbox_spec.specs.Loading.{translate_answer, load_answer, load_commands, load_memory, load_machine, load_of, loaded_of}
+
+-- what a load answers that ends at a call's refusal
+pub exit : (r : Result LoadedRoutine Reject) (e : Reject) → IsErrAnd r (λ x. x ≡ e) → loaded_of r ≡ record { machine = machine_refused; answer = rejected e }
+exit (Ok x) e h = absurd h
+exit (Err x) e h = ap (λ (y : Reject). loaded_of (Err y)) h
 
 module _ (lay : Layout) (pol : Policy) (s out mem : List ℕ) where
   abbrev code : List ℕ

@@ -10,7 +10,7 @@ use Rattle.types.specs.declared.Refusal.TheVariants.{BadLanding}
 use Rattle.types.specs.declared.Refusal.{Refusal}
 use Rattle.types.specs.declared.Answer.{Answer}
 use Rattle.types.specs.declared.Reject.{Reject}
-use Rattle.types.specs.Names.{taken_number, guest, number_of, or_else, answer}
+use Rattle.types.specs.Names.{taken_number, guest, number_of, or_else}
 use Rattle.types.specs.Results.{reject_at, rejected}
 use Rattle.types.proofs.Exits.{refusal_counts}
 use Rattle.spec.proofs.Refusals.{refused_stop, refused_more, refused_done, else_kept}

@@ -1,9 +1,8 @@
+use native.Mathlib.Omega.{arith}
 use borrow.Author.Rules.{rules}
-use Rattle.codec_write.proofs.encode.Writing.{word_next, word_out, word_room, word_small}
+use lib.ListN.{length-set}
+use Rattle.codec_write.proofs.encode.Fields.{word_length}
 use Rattle.codec_write.proofs.encode.encode_word.Goals as goal
 
-pub put_fields-requires : goal.put_fields-requires
-put_fields-requires c = search (word_room, word_small, rules)
-
-pub returns : goal.returns
-returns c = search (word_next, word_out, rules)
+pub loop-x-init : goal.loop-x-init
+loop-x-init c = record { stored = search rules; room = simp length-set (omega (arith, word_length _ _ c.fields-f.ensures)) }

@@ -1,16 +1,9 @@
-use Prim.Native.Nat.{zero-le}
-use mathlib.Core.Path.{refl}
-use borrow.Author.Rules.{rules}
-use Rattle.installer.proofs.table.Tables.{word_more, words_done}
+use Rattle.std.proofs.Common.{arith}
+use Rattle.installer.proofs.table.Tables.{word_more}
+use Rattle.installer.proofs.table_words.Words.{word_of}
 use Rattle.installer.proofs.table.entries_right.Goals as goal
 
-pub loop-i-init : goal.loop-i-init
-loop-i-init c = (refl, zero-le)
-
-pub loop-i-preserved : goal.loop-i-preserved
-loop-i-preserved c = let at = c.loop-i in
-    let start = c in
-    (word_more _ _ _ at.i at.invariant.0 _ _ start.requires.0 start.requires.1 c.word_at.ensures c.word_right-ok.ensures, search rules)
-
-pub returns : goal.returns
-returns c = search (words_done, rules)
+pub loop-bytes-preserved : goal.loop-bytes-preserved
+loop-bytes-preserved c =
+    word_more _ _ _ c.loop-bytes.bytes-index c.loop-bytes.invariant _ _ c.requires.0 c.requires.1
+    (word_of c.args.table.now _ _ _ c.as_chunks.ensures.front (omega arith) (omega arith) (λ j. (c.type_inv.table j).fits) _ c.from_le_bytes.ensures) c.word_right-ok.ensures

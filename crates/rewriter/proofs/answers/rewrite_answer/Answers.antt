@@ -1,14 +1,7 @@
-use mathlib.Core.Path.{◌∙◌}
-use borrow.Author.Tests.{not-true, not-false}
-use borrow.Author.Rules.{rules}
-use Rattle.rewriter.proofs.answers.RefusalLaws.{bad_layout, oversize, judged}
+use Rattle.std.proofs.Common.{arith}
+use Rattle.rewriter.proofs.answers.RefusalLaws.{bad_word}
 use Rattle.rewriter.proofs.answers.rewrite_answer.Goals as goal
 
-pub returns-then-not-layout_right : goal.returns-then-not-layout_right
-returns-then-not-layout_right c = c.refused.ensures ∙ search (bad_layout, not-true, rules)
-
-pub returns-then-n-gt-MOST : goal.returns-then-n-gt-MOST
-returns-then-n-gt-MOST c = c.refused-then-n-gt-MOST.ensures ∙ search (oversize, not-false, rules)
-
-pub returns : goal.returns
-returns c = search (judged, not-false, rules)
+pub returns-in_err-first_refusal : goal.returns-in_err-first_refusal
+returns-in_err-first_refusal c =
+    bad_word _ _ _ _ c.layout_right.ensures c.if-not-layout_right.false (omega arith) _ c.in_err-first_refusal.ensures _ c.from_residual.ensures.1

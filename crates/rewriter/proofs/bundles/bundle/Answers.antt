@@ -1,5 +1,6 @@
 use borrow.Author.Rules.{rules}
-use Rattle.words.proofs.BundleWords.{kind_fits, jump_fits, landing_fits, lay_halt, lay_plain, lay_load, lay_store, lay_goif, lay_gox, lay_event}
+use Rattle.words.proofs.BundleWords.{kind_fits, jump_fits, lay_halt, lay_plain, lay_load, lay_store, lay_goif, lay_event}
+use Rattle.rewriter.proofs.bundles.Bases.{target_fits, laid_gox}
 use Rattle.rewriter.proofs.bundles.bundle.Goals as goal
 
 -- a plain instruction's command
@@ -11,7 +12,7 @@ pub overflow_mul-v : goal.overflow_mul-v
 overflow_mul-v c = search (jump_fits, rules)
 
 pub overflow_add-base : goal.overflow_add-base
-overflow_add-base c = search (landing_fits, rules)
+overflow_add-base c = search (target_fits, rules)
 
 -- the four words of each instruction, in the order of the match
 pub returns-in-HALT : goal.returns-in-HALT
@@ -30,7 +31,7 @@ pub returns-in-GOIF : goal.returns-in-GOIF
 returns-in-GOIF c = search (lay_goif, rules)
 
 pub returns-in-GOX : goal.returns-in-GOX
-returns-in-GOX c = search (lay_gox, rules)
+returns-in-GOX c = search (laid_gox, rules)
 
 pub returns-in-EVENT : goal.returns-in-EVENT
 returns-in-EVENT c = search (lay_event, rules)

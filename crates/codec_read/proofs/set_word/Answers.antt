@@ -1,7 +1,0 @@
-use mathlib.Core.Path.{sym}
-use native.Mathlib.Omega.{arith}
-use lib.Seq.{set_out}
-use Rattle.codec_read.proofs.set_word.Goals as goal
-
-pub returns-else-at-words : goal.returns-else-at-words
-returns-else-at-words c = sym (set_out _ _ _ (omega arith))

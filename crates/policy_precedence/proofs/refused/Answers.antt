@@ -1,4 +1,0 @@
-use Rattle.policy_precedence.proofs.refused.Goals as goal
-
-pub returns : goal.returns
-returns c = rw c.refused.ensures
