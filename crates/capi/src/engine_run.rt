@@ -1,14 +1,15 @@
 // `hemdroas_engine_run` and `hemdroas_engine_continue`: a run of guest words, with the engine's record and answer as arrays.
-ghost use Rattle.std.specs.Prelude.{◌≡◌, [], ◌∷◌, ◌<◌, ◌^◌};
+ghost use Rattle.std.specs.Prelude.{◌≡◌};
 ghost use Rattle.types.specs.Names.{guest_registers};
 ghost use Rattle.capi_spec.specs.Numbers.{numbers_after};
 ghost use Rattle.capi_spec.specs.Hosts.{host_result};
-ghost use Rattle.capi_spec.specs.engine.Records.{engine_from, engine_to, engine_for, continue_for};
+ghost use Rattle.engine_spec.specs.Engines.{outcome_from};
+ghost use Rattle.capi_spec.specs.engine.Records.{engine_from, engine_to, answer_to, NumbersFit, engine_for, continue_for};
 
 use capi_values::layouts::{LAYOUT, layout_of};
 use capi_values::records::{TRAILER, read_record, store_record};
-use engine_spec::Engine;
-use types::Answer;
+use engine_spec::{Engine, EngineRun};
+use types::Reject;
 
 // How many numbers a record and an answer have.
 pub const ENGINE_RECORD: usize = Engine::REGISTERS + TRAILER;
@@ -37,17 +38,33 @@ fn record_after(m: Engine, mut xs: [u32; ENGINE_RECORD]) -> [u32; ENGINE_RECORD]
     xs
 }
 
-fn engine_answer_of(a: Answer, steps: u32, pairs: usize, used: usize) -> [u32; ENGINE_ANSWER]
-    requires { (a.place < 2 ^ 32) × (pairs < 2 ^ 32) × (used < 2 ^ 32) }
-    ensures { result ≡ a.number ∷ a.place ∷ steps ∷ pairs ∷ used ∷ [] }
+// What a run leaves: the engine, and the numbers of its answer. After a refusal the engine is as it was.
+fn left_by(m: Engine, outcome: Result<EngineRun, Reject>) -> (Engine, [u32; ENGINE_ANSWER])
+    requires { NumbersFit (outcome_from m outcome) }
+    ensures { (result.0 ≡ (outcome_from m outcome).engine) × (result.1 ≡ answer_to (outcome_from m outcome)) }
 {
-    [
-        a.number as u32,
-        a.place as u32,
-        steps,
-        pairs as u32,
-        used as u32,
-    ]
+    match outcome {
+        Ok(run) => {
+            let numbers = [
+                u32::from(u8::from(run.ending)),
+                0,
+                run.steps,
+                run.pairs as u32,
+                run.used as u32,
+            ];
+            (run.engine, numbers)
+        }
+        Err(reject) => {
+            let numbers = [
+                u32::from(u8::from(reject.refusal)),
+                reject.place as u32,
+                0,
+                0,
+                0,
+            ];
+            (m, numbers)
+        }
+    }
 }
 
 // Runs guest words as they are written.
@@ -70,8 +87,9 @@ pub extern "C" fn hemdroas_engine_run(
     let given = *engine;
     let m = engine_of(given);
     let out = engine::run(lay, words, m, memory, budget, readings, log);
-    *engine = record_after(out.engine, given);
-    *answer = engine_answer_of(out.answer, out.steps, out.pairs, out.used);
+    let (left, numbers) = left_by(m, out);
+    *engine = record_after(left, given);
+    *answer = numbers;
 }
 
 // Runs guest words without testing all of them first. Each is tested when it is reached; one that is no instruction faults.
@@ -94,6 +112,7 @@ pub extern "C" fn hemdroas_engine_continue(
     let given = *engine;
     let m = engine_of(given);
     let went = engine::resume(lay, words, m, memory, budget, readings, log);
-    *engine = record_after(went.engine, given);
-    *answer = engine_answer_of(went.answer, went.steps, went.pairs, went.used);
+    let (after, numbers) = left_by(m, went);
+    *engine = record_after(after, given);
+    *answer = numbers;
 }

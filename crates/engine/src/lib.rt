@@ -62,6 +62,7 @@ fn at_rest(engine: Engine) -> EngineRun
 }
 
 // Runs an engine in any status.
+#[tactic(auto, using(crate::proofs::Running::rests, crate::proofs::Running::ends, crate::proofs::Running::counts_start))]
 fn run_on(
     layout: Layout,
     routine: Routine,
@@ -99,6 +100,7 @@ fn run_on(
 
 // Runs the engine, with the record by value. All words are judged first. Refused as bad layout (7), then as oversize (5). Then the first bad
 // word is refused as unknown variety (3), foreign matter (2), off grade (4) or bad landing (8). A refused run changes nothing.
+#[tactic(auto, using(crate::proofs::Running::runs))]
 pub fn run(
     layout: Layout,
     words: &[u64],
@@ -118,6 +120,7 @@ pub fn run(
 
 // Runs words that were judged before, and does not judge all of them again. Refused as bad layout (7), then as oversize (5).
 // Each word is judged when it is reached. One that is no instruction faults (22), so any words are safe.
+#[tactic(auto, using(crate::proofs::Running::resumes))]
 pub fn resume(
     layout: Layout,
     words: &[u64],

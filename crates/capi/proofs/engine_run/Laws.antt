@@ -1,6 +1,6 @@
 -- The engine's record and answer, said of the numbers of a C host.
 use Prim.Native.Nat.{ℕ, ◌^◌, ◌<◌, ◌≤◌}
-use mathlib.Core.Path.{◌≡◌, sym, ap, subst}
+use mathlib.Core.Path.{◌≡◌, ◌∙◌, sym, ap, subst}
 use mathlib.Core.List.{List}
 use native.Mathlib.Omega.{arith}
 use Rattle.types.specs.declared.Layout.{Layout}
@@ -13,16 +13,16 @@ use Rattle.engine_spec.specs.Engines.{EngineOutcome, RunResult, run_of}
 use Rattle.engine_spec.specs.Continues.{continue_of}
 use Rattle.engine_spec.proofs.Isolation.{RunCounts, run_counts, run_place}
 use Rattle.engine_spec.proofs.Continues.{continue_counts, continue_place}
-use Rattle.capi_spec.specs.engine.Records.{engine_from, engine_to, answer_to, result_to, engine_for, continue_for}
+use Rattle.capi_spec.specs.engine.Records.{engine_from, engine_to, answer_to, NumbersFit, result_to, engine_for, continue_for}
 
 -- place, pairs and readings have 32 bits
 narrow_by : (rd log mem' log' : List ℕ) (budget : ℕ) (o : EngineOutcome) (r : RunResult) → RunCounts log rd budget r
     → r.outcome.answer.place ≤ most_instructions → run_result_of o mem' log' ≡ r → budget < 2 ^ 32
-    → (o.answer.place < 2 ^ 32) × (o.pairs < 2 ^ 32) × (o.used < 2 ^ 32)
+    → NumbersFit o
 narrow_by rd log mem' log' budget o r n p q h =
     let b = subst (RunCounts log rd budget) (sym q) n in
     let e = ap (λ (x : RunResult). x.outcome.answer.place) q in
-    (omega (arith, p, e), omega (arith, b.pairs), omega (arith, b.used))
+    record { place = omega (arith, p, e); pairs = omega (arith, b.pairs); used = omega (arith, b.used) }
 
 -- of the layout and the record of a host's numbers
 left_by : (run : Layout → Engine → RunResult) (xs ms log' : List ℕ) (l : Layout) (m : Engine) (o : EngineOutcome) → l ≡ layout_from xs → m ≡ engine_from ms
@@ -33,22 +33,22 @@ left_by run xs ms log' l m o e p mem' ms' ns q t u = rw (t, u, ← e, ← p) (ap
 module _ (xs ms ws mem rd log mem' log' : List ℕ) (budget : ℕ) (l : Layout) (m : Engine) (o : EngineOutcome) where
   -- ---- hemdroas_engine_run
   module _ (q : run_result_of o mem' log' ≡ run_of l ws m mem budget rd log) where
-    pub narrow : budget < 2 ^ 32 → (o.answer.place < 2 ^ 32) × (o.pairs < 2 ^ 32) × (o.used < 2 ^ 32)
+    pub narrow : budget < 2 ^ 32 → NumbersFit o
     narrow = narrow_by rd log mem' log' budget o _ (run_counts l ws m mem budget rd log) (run_place l ws m mem budget rd log) q
 
-    pub left : l ≡ layout_from xs → m ≡ engine_from ms → (ms' ns : List ℕ) → ms' ≡ numbers_after guest_registers ms (engine_to o.engine) → ns ≡ answer_to o
+    pub left : l ≡ layout_from xs → m ≡ engine_from ms → (after : Engine) → after ≡ o.engine → (ms' ns : List ℕ) → ms' ≡ numbers_after guest_registers ms (engine_to after) → ns ≡ answer_to o
         → host_result ns ms' mem' log' ≡ engine_for xs ws ms mem budget rd log
     unfolding engine_for
-    left e p ms' ns = left_by (λ l m. run_of l ws m mem budget rd log) xs ms log' l m o e p mem' ms' ns q
+    left e p after a ms' ns t = left_by (λ l m. run_of l ws m mem budget rd log) xs ms log' l m o e p mem' ms' ns q (t ∙ rw a)
 
   -- ---- hemdroas_engine_continue
   module _ (q : run_result_of o mem' log' ≡ continue_of l ws m mem budget rd log) where
-    pub narrow_on : budget < 2 ^ 32 → (o.answer.place < 2 ^ 32) × (o.pairs < 2 ^ 32) × (o.used < 2 ^ 32)
+    pub narrow_on : budget < 2 ^ 32 → NumbersFit o
     narrow_on =
         let z : (continue_of l ws m mem budget rd log).outcome.answer.place ≤ most_instructions = omega (arith, continue_place l ws m mem budget rd log) in
         narrow_by rd log mem' log' budget o _ (continue_counts l ws m mem budget rd log) z q
 
-    pub left_on : l ≡ layout_from xs → m ≡ engine_from ms → (ms' ns : List ℕ) → ms' ≡ numbers_after guest_registers ms (engine_to o.engine) → ns ≡ answer_to o
+    pub left_on : l ≡ layout_from xs → m ≡ engine_from ms → (after : Engine) → after ≡ o.engine → (ms' ns : List ℕ) → ms' ≡ numbers_after guest_registers ms (engine_to after) → ns ≡ answer_to o
         → host_result ns ms' mem' log' ≡ continue_for xs ws ms mem budget rd log
     unfolding continue_for
-    left_on e p ms' ns = left_by (λ l m. continue_of l ws m mem budget rd log) xs ms log' l m o e p mem' ms' ns q
+    left_on e p after a ms' ns t = left_by (λ l m. continue_of l ws m mem budget rd log) xs ms log' l m o e p mem' ms' ns q (t ∙ rw a)
