@@ -19,18 +19,6 @@ use engine_step::plan::Plan;
 use machine_step::program_point::{LoopExit, Point};
 use types::{Ending, Layout, Reject, Status};
 
-// The point where a running engine's run starts.
-fn start(index: u32) -> Point
-    ensures { result ≡ point_of index Running 0 0 }
-{
-    Point {
-        pc: index,
-        status: Status::Running,
-        pairs: 0,
-        used: 0,
-    }
-}
-
 // What a run leaves after its loop.
 fn finish(regs: [u32; Engine::REGISTERS], exit: LoopExit) -> EngineRun
     ensures { result ≡ run_after regs exit }
@@ -89,7 +77,7 @@ fn run_on(
         plan,
         routine,
         &mut regs,
-        start(engine.at),
+        Point::start(engine.at),
         memory,
         budget,
         readings,
