@@ -17,11 +17,11 @@ pub const ENGINE_RECORD: usize = Engine::REGISTERS + TRAILER;
 pub const ENGINE_ANSWER: usize = 5;
 
 // Makes an engine from a record's numbers.
-fn engine_of(xs: [u32; ENGINE_RECORD]) -> Engine
-    ensures { result ≡ engine_from xs }
+fn engine_of(xs: &[u32; ENGINE_RECORD]) -> Engine
+    ensures { result ≡ engine_from xs.now }
 {
     let mut regs = [0u32; Engine::REGISTERS];
-    let status = read_record(&xs, &mut regs);
+    let status = read_record(xs, &mut regs);
     Engine {
         regs,
         at: xs[Engine::REGISTERS],
@@ -29,40 +29,37 @@ fn engine_of(xs: [u32; ENGINE_RECORD]) -> Engine
     }
 }
 
-// The record's numbers after a run that left this engine. If their status is invalid, they stay as they were.
-fn record_after(m: Engine, mut xs: [u32; ENGINE_RECORD]) -> [u32; ENGINE_RECORD]
-    ensures { result ≡ numbers_after guest_registers xs (engine_to m) }
-{
-    let status = m.status;
-    store_record(&mut xs, &m.regs, m.at, status);
-    xs
-}
-
-// What a run leaves: the engine, and the numbers of its answer. After a refusal the engine is as it was.
-fn left_by(m: Engine, outcome: Result<EngineRun, Reject>) -> (Engine, [u32; ENGINE_ANSWER])
-    requires { NumbersFit (outcome_from m outcome) }
-    ensures { (result.0 ≡ (outcome_from m outcome).engine) × (result.1 ≡ answer_to (outcome_from m outcome)) }
+// Stores what a run leaves. After a refusal the record is as it was, and so it is if its status is invalid.
+#[tactic(auto, using(crate::proofs::engine_run::Laws::stays))]
+fn store_run(
+    engine: &mut [u32; ENGINE_RECORD],
+    answer: &mut [u32; ENGINE_ANSWER],
+    outcome: Result<EngineRun, Reject>,
+)
+    requires { NumbersFit (outcome_from (engine_from engine.old) outcome) }
+    ensures engine { engine.new ≡ numbers_after guest_registers engine.old (engine_to (outcome_from (engine_from engine.old) outcome).engine) }
+    ensures answer { answer.new ≡ answer_to (outcome_from (engine_from engine.old) outcome) }
 {
     match outcome {
         Ok(run) => {
-            let numbers = [
+            let left = run.engine;
+            store_record(engine, &left.regs, left.at, left.status);
+            *answer = [
                 u32::from(u8::from(run.ending)),
                 0,
                 run.steps,
                 run.pairs as u32,
                 run.used as u32,
             ];
-            (run.engine, numbers)
         }
         Err(reject) => {
-            let numbers = [
+            *answer = [
                 u32::from(u8::from(reject.refusal)),
                 reject.place as u32,
                 0,
                 0,
                 0,
             ];
-            (m, numbers)
         }
     }
 }
@@ -84,12 +81,9 @@ pub extern "C" fn hemdroas_engine_run(
         log.old }
 {
     let lay = layout_of(layout);
-    let given = *engine;
-    let m = engine_of(given);
+    let m = engine_of(engine);
     let out = engine::run(lay, words, m, memory, budget, readings, log);
-    let (left, numbers) = left_by(m, out);
-    *engine = record_after(left, given);
-    *answer = numbers;
+    store_run(engine, answer, out);
 }
 
 // Runs guest words without testing all of them first. Each is tested when it is reached; one that is no instruction faults.
@@ -109,10 +103,7 @@ pub extern "C" fn hemdroas_engine_continue(
         log.old }
 {
     let lay = layout_of(layout);
-    let given = *engine;
-    let m = engine_of(given);
+    let m = engine_of(engine);
     let went = engine::resume(lay, words, m, memory, budget, readings, log);
-    let (after, numbers) = left_by(m, went);
-    *engine = record_after(after, given);
-    *answer = numbers;
+    store_run(engine, answer, went);
 }
