@@ -5,6 +5,7 @@ ghost use Rattle.spec.specs.Words.{d_of, a_of, b_of, v_of};
 ghost use Rattle.engine_step.specs.fetch.Fetched.{GuestFields};
 
 use engine_spec::Engine;
+use machine_step::registers::{a_value, b_value};
 use types::Layout;
 use words::fields::v_field;
 use words::{field, memory};
@@ -33,14 +34,14 @@ impl GuestWord {
     pub fn a(self, regs: &[u32; Engine::REGISTERS]) -> u32
         ensures { result ≡ get_or regs.now (a_of self.word) 0 }
     {
-        regs[field::a(self.word) as usize]
+        a_value(self.word, regs)
     }
 
     // The value of register b.
     pub fn b(self, regs: &[u32; Engine::REGISTERS]) -> u32
         ensures { result ≡ get_or regs.now (b_of self.word) 0 }
     {
-        regs[field::b(self.word) as usize]
+        b_value(self.word, regs)
     }
 
     // The masked address of a LOAD or STORE.
