@@ -4,9 +4,10 @@ ghost use Rattle.policy_determinise.specs.Drawings.{drawing_of, determinise_of, 
 ghost use Rattle.capi.specs.determinise.Numbers.{starts_from, policy_to};
 
 use capi_values::answers::{MADE, made_of};
-use types::Answer;
+use types::{Answer, Reject};
 
 // Start sets that are out of range become empty; both are refused as bad drawing (16).
+#[tactic(auto, using(crate::proofs::determinise::Laws::starts_held, crate::proofs::determinise::Laws::starts_none))]
 fn starts_of(map: u32) -> u16
     ensures { result ≡ starts_from map }
 {
@@ -26,6 +27,6 @@ pub extern "C" fn hemdroas_determinise(
 {
     *made = match policy_determinise::determinise(states, starts_of(starts), arrows, table) {
         Ok(m) => made_of(Answer::from(Ok(m.bytes)), m.policy.states, m.policy.start),
-        Err(reject) => made_of(Answer::from(Err(reject)), 0, 0),
+        Err(reject) => made_of(Answer::from(Err::<usize, Reject>(reject)), 0, 0),
     };
 }

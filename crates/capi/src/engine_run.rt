@@ -1,14 +1,15 @@
 // `hemdroas_engine_run` and `hemdroas_engine_continue`: a run of guest words, with the engine's record and answer as arrays.
-ghost use Rattle.std.specs.Prelude.{◌≡◌, [], ◌∷◌, ◌<◌, ◌^◌};
+ghost use Rattle.std.specs.Prelude.{◌≡◌};
 ghost use Rattle.types.specs.Names.{guest_registers};
 ghost use Rattle.capi_spec.specs.Numbers.{numbers_after};
 ghost use Rattle.capi_spec.specs.Hosts.{host_result};
-ghost use Rattle.capi_spec.specs.engine.Records.{engine_from, engine_to, engine_for, continue_for};
+ghost use Rattle.engine_spec.specs.Engines.{outcome_from};
+ghost use Rattle.capi_spec.specs.engine.Records.{engine_from, engine_to, answer_to, NumbersFit, engine_for, continue_for};
 
 use capi_values::layouts::{LAYOUT, layout_of};
 use capi_values::records::{TRAILER, read_record, store_record};
-use engine_spec::Engine;
-use types::Answer;
+use engine_spec::{Engine, EngineRun};
+use types::Reject;
 
 // How many numbers a record and an answer have.
 pub const ENGINE_RECORD: usize = Engine::REGISTERS + TRAILER;
@@ -16,11 +17,11 @@ pub const ENGINE_RECORD: usize = Engine::REGISTERS + TRAILER;
 pub const ENGINE_ANSWER: usize = 5;
 
 // Makes an engine from a record's numbers.
-fn engine_of(xs: [u32; ENGINE_RECORD]) -> Engine
-    ensures { result ≡ engine_from xs }
+fn engine_of(xs: &[u32; ENGINE_RECORD]) -> Engine
+    ensures { result ≡ engine_from xs.now }
 {
     let mut regs = [0u32; Engine::REGISTERS];
-    let status = read_record(&xs, &mut regs);
+    let status = read_record(xs, &mut regs);
     Engine {
         regs,
         at: xs[Engine::REGISTERS],
@@ -28,26 +29,39 @@ fn engine_of(xs: [u32; ENGINE_RECORD]) -> Engine
     }
 }
 
-// The record's numbers after a run that left this engine. If their status is invalid, they stay as they were.
-fn record_after(m: Engine, mut xs: [u32; ENGINE_RECORD]) -> [u32; ENGINE_RECORD]
-    ensures { result ≡ numbers_after guest_registers xs (engine_to m) }
+// Stores what a run leaves. After a refusal the record is as it was, and so it is if its status is invalid.
+#[tactic(auto, using(crate::proofs::engine_run::Laws::stays))]
+fn store_run(
+    engine: &mut [u32; ENGINE_RECORD],
+    answer: &mut [u32; ENGINE_ANSWER],
+    outcome: Result<EngineRun, Reject>,
+)
+    requires { NumbersFit (outcome_from (engine_from engine.old) outcome) }
+    ensures engine { engine.new ≡ numbers_after guest_registers engine.old (engine_to (outcome_from (engine_from engine.old) outcome).engine) }
+    ensures answer { answer.new ≡ answer_to (outcome_from (engine_from engine.old) outcome) }
 {
-    let status = m.status;
-    store_record(&mut xs, &m.regs, m.at, status);
-    xs
-}
-
-fn engine_answer_of(a: Answer, steps: u32, pairs: usize, used: usize) -> [u32; ENGINE_ANSWER]
-    requires { (a.place < 2 ^ 32) × (pairs < 2 ^ 32) × (used < 2 ^ 32) }
-    ensures { result ≡ a.number ∷ a.place ∷ steps ∷ pairs ∷ used ∷ [] }
-{
-    [
-        a.number as u32,
-        a.place as u32,
-        steps,
-        pairs as u32,
-        used as u32,
-    ]
+    match outcome {
+        Ok(run) => {
+            let left = run.engine;
+            store_record(engine, &left.regs, left.at, left.status);
+            *answer = [
+                u32::from(u8::from(run.ending)),
+                0,
+                run.steps,
+                run.pairs as u32,
+                run.used as u32,
+            ];
+        }
+        Err(reject) => {
+            *answer = [
+                u32::from(u8::from(reject.refusal)),
+                reject.place as u32,
+                0,
+                0,
+                0,
+            ];
+        }
+    }
 }
 
 // Runs guest words as they are written.
@@ -67,11 +81,9 @@ pub extern "C" fn hemdroas_engine_run(
         log.old }
 {
     let lay = layout_of(layout);
-    let given = *engine;
-    let m = engine_of(given);
+    let m = engine_of(engine);
     let out = engine::run(lay, words, m, memory, budget, readings, log);
-    *engine = record_after(out.engine, given);
-    *answer = engine_answer_of(out.answer, out.steps, out.pairs, out.used);
+    store_run(engine, answer, out);
 }
 
 // Runs guest words without testing all of them first. Each is tested when it is reached; one that is no instruction faults.
@@ -91,9 +103,7 @@ pub extern "C" fn hemdroas_engine_continue(
         log.old }
 {
     let lay = layout_of(layout);
-    let given = *engine;
-    let m = engine_of(given);
+    let m = engine_of(engine);
     let went = engine::resume(lay, words, m, memory, budget, readings, log);
-    *engine = record_after(went.engine, given);
-    *answer = engine_answer_of(went.answer, went.steps, went.pairs, went.used);
+    store_run(engine, answer, went);
 }

@@ -7,7 +7,7 @@ use capi_values::answers::{ANSWER, answer_of};
 use capi_values::layouts::{LAYOUT, layout_of};
 use capi_values::machines::{MACHINE_RECORD, record_of};
 use installer::LentPolicy;
-use types::{Answer, Machine, PolicyNumbers};
+use types::{Answer, Machine, PolicyNumbers, Reject};
 
 #[unsafe(no_mangle)]
 pub extern "C" fn hemdroas_install(
@@ -28,7 +28,14 @@ pub extern "C" fn hemdroas_install(
         table,
         landings,
     };
-    let done = installer::install(layout_of(layout), policy, memory);
-    *machine = record_of(done.unwrap_or(Machine::refused()));
-    *answer = answer_of(Answer::from(done.map(|_| ())));
+    match installer::install(layout_of(layout), policy, memory) {
+        Ok(installed) => {
+            *machine = record_of(installed);
+            *answer = answer_of(Answer::from(Ok::<(), Reject>(())));
+        }
+        Err(reject) => {
+            *machine = record_of(Machine::refused());
+            *answer = answer_of(Answer::from(Err::<(), Reject>(reject)));
+        }
+    }
 }

@@ -7,7 +7,7 @@ use capi_values::answers::{ANSWER, answer_of};
 use capi_values::layouts::{LAYOUT, layout_of};
 use capi_values::machines::{MACHINE_RECORD, record_of};
 use installer::LentPolicy;
-use types::{Answer, Machine, PolicyNumbers};
+use types::{Answer, Machine, PolicyNumbers, Reject};
 
 #[unsafe(no_mangle)]
 pub extern "C" fn hemdroas_load(
@@ -31,7 +31,14 @@ pub extern "C" fn hemdroas_load(
         table,
         landings,
     };
-    let loaded = sandbox::load(layout_of(layout), policy, bytes, commands, memory);
-    *machine = record_of(loaded.map_or(Machine::refused(), |l| l.machine));
-    *answer = answer_of(Answer::from(loaded.map(|l| l.commands)));
+    match sandbox::load(layout_of(layout), policy, bytes, commands, memory) {
+        Ok(loaded) => {
+            *machine = record_of(loaded.machine);
+            *answer = answer_of(Answer::from(Ok(loaded.commands)));
+        }
+        Err(reject) => {
+            *machine = record_of(Machine::refused());
+            *answer = answer_of(Answer::from(Err::<usize, Reject>(reject)));
+        }
+    }
 }

@@ -7,7 +7,7 @@ use buffers::stores::store;
 use capi_values::answers::{ANSWER, answer_of};
 use capi_values::layouts::ceilings_from;
 use policy_merge::{MergedPolicy, Side};
-use types::{Answer, Layout, PolicyNumbers};
+use types::{Answer, Layout, PolicyNumbers, Reject};
 
 // Where the ceilings begin in a policy's numbers, after states and start, and how many numbers there are.
 const POLICY_CEILINGS: usize = 2;
@@ -60,7 +60,7 @@ pub extern "C" fn hemdroas_merge(
         }
         Err(reject) => {
             *merged = [0; POLICY];
-            *answer = answer_of(Answer::from(Err(reject)));
+            *answer = answer_of(Answer::from(Err::<usize, Reject>(reject)));
         }
     }
 }

@@ -4,7 +4,7 @@ ghost use Rattle.policy_spec.specs.precedence.Precedence.{make_of, make_table};
 ghost use Rattle.capi.specs.precedence.Hosts.{precedence_to};
 
 use capi_values::answers::{MADE, made_of};
-use types::Answer;
+use types::{Answer, Reject};
 
 #[unsafe(no_mangle)]
 pub extern "C" fn hemdroas_precedence(pairs: &[u8], table: &mut [u8], made: &mut [u32; MADE])
@@ -17,6 +17,6 @@ pub extern "C" fn hemdroas_precedence(pairs: &[u8], table: &mut [u8], made: &mut
             m.policy.states,
             u32::from(m.unreachable),
         ),
-        Err(reject) => made_of(Answer::from(Err(reject)), 0, 0),
+        Err(reject) => made_of(Answer::from(Err::<usize, Reject>(reject)), 0, 0),
     };
 }

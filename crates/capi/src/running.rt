@@ -55,6 +55,7 @@ pub extern "C" fn hemdroas_run(
 }
 
 // Copies memory into `work` if the layout is right and both have its length. Returns whether it did; if not, `work` stays as it was.
+#[tactic(auto, using(crate::proofs::running::Laws::fits_copy, crate::proofs::running::Laws::judged, crate::proofs::running::Laws::copies, crate::proofs::running::Laws::leaves))]
 fn copy_memory(layout: Layout, memory: &[u32], work: &mut [u32]) -> bool
     ensures copied { result ≡ (fits layout memory.now && eqb (length work.old) layout.size) }
     ensures work { work.new ≡ cond result memory.now work.old }

@@ -65,7 +65,7 @@ module _ (n : ℕ) (xs : List ℕ) where
   numbers_back l h = rw (status_back _ (ltb-true _ _ h), ← last_two n xs l) (take-append-drop n xs)
 
   -- so a run that leaves the record as it was leaves its numbers
-  untouched : length xs ≡ n + trailer → numbers_after n xs (record_from record_to n xs) ≡ xs
+  pub untouched : length xs ≡ n + trailer → numbers_after n xs (record_from record_to n xs) ≡ xs
   untouched l = cond_ind (λ (ys : List ℕ). ys ≡ xs) (status_known n xs) (λ h. numbers_back l h) (λ _. refl)
 
 -- a record's numbers have its parts, and a valid status

@@ -19,18 +19,6 @@ use engine_step::plan::Plan;
 use machine_step::program_point::{LoopExit, Point};
 use types::{Ending, Layout, Reject, Status};
 
-// The point where a running engine's run starts.
-fn start(index: u32) -> Point
-    ensures { result ≡ point_of index Running 0 0 }
-{
-    Point {
-        pc: index,
-        status: Status::Running,
-        pairs: 0,
-        used: 0,
-    }
-}
-
 // What a run leaves after its loop.
 fn finish(regs: [u32; Engine::REGISTERS], exit: LoopExit) -> EngineRun
     ensures { result ≡ run_after regs exit }
@@ -62,6 +50,7 @@ fn at_rest(engine: Engine) -> EngineRun
 }
 
 // Runs an engine in any status.
+#[tactic(auto, using(crate::proofs::Running::rests, crate::proofs::Running::ends, crate::proofs::Running::counts_start))]
 fn run_on(
     layout: Layout,
     routine: Routine,
@@ -88,7 +77,7 @@ fn run_on(
         plan,
         routine,
         &mut regs,
-        start(engine.at),
+        Point::start(engine.at),
         memory,
         budget,
         readings,
@@ -99,6 +88,7 @@ fn run_on(
 
 // Runs the engine, with the record by value. All words are judged first. Refused as bad layout (7), then as oversize (5). Then the first bad
 // word is refused as unknown variety (3), foreign matter (2), off grade (4) or bad landing (8). A refused run changes nothing.
+#[tactic(auto, using(crate::proofs::Running::runs))]
 pub fn run(
     layout: Layout,
     words: &[u64],
@@ -118,6 +108,7 @@ pub fn run(
 
 // Runs words that were judged before, and does not judge all of them again. Refused as bad layout (7), then as oversize (5).
 // Each word is judged when it is reached. One that is no instruction faults (22), so any words are safe.
+#[tactic(auto, using(crate::proofs::Running::resumes))]
 pub fn resume(
     layout: Layout,
     words: &[u64],

@@ -23,6 +23,7 @@ pub fn continue_refusal(layout: Layout, words: &[u64], cells: usize) -> Result<(
 }
 
 // The same, but then all words are judged. The first bad word is refused, at its place.
+#[tactic(auto, using(crate::proofs::refusal::RefusalLaws::words_judged, crate::proofs::refusal::RefusalLaws::sizes_refused))]
 pub fn run_refusal(layout: Layout, words: &[u64], cells: usize) -> Result<(), Reject>
     ensures { verdict_of result ≡ refusal_by layout words.now cells }
 {

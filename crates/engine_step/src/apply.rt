@@ -9,7 +9,7 @@ use buffers::cells::peek;
 use buffers::pairs::write_pair;
 use engine_spec::Engine;
 use machine_step::installed::entry_in;
-use machine_step::program_point::{Point, ended, jumped, next_pc, ordered, probed};
+use machine_step::program_point::Point;
 use types::{Effect, Layout};
 
 // Sets the state and its cell to the state after event v. The entry is in memory, yet `peek`, whose test the compiler drops, makes the loop shorter.
@@ -53,9 +53,9 @@ pub fn apply(
         ≡ apply_effect plan.entry.layout.now readings.now e (state_at regs.old at memory.old log.old) }
     ensures mirrored { state.new ≡ get_or memory.new plan.entry.layout.now.cell 0 }
 {
-    let next = next_pc(at);
+    let next = at.next();
     match e {
-        Effect::Go(to) => jumped(at, to),
+        Effect::Go(to) => at.jumped(to),
         Effect::SetReg(d, x) => {
             regs[d] = x;
             next
@@ -68,14 +68,14 @@ pub fn apply(
             move_state(plan.layout, v, state, memory);
             let ceilings = plan.ceilings;
             buffers::pairs::order(ceilings, v, regs[0], log, at.pairs);
-            ordered(at)
+            at.ordered().next()
         }
         Effect::Probe(v) => {
             move_state(plan.layout, v, state, memory);
             probe(v, regs, at, readings, log);
-            probed(at)
+            at.probed().next()
         }
-        Effect::End(status) => ended(at, status),
+        Effect::End(status) => at.ended(status),
         Effect::Wait(_) => at,
     }
 }

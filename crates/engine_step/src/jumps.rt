@@ -24,7 +24,8 @@ pub fn branch_effect(holds: bool, to: u32, at: u32) -> Effect
     Effect::Go(alu::add(at, 1))
 }
 
-// Whether the bit of instruction j is set in the landing cells.
+// Whether the bit of instruction j is set in the landing cells. The machine's `has_landing` tests whether the cell exists; here it is known to,
+// and the test would cost each taken jump two instructions.
 #[tactic(auto, unfolding(spec::specs::Landings::marked))]
 fn has_landing(j: u32, sight: Sight) -> bool
     requires { j < most_bundles }

@@ -2,19 +2,23 @@
 ghost use Rattle.std.specs.Prelude.{◌≡◌};
 ghost use Rattle.types.specs.Records.{machine_of, outcome_of};
 
-use machine_step::program_point::Point;
-use types::{Ending, Machine, Outcome, RunAnswer};
+use machine_step::program_point::LoopExit;
+use types::{Machine, Outcome, RunAnswer};
 
-// The outcome of a run that ends or pauses at point `at`.
-pub fn finish(regs: [u32; Machine::REGISTERS], at: Point, ending: Ending, steps: u32) -> Outcome
-    ensures { result ≡ outcome_of (machine_of regs at.pc at.status) ending steps at.pairs at.used }
+// The outcome of a run that ends or pauses.
+pub fn finish(regs: [u32; Machine::REGISTERS], exit: LoopExit) -> Outcome
+    ensures { result ≡ outcome_of (machine_of regs exit.at.pc exit.at.status) exit.ending exit.steps exit.at.pairs exit.at.used }
 {
-    let status = at.status;
+    let at = exit.at;
     Outcome {
-        machine: Machine::from_parts(regs, at.pc, status),
+        machine: Machine {
+            regs,
+            pc: at.pc,
+            status: at.status,
+        },
         answer: RunAnswer {
-            ending,
-            steps,
+            ending: exit.ending,
+            steps: exit.steps,
             pairs: at.pairs,
             used: at.used,
         },

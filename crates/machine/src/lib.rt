@@ -7,6 +7,8 @@ pub mod tiers;
 
 ghost use Rattle.spec.specs.Machines.{MatchesResult, run_of};
 
+use crate::run_loop::run_on;
+use machine_step::program::Program;
 use types::{Layout, Machine, Outcome};
 use words::memory::fits;
 
@@ -26,7 +28,12 @@ pub fn run_value(
     if !fits(layout, memory.len()) {
         return Outcome::refused(machine);
     }
-    crate::run_loop::run_on(layout, commands, machine, memory, budget, readings, log)
+    let program = Program {
+        layout: &layout,
+        commands,
+        readings,
+    };
+    run_on(&program, machine, memory, budget, log)
 }
 
 // Takes one step: a run of budget 1.

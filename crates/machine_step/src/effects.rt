@@ -11,6 +11,7 @@ ghost use Rattle.machine_step.specs.view.Views.{view_with, effect_at};
 use crate::events::{event, look};
 use crate::landings::jump_effect;
 use crate::view::ViewNumbers;
+use buffers::cells::peek;
 use types::{Command, Effect, Machine, PolicyNumbers, Status};
 use words::{alu, command};
 
@@ -24,24 +25,26 @@ fn branch_target(holds: bool, to: u32, pc: u32) -> Effect
     Effect::Go(alu::add(pc, 1))
 }
 
-fn load_effect(d: usize, at: u32, memory: &[u32]) -> Effect
-    ensures { result ≡ (if nat_lt at (length memory.now) then SetReg d (slice_index memory.now at) else End Faulted) }
+// Effect e of a command that uses cell i, or a fault if there is no such cell.
+fn if_cell(i: usize, memory: &[u32], e: Effect) -> Effect
+    ensures { result ≡ (if nat_lt i (length memory.now) then e else End Faulted) }
 {
-    let i = at as usize;
     if i < memory.len() {
-        return Effect::SetReg(d, memory[i]);
+        return e;
     }
     Effect::End(Status::Faulted)
 }
 
-fn store_effect(at: u32, x: u32, memory: &[u32]) -> Effect
-    ensures { result ≡ (if nat_lt at (length memory.now) then SetCell at x else End Faulted) }
+pub fn load_effect(d: usize, i: usize, memory: &[u32]) -> Effect
+    ensures { result ≡ (if nat_lt i (length memory.now) then SetReg d (slice_index memory.now i) else End Faulted) }
 {
-    let i = at as usize;
-    if i < memory.len() {
-        return Effect::SetCell(i, x);
-    }
-    Effect::End(Status::Faulted)
+    if_cell(i, memory, Effect::SetReg(d, peek(memory, i)))
+}
+
+fn store_effect(i: usize, x: u32, memory: &[u32]) -> Effect
+    ensures { result ≡ (if nat_lt i (length memory.now) then SetCell i x else End Faulted) }
+{
+    if_cell(i, memory, Effect::SetCell(i, x))
 }
 
 fn stop_if(x: u32, pc: u32) -> Effect
@@ -62,6 +65,7 @@ fn reg(regs: &[u32; Machine::REGISTERS], i: u64) -> u32
 }
 
 // The value that a plain command puts into its register.
+#[tactic(auto, unfolding(spec::specs::Commands::plain_of))]
 fn value(k: u64, x: u32, y: u32, v: u32) -> u32
     ensures { result ≡ plain_of k x y v }
 {
@@ -81,6 +85,7 @@ fn value(k: u64, x: u32, y: u32, v: u32) -> u32
 }
 
 // The effect of a command.
+#[tactic(auto, unfolding(spec::specs::Machines::effect_of, crate::specs::effects::CommandFields::FieldsInRange))]
 fn command_effect(
     c: Command,
     view: ViewNumbers,
@@ -96,8 +101,8 @@ fn command_effect(
         Command::Plain(k, d, a, b, v) => {
             Effect::SetReg(d as usize, value(k, reg(regs, a), reg(regs, b), v as u32))
         }
-        Command::Load(d, a) => load_effect(d as usize, reg(regs, a), memory),
-        Command::Store(a, b) => store_effect(reg(regs, a), reg(regs, b), memory),
+        Command::Load(d, a) => load_effect(d as usize, reg(regs, a) as usize, memory),
+        Command::Store(a, b) => store_effect(reg(regs, a) as usize, reg(regs, b), memory),
         Command::GoIf(a, b, c, v) => branch_target(
             alu::holds(c, reg(regs, a), reg(regs, b)),
             v as u32,
@@ -111,13 +116,14 @@ fn command_effect(
         ),
         Command::Look(d, v) => look(d as usize, view.cell, view.table, v as u32, memory),
         Command::StopIf(d) => stop_if(reg(regs, d), view.pc),
-        Command::Keep(d) => store_effect(view.cell, reg(regs, d), memory),
+        Command::Keep(d) => store_effect(view.cell as usize, reg(regs, d), memory),
         Command::Event(v) => event(v as u32, view.free, view.left),
         Command::Invalid => Effect::End(Status::Faulted),
     }
 }
 
 // The effect of a word: decodes it first.
+#[tactic(auto, using(crate::proofs::effects::Laws::sound_command))]
 fn word_effect(
     w: u64,
     view: ViewNumbers,
@@ -131,6 +137,7 @@ fn word_effect(
 }
 
 // The effect of the word at pc, at index pc − B of the list. A pc below B wraps to an index past the list, so it faults too.
+#[tactic(auto, unfolding(spec::specs::Machines::effect_of, spec::specs::Commands::fetch_of))]
 pub fn next_effect(
     commands: &[u64],
     view: ViewNumbers,
@@ -140,7 +147,7 @@ pub fn next_effect(
     ensures { result ≡ effect_at commands.now (view_with view regs.now memory.now) }
 {
     let base = view.base;
-    let at = std::num::wrapping_sub_usize(view.pc as usize, base as usize);
+    let at = (view.pc as usize).wrapping_sub(base as usize);
     if at < commands.len() {
         return word_effect(commands[at], view, regs, memory);
     }

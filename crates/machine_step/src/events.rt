@@ -3,6 +3,7 @@ ghost use Rattle.std.specs.Prelude.{◌≡◌};
 ghost use Rattle.spec.specs.Machines.{event_effect, if_room};
 ghost use Rattle.machine_step.specs.view.Views.{look_effect};
 
+use crate::effects::load_effect;
 use crate::installed::entry_address;
 use types::{Effect, Ending, PolicyNumbers, RunAnswer, Status};
 
@@ -11,11 +12,7 @@ pub fn look(d: usize, cell: u32, table: u32, v: u32, memory: &[u32]) -> Effect
     ensures { result ≡ look_effect d cell table v memory.now }
 {
     if (cell as usize) < memory.len() {
-        let at = entry_address(table, cell, v, memory);
-        if at < memory.len() {
-            return Effect::SetReg(d, memory[at]);
-        }
-        return Effect::End(Status::Faulted);
+        return load_effect(d, entry_address(table, cell, v, memory), memory);
     }
     Effect::End(Status::Faulted)
 }

@@ -30,6 +30,7 @@ pub fn has_landing_bit(cell: u32, j: u32) -> bool
 }
 
 // Whether the bit of bundle j is set in the landing cells.
+#[tactic(auto, unfolding(spec::specs::Landings::marked))]
 pub fn has_landing(landings: u32, j: u32, memory: &[u32]) -> bool
     ensures { result ≡ marked memory.now landings j }
 {

@@ -11,6 +11,7 @@ use arith::alu;
 use types::{Bundle, Effect, Status};
 
 // Whether an address is B + 4j for a bundle j whose bit is set in the landing cells.
+#[tactic(auto, unfolding(spec::specs::Machines::is_landing))]
 pub fn is_landing(to: u32, base: u32, landings: u32, memory: &[u32]) -> bool
     ensures { result ≡ is_landing memory.now base landings to }
 {

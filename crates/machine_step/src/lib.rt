@@ -3,9 +3,10 @@
 
 pub mod apply;
 pub mod effects;
-pub mod endings;
 pub mod events;
 pub mod installed;
 pub mod landings;
+pub mod program;
 pub mod program_point;
+pub mod registers;
 pub mod view;

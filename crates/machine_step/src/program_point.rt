@@ -1,6 +1,6 @@
 // The program point of a run: pc, status, and how many pairs and readings it has so far. The engine uses it too, with its index as pc.
 ghost use Rattle.std.specs.Prelude.{◌≡◌, ◌+◌, ◌^◌, ◌<◌, slice_index};
-ghost use Rattle.spec.specs.Machines.{next_pc as nextPcOf, with_pair};
+ghost use Rattle.spec.specs.Machines.{next_pc, with_pair};
 ghost use Rattle.machine_step.specs.program_point.ProgramPoints.{point_of};
 
 use types::{Bundle, Ending, Status};
@@ -25,54 +25,70 @@ pub struct LoopExit {
     pub steps: u32,
 }
 
-pub fn next_pc(mut at: Point) -> Point
-    ensures { result ≡ point_of (nextPcOf at.pc) at.status at.pairs at.used }
-{
-    at.pc = std::num::wrapping_add_u32(at.pc, 1);
-    at
-}
-
-pub fn jumped(mut at: Point, to: u32) -> Point
-    ensures { result ≡ point_of to at.status at.pairs at.used }
-{
-    at.pc = to;
-    at
-}
-
-pub fn ended(at: Point, status: Status) -> Point
-    ensures { result ≡ point_of at.pc status at.pairs at.used }
-{
-    Point {
-        pc: at.pc,
-        status,
-        pairs: at.pairs,
-        used: at.used,
+impl Point {
+    // The point at which a run starts.
+    pub fn start(pc: u32) -> Point
+        ensures { result ≡ point_of pc Status.Running 0 0 }
+    {
+        Point {
+            pc,
+            status: Status::Running,
+            pairs: 0,
+            used: 0,
+        }
     }
-}
 
-pub fn ordered(mut at: Point) -> Point
-    requires { at.pairs < 2 ^ 62 }
-    ensures { result ≡ point_of (nextPcOf at.pc) at.status (at.pairs + 1) at.used }
-{
-    at.pairs += 1;
-    next_pc(at)
-}
+    // The point at the next address, which wraps.
+    pub fn next(self) -> Point
+        ensures { result ≡ point_of (next_pc self.pc) self.status self.pairs self.used }
+    {
+        self.jumped(self.pc.wrapping_add(1))
+    }
 
-pub fn probed(mut at: Point) -> Point
-    requires { (at.pairs < 2 ^ 62) × (at.used < 2 ^ 63) }
-    ensures { result ≡ point_of (nextPcOf at.pc) at.status (at.pairs + 1) (at.used + 1) }
-{
-    at.used += 1;
-    ordered(at)
-}
+    pub fn jumped(mut self, to: u32) -> Point
+        ensures { result ≡ point_of to self.status self.pairs self.used }
+    {
+        self.pc = to;
+        self
+    }
 
-// Takes the next reading, and records it in the log as event v.
-pub fn record_reading(v: u32, at: Point, readings: &[u32], log: &mut [u32]) -> u32
-    requires { at.pairs < 2 ^ 62 }
-    ensures { (result ≡ slice_index readings.now at.used)
-        × (log.new ≡ with_pair log.old at.pairs v (slice_index readings.now at.used)) }
-{
-    let x = buffers::cells::peek(readings, at.used);
-    buffers::pairs::write_pair(log, at.pairs, v, x);
-    x
+    pub fn ended(self, status: Status) -> Point
+        ensures { result ≡ point_of self.pc status self.pairs self.used }
+    {
+        Point { status, ..self }
+    }
+
+    // The point with one more pair in the log.
+    pub fn ordered(self) -> Point
+        requires { self.pairs < 2 ^ 62 }
+        ensures { result ≡ point_of self.pc self.status (self.pairs + 1) self.used }
+    {
+        Point {
+            pairs: self.pairs + 1,
+            ..self
+        }
+    }
+
+    // The point with one more pair in the log, for a reading that was taken.
+    pub fn probed(self) -> Point
+        requires { (self.pairs < 2 ^ 62) × (self.used < 2 ^ 63) }
+        ensures { result ≡ point_of self.pc self.status (self.pairs + 1) (self.used + 1) }
+    {
+        Point {
+            pairs: self.pairs + 1,
+            used: self.used + 1,
+            ..self
+        }
+    }
+
+    // Takes the next reading, and records it in the log as event v.
+    pub fn record_reading(self, v: u32, readings: &[u32], log: &mut [u32]) -> u32
+        requires { self.pairs < 2 ^ 62 }
+        ensures { (result ≡ slice_index readings.now self.used)
+            × (log.new ≡ with_pair log.old self.pairs v (slice_index readings.now self.used)) }
+    {
+        let x = buffers::cells::peek(readings, self.used);
+        buffers::pairs::write_pair(log, self.pairs, v, x);
+        x
+    }
 }

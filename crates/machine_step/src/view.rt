@@ -1,10 +1,11 @@
 // What a command can see, except registers and memory.
-ghost use Rattle.std.specs.Prelude.{◌≡◌, ◌*◌, ◌≤◌};
+ghost use Rattle.std.specs.Prelude.{◌≡◌, ◌*◌, ◌≤◌, length};
 ghost use Rattle.types.specs.Names.{pair_cells};
 ghost use Rattle.machine_step.specs.view.Views.{numbers_at};
 
+use crate::program::Program;
 use crate::program_point::Point;
-use types::{Layout, RunAnswer};
+use types::RunAnswer;
 
 // pc; the addresses M, P, B and Q; how many log cells are free, and how many readings are left.
 #[derive(Clone, Copy)]
@@ -18,11 +19,12 @@ pub struct ViewNumbers {
     pub left: usize,
 }
 
-// What a command sees at point `at`. The log has `room` cells, and the run was given `total` readings.
-pub fn view_at(layout: Layout, at: Point, room: usize, total: usize) -> ViewNumbers
-    requires { (pair_cells * at.pairs ≤ room) × (at.used ≤ total) }
-    ensures { result ≡ numbers_at layout at room total }
+// What a command sees at point `at`. The log has `room` cells.
+pub fn view_at(program: &Program, at: Point, room: usize) -> ViewNumbers
+    requires { (pair_cells * at.pairs ≤ room) × (at.used ≤ length program.now.readings.now) }
+    ensures { result ≡ numbers_at program.now.layout.now at room (length program.now.readings.now) }
 {
+    let layout = program.layout;
     ViewNumbers {
         pc: at.pc,
         cell: layout.cell,
@@ -30,6 +32,6 @@ pub fn view_at(layout: Layout, at: Point, room: usize, total: usize) -> ViewNumb
         base: layout.base,
         landings: layout.landings,
         free: room - RunAnswer::PAIR_CELLS * at.pairs,
-        left: total - at.used,
+        left: program.readings.len() - at.used,
     }
 }

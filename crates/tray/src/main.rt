@@ -8,24 +8,24 @@ use lines::{BASE, drum, print_case};
 use std::io;
 use types::{Bundle, Instr, Layout};
 
-const MOST: usize = Bundle::MOST_COMMANDS;
-
-// One command less than two bundles have.
-const TOO_FEW: usize = 7;
-
-// Rewrites into room for `ROOM` commands.
-fn rewrites_into<const ROOM: usize>(
+// Rewrites into the room that `commands` has.
+fn rewrites_into(
     rt: &impl Print,
     name: &str,
     layout: Layout,
     words: &[u64],
+    commands: &mut [u64],
 ) -> io::Result<()> {
-    let mut commands = [0u64; ROOM];
-    print_case(rt, name, rewriter::rewrite(layout, words, &mut commands))
+    print_case(rt, name, rewriter::rewrite(layout, words, commands))
 }
 
 fn rewrites(rt: &impl Print, name: &str, layout: Layout, words: &[u64]) -> io::Result<()> {
-    rewrites_into::<MOST>(rt, name, layout, words)
+    rewrites_into(rt, name, layout, words, &mut [0u64; Bundle::MOST_COMMANDS])
+}
+
+// The output has room for seven commands, one less than two bundles.
+fn rewrites_to_7(rt: &impl Print, name: &str, layout: Layout, words: &[u64]) -> io::Result<()> {
+    rewrites_into(rt, name, layout, words, &mut [0u64; 7])
 }
 
 fn bad_words(rt: &impl Print, layout: Layout) -> io::Result<()> {
@@ -47,7 +47,7 @@ fn lists(rt: &impl Print, layout: Layout) -> io::Result<()> {
     rewrites(rt, "rewrite 1023", layout, &most)?;
     let more = [0u64; Instr::MOST + 1];
     rewrites(rt, "rewrite 1024", layout, &more)?;
-    rewrites_into::<TOO_FEW>(rt, "rewrite room_for_7_of_8", layout, &[0])
+    rewrites_to_7(rt, "rewrite room_for_7_of_8", layout, &[0])
 }
 
 fn layouts(rt: &impl Print) -> io::Result<()> {
@@ -56,7 +56,7 @@ fn layouts(rt: &impl Print) -> io::Result<()> {
     rewrites(rt, "rewrite sandbox_6_to_9", unaligned, &[0xd])?;
     rewrites(rt, "rewrite base_16_of_7", drum(16), &[0, 0, 0, 0, 0, 0, 0])?;
     rewrites(rt, "rewrite base_32_of_7", drum(32), &[0, 0, 0, 0, 0, 0, 0])?;
-    rewrites_into::<TOO_FEW>(rt, "rewrite base_before_room", drum(4), &[0])
+    rewrites_to_7(rt, "rewrite base_before_room", drum(4), &[0])
 }
 
 fn main(rt: HostRuntime) -> io::Result<()> {

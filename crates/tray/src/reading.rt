@@ -1,30 +1,29 @@
 // Tries reading: routines of 1,023 and 1,024 instructions, and a damaged one for each refusal.
+ghost use Rattle.std.specs.Prelude.{◌≤◌};
+
 use lines::print_case;
 use std::io;
 use types::Instr;
 
-// The bytes of 1,023 HALTs with their count, and one byte more.
-const MOST_BYTES: usize = Instr::COUNT_BYTES + Instr::MOST;
+// HALTs of one byte each: one more than a routine may have.
+const HALTS: usize = Instr::MOST + 1;
 
-const MORE_BYTES: usize = MOST_BYTES + 1;
-
-const MOST: usize = Instr::MOST;
-
-// Reads into room for `ROOM` words.
-fn reads_into<const ROOM: usize>(rt: &impl Print, name: &str, bytes: &[u8]) -> io::Result<()> {
-    let mut words = [0u64; ROOM];
-    print_case(rt, name, codec::read(bytes, &mut words))
+// Reads into the room that `words` has.
+fn reads_into(rt: &impl Print, name: &str, bytes: &[u8], words: &mut [u64]) -> io::Result<()> {
+    print_case(rt, name, codec::read(bytes, words))
 }
 
 fn reads(rt: &impl Print, name: &str, bytes: &[u8]) -> io::Result<()> {
-    reads_into::<MOST>(rt, name, bytes)
+    reads_into(rt, name, bytes, &mut [0u64; Instr::MOST])
 }
 
-// Reads a count followed by HALTs, of one byte each: LENGTH bytes in all.
-fn reads_halts<const LENGTH: usize>(rt: &impl Print, name: &str, count: u16) -> io::Result<()> {
-    let mut bytes = [0u8; LENGTH];
+// Reads a count and so many HALTs.
+fn reads_halts(rt: &impl Print, name: &str, count: u16, halts: usize) -> io::Result<()>
+    requires { halts ≤ 1024 }
+{
+    let mut bytes = [0u8; Instr::COUNT_BYTES + HALTS];
     bytes[..Instr::COUNT_BYTES].copy_from_slice(&count.to_le_bytes());
-    reads(rt, name, &bytes)
+    reads(rt, name, &bytes[..Instr::COUNT_BYTES + halts])
 }
 
 fn short(rt: &impl Print) -> io::Result<()> {
@@ -68,16 +67,21 @@ fn off_grade(rt: &impl Print) -> io::Result<()> {
 }
 
 fn counts(rt: &impl Print) -> io::Result<()> {
-    reads_halts::<MOST_BYTES>(rt, "read 1023", 1023)?;
-    reads_halts::<MORE_BYTES>(rt, "read 1024", 1024)?;
-    reads_halts::<MORE_BYTES>(rt, "read 65535", 65535)?;
-    reads_halts::<MORE_BYTES>(rt, "read 1023_and_a_byte", 1023)
+    reads_halts(rt, "read 1023", 1023, Instr::MOST)?;
+    reads_halts(rt, "read 1024", 1024, HALTS)?;
+    reads_halts(rt, "read 65535", 65535, HALTS)?;
+    reads_halts(rt, "read 1023_and_a_byte", 1023, HALTS)
 }
 
 fn outputs(rt: &impl Print) -> io::Result<()> {
     reads(rt, "read a_byte_left", b"\x00\x00\x00")?;
-    reads_into::<1>(rt, "read room_for_1_of_2", b"\x02\x00\x00\x00")?;
-    reads_into::<1>(rt, "read room_before_kind_13", b"\x02\x00\x01\x0d\x00")
+    reads_into(rt, "read room_for_1_of_2", b"\x02\x00\x00\x00", &mut [0])?;
+    reads_into(
+        rt,
+        "read room_before_kind_13",
+        b"\x02\x00\x01\x0d\x00",
+        &mut [0],
+    )
 }
 
 pub fn cases(rt: &impl Print) -> io::Result<()> {

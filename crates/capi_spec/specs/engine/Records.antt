@@ -1,5 +1,5 @@
 -- The engine's record and answer as arrays of numbers, and what its two C functions leave.
-use Rattle.std.specs.Prelude.{ℕ, List, [], ◌∷◌}
+use Rattle.std.specs.Prelude.{ℕ, ◌<◌, ◌^◌, List, [], ◌∷◌}
 use Rattle.types.specs.Names.{guest_registers}
 use Rattle.capi_spec.specs.Numbers.{layout_from, record_to, record_from}
 use Rattle.capi_spec.specs.Hosts.{HostResult, host_result, host_after}
@@ -17,6 +17,12 @@ engine_to m = record_to m.regs m.at m.status
 -- an answer as ending or refusal, place, instructions, pairs and readings
 abbrev pub answer_to : EngineOutcome → List ℕ
 answer_to o = o.answer.number ∷ o.answer.place ∷ o.steps ∷ o.pairs ∷ o.used ∷ []
+
+-- its place, pairs and readings have 32 bits
+pub record NumbersFit (o : EngineOutcome) : Type 0 where
+  pub place : o.answer.place < 2 ^ 32
+  pub pairs : o.pairs < 2 ^ 32
+  pub used : o.used < 2 ^ 32
 
 -- a run's result as numbers
 abbrev pub result_to : RunResult → HostResult

@@ -6,7 +6,7 @@ use Rattle.capi_spec.specs.Numbers.{answer_to}
 use Rattle.capi.proofs.bytes.hemdroas_write.Goals as goal
 
 pub answer_of-requires : goal.answer_of-requires
-answer_of-requires c = narrow _ _ c.write.ensures.answer (write_bound _ _) (lit< tt)
+answer_of-requires c = narrow _ _ (c.from.ensures ∙ c.write.ensures.answer) (write_bound _ _) (lit< tt)
 
 pub returns : goal.returns
-returns c = record { answer = c.answer_of.ensures ∙ ap answer_to c.write.ensures.answer; content = c.write.ensures.content }
+returns c = record { answer = c.answer_of.ensures ∙ ap answer_to (c.from.ensures ∙ c.write.ensures.answer); content = c.write.ensures.content }

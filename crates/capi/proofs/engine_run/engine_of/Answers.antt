@@ -5,4 +5,4 @@ use Rattle.capi.proofs.engine_run.engine_of.Goals as goal
 
 pub returns : goal.returns
 returns c =
-    record_read guest_registers c.args.xs _ engine_of _ c.read_record-status.ensures.registers c.read_record-status.ensures.status
+    record_read guest_registers c.args.xs.now _ engine_of _ c.read_record-status.ensures.registers c.read_record-status.ensures.status

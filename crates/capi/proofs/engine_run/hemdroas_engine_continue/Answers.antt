@@ -1,12 +1,9 @@
-use Rattle.capi.proofs.engine_run.Laws.{narrow_on, left_on}
 use mathlib.Core.List.{[]}
-use borrow.Author.Rules.{rules}
+use Rattle.capi.proofs.engine_run.Laws.{narrow_on, left_on}
 use Rattle.capi.proofs.engine_run.hemdroas_engine_continue.Goals as goal
 
-pub engine_answer_of-requires : goal.engine_answer_of-requires
-engine_answer_of-requires c = let v = c in
-    let s = v in
-    narrow_on [] [] _ _ _ _ _ _ _ _ _ _ v.resume-went.ensures s.ranges.budget.fits
+pub store_run-requires : goal.store_run-requires
+store_run-requires c = narrow_on [] _ _ _ _ _ _ _ _ _ _ c.resume-went.result c.engine_of-m.ensures c.resume-went.ensures c.ranges.budget.fits
 
 pub returns : goal.returns
-returns c = search (left_on, rules)
+returns c = left_on _ _ _ _ _ _ _ _ _ _ _ _ c.engine_of-m.ensures c.resume-went.ensures c.layout_of-lay.ensures _ _ c.store_run.ensures.engine c.store_run.ensures.answer

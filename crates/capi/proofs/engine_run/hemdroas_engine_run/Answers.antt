@@ -1,12 +1,9 @@
-use Rattle.capi.proofs.engine_run.Laws.{narrow, left}
 use mathlib.Core.List.{[]}
-use borrow.Author.Rules.{rules}
+use Rattle.capi.proofs.engine_run.Laws.{narrow, left}
 use Rattle.capi.proofs.engine_run.hemdroas_engine_run.Goals as goal
 
-pub engine_answer_of-requires : goal.engine_answer_of-requires
-engine_answer_of-requires c = let v = c in
-    let s = v in
-    narrow [] [] _ _ _ _ _ _ _ _ _ _ v.run-out.ensures s.ranges.budget.fits
+pub store_run-requires : goal.store_run-requires
+store_run-requires c = narrow [] _ _ _ _ _ _ _ _ _ _ c.run-out.result c.engine_of-m.ensures c.run-out.ensures c.ranges.budget.fits
 
 pub returns : goal.returns
-returns c = search (left, rules)
+returns c = left _ _ _ _ _ _ _ _ _ _ _ _ c.engine_of-m.ensures c.run-out.ensures c.layout_of-lay.ensures _ _ c.store_run.ensures.engine c.store_run.ensures.answer
