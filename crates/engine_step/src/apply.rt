@@ -68,12 +68,12 @@ pub fn apply(
             move_state(plan.layout, v, state, memory);
             let ceilings = plan.ceilings;
             buffers::pairs::order(ceilings, v, regs[0], log, at.pairs);
-            at.ordered().next()
+            at.after_order()
         }
         Effect::Probe(v) => {
             move_state(plan.layout, v, state, memory);
             probe(v, regs, at, readings, log);
-            at.probed().next()
+            at.after_reading()
         }
         Effect::End(status) => at.ended(status),
         Effect::Wait(_) => at,

@@ -49,11 +49,11 @@ pub fn apply(
         }
         Effect::Order(v) => {
             buffers::pairs::order(&program.layout.ceilings, v, regs[0], log, at.pairs);
-            at.ordered().next()
+            at.after_order()
         }
         Effect::Probe(v) => {
             probe(v, regs, at, program.readings, log);
-            at.probed().next()
+            at.after_reading()
         }
         Effect::End(status) => at.ended(status),
         Effect::Wait(_) => at,

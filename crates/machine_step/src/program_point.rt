@@ -39,10 +39,11 @@ impl Point {
     }
 
     // The point at the next address, which wraps.
-    pub fn next(self) -> Point
+    pub fn next(mut self) -> Point
         ensures { result ≡ point_of (next_pc self.pc) self.status self.pairs self.used }
     {
-        self.jumped(self.pc.wrapping_add(1))
+        self.pc = self.pc.wrapping_add(1);
+        self
     }
 
     pub fn jumped(mut self, to: u32) -> Point
@@ -55,7 +56,12 @@ impl Point {
     pub fn ended(self, status: Status) -> Point
         ensures { result ≡ point_of self.pc status self.pairs self.used }
     {
-        Point { status, ..self }
+        Point {
+            pc: self.pc,
+            status,
+            pairs: self.pairs,
+            used: self.used,
+        }
     }
 
     // The point with one more pair in the log.
@@ -79,6 +85,24 @@ impl Point {
             used: self.used + 1,
             ..self
         }
+    }
+
+    // The point after an order: one more pair, at the next address. Written out: by `ordered` and `next` the engine takes 3 % more instructions.
+    pub fn after_order(mut self) -> Point
+        requires { self.pairs < 2 ^ 62 }
+        ensures { result ≡ point_of (next_pc self.pc) self.status (self.pairs + 1) self.used }
+    {
+        self.pairs += 1;
+        self.next()
+    }
+
+    // The point after a reading.
+    pub fn after_reading(mut self) -> Point
+        requires { (self.pairs < 2 ^ 62) × (self.used < 2 ^ 63) }
+        ensures { result ≡ point_of (next_pc self.pc) self.status (self.pairs + 1) (self.used + 1) }
+    {
+        self.used += 1;
+        self.after_order()
     }
 
     // Takes the next reading, and records it in the log as event v.
