@@ -56,6 +56,8 @@ pub fn install_answer(layout: Layout, policy: LentPolicy, memory: &[u32]) -> Res
 }
 
 // Writes the start state to the state cell, the table to its cells, the landing bits to theirs, and nothing else.
+// Its two callers inline it: a call of its own takes 300 bytes of stack more.
+#[inline(always)]
 #[tactic(auto, using(crate::proofs::Installs::refused_record, crate::proofs::Installs::refused_memory, crate::proofs::Installs::landings_are, crate::proofs::Installs::table_fits, crate::proofs::Installs::landings_fit, crate::proofs::Installs::record_made, crate::proofs::Installs::laid))]
 pub fn install(layout: Layout, policy: LentPolicy, memory: &mut [u32]) -> Result<Machine, Reject>
     ensures value { installed_of result
