@@ -9,7 +9,7 @@ use types::{Effect, PolicyNumbers, Status};
 
 // The effect of EVENT v. A fault is tested first, then no arrow (21), then the pauses.
 #[tactic(auto, using(crate::proofs::events::Laws::faults, crate::proofs::events::Laws::stops, crate::proofs::events::Laws::sends))]
-pub fn checked_event(v: u32, sight: Sight) -> Effect
+pub(crate) fn checked_event(v: u32, sight: Sight) -> Effect
     ensures { result ≡ checked_event v (seen sight.entry) }
 {
     let i = entry_in(sight.layout.table, sight.state, v);

@@ -15,7 +15,7 @@ use words::alu;
 use words::memory::mask;
 
 // The effect of GOIF: to its target if the condition holds, else to the next instruction.
-pub fn branch_effect(holds: bool, to: u32, at: u32) -> Effect
+pub(crate) fn branch_effect(holds: bool, to: u32, at: u32) -> Effect
     ensures { result ≡ cond holds (Go to) (Go (next_pc at)) }
 {
     if holds {
@@ -48,7 +48,7 @@ fn jump_to_landing(to: u32, routine: Routine, sight: Sight) -> Effect
 }
 
 // The effect of GOX. Only a taken one looks up its landing. The caller reads rd before the condition is tested, which is faster.
-pub fn jump_effect(holds: bool, to: u32, routine: Routine, sight: Sight) -> Effect
+pub(crate) fn jump_effect(holds: bool, to: u32, routine: Routine, sight: Sight) -> Effect
     ensures { result ≡ cond holds
         (indirect_effect sight.entry.memory.now sight.entry.layout.now.landings (bundles_for (length routine.entry.words.now)) to)
         (Go (next_pc sight.entry.at)) }

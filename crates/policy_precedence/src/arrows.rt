@@ -22,7 +22,7 @@ impl Pairs<'_> {
     fn firsts_recorded(&self, s: usize, e: usize) -> bool
         ensures { result ≡ firsts_in self.now.pairs.now s e (pairs_in self.now.pairs.now) }
     {
-        // The two halves of a pair are read at once. A chain over chunks of two is no shorter, and each chunk's length has to be proved.
+        // By index, as `firsts_in` of the specs counts the pairs. A loop over `as_chunks` would take the halves of each array by a pattern, and be no shorter.
         let mut ok = true;
         for i in 0..self.pairs.len() / PAIR {
             let first = usize::from(self.pairs[PAIR * i]);
@@ -33,7 +33,7 @@ impl Pairs<'_> {
     }
 
     // The state after event e in state s, if the event has an arrow.
-    pub fn arrow(&self, s: usize, e: usize) -> Option<usize>
+    pub(crate) fn arrow(&self, s: usize, e: usize) -> Option<usize>
         requires { (s < states_of self.now.pairs.now) × (e < events) }
         ensures { result ≡ arrow_from (arrow_of self.now.pairs.now s e) }
     {

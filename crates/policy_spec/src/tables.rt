@@ -1,5 +1,5 @@
 // The numbers of a policy's table as indices. There is no code.
-// A host's numbers have 32 bits and an index has the machine's, and a constant can convert by `as` alone: one place does it for all crates.
+// A host's numbers have 32 bits and an index has the machine's, and a constant can convert by `as` alone: one place does it for the crates that make policies.
 use types::{Layout, PolicyNumbers};
 
 // The most states of a policy.

@@ -54,53 +54,54 @@ module _ (lay : Layout) (pol : Policy) (s out mem : List ℕ) where
         let same : loads ≡ a = loads_are a e ∙ else_kept a _ h in
         rw (same, em, ne_eqb _ _ h) (refl, (refl, (refl, λ z. absurd (h z))))
 
-    module _ (z : a.number ≡ 0) (b : Answer) (eb : b ≡ install_answer lay pol mem) where
-      pub not_installed : (b.number ≡ 0 → ⊥) → (m : Machine) → m ≡ machine_refused → Loaded (record { machine = m; answer = b }) out mem
-      unfolding load_commands load_memory load_machine
-      not_installed h m em =
-          let same : loads ≡ b = loads_are a e ∙ else_next a _ z ∙ rw (← eb) (else_kept b a h) in
-          rw (same, em, ne_eqb _ _ h) (refl, (refl, (refl, λ y. absurd (h y))))
-
+    module _ (z : a.number ≡ 0) where
       pub taken : (translate_answer lay s (length out)).number ≡ 0
       taken = rw e at z
 
-      rewritten : (rewrite_answer lay code (length out)).number ≡ 0
-      unfolding translate_answer
-      rewritten = (else_none (rewrite_answer lay code (length out)) _ (else_none (read_answer s most_instructions) _ taken).1).0
-
-      -- the checker passes these commands
-      unchecked : (check_answer lay (commands_of lay code)).number ≡ 0
-      unfolding translate_answer
-      unchecked = (else_none (check_answer lay (commands_of lay code)) _ (else_none (rewrite_answer lay code (length out)) _ (else_none (read_answer s most_instructions) _ taken).1).1).0
-
-      counted : a ≡ answer 0 (command_count (length code))
-      unfolding translate_answer
-      counted =
-          let r = else_none (read_answer s most_instructions) _ taken in
-          e ∙ else_next (read_answer s most_instructions) _ r.0 ∙ else_next (rewrite_answer lay code (length out)) _ rewritten ∙ else_next _ _ unchecked
-
-      length_is : length (commands_of lay code) ≡ a.place
-      length_is = length_commands lay code ∙ ap (λ (x : Answer). x.place) (sym counted)
-
-      fits : a.place ≤ length out
-      fits = omega (arith, ap (λ (x : Answer). x.place) counted, (rewrite_bound lay code (length out)).taken rewritten, ap (λ (x : Answer). x.place) (rewrite_taken lay code (length out) rewritten))
-
-      module _ (out' : List ℕ) (eo : out' ≡ sets out 0 (commands_of lay code)) where
-        pub within : a.place ≤ length out'
-        within = omega (arith, fits, ap length eo, length-sets out 0 (commands_of lay code))
-
-        out_is : out' ≡ output_of a (commands_of lay code) out
-        out_is = eo ∙ output_written a (commands_of lay code) out z (omega (arith, length_is, fits))
-
-        pub passes : (c : Answer) → c ≡ check_answer lay (take a.place out') → c.number ≡ 0
-        passes c ec =
-            let written : take a.place out' ≡ commands_of lay code = rw out_is (output_start a (commands_of lay code) out z a.place length_is) in
-            let same : c ≡ check_answer lay (commands_of lay code) = ec ∙ rw written in
-            ap (λ (x : Answer). x.number) same ∙ unchecked
-
-        pub loaded : b.number ≡ 0 → (i : Installed) → i ≡ install_of lay pol mem → (mem' : List ℕ) → mem' ≡ install_memory lay pol mem → Loaded (record { machine = i.machine; answer = a }) out' mem'
+      module _ (b : Answer) (eb : b ≡ install_answer lay pol mem) where
+        pub not_installed : (b.number ≡ 0 → ⊥) → (m : Machine) → m ≡ machine_refused → Loaded (record { machine = m; answer = b }) out mem
         unfolding load_commands load_memory load_machine
-        loaded y i ei mem' em =
-            let same : loads ≡ a = loads_are a e ∙ else_next a _ z ∙ rw (← eb) (else_next b a y) in
-            rw (same, eq-eqb _ _ z)
-            (ap (λ (x : Installed). record { machine = x.machine; answer = a }) ei, (out_is ∙ rw (eq-eqb _ _ z), (em, λ _. within)))
+        not_installed h m em =
+            let same : loads ≡ b = loads_are a e ∙ else_next a _ z ∙ rw (← eb) (else_kept b a h) in
+            rw (same, em, ne_eqb _ _ h) (refl, (refl, (refl, λ y. absurd (h y))))
+
+        rewritten : (rewrite_answer lay code (length out)).number ≡ 0
+        unfolding translate_answer
+        rewritten = (else_none (rewrite_answer lay code (length out)) _ (else_none (read_answer s most_instructions) _ taken).1).0
+
+        -- the checker passes these commands
+        unchecked : (check_answer lay (commands_of lay code)).number ≡ 0
+        unfolding translate_answer
+        unchecked = (else_none (check_answer lay (commands_of lay code)) _ (else_none (rewrite_answer lay code (length out)) _ (else_none (read_answer s most_instructions) _ taken).1).1).0
+
+        counted : a ≡ answer 0 (command_count (length code))
+        unfolding translate_answer
+        counted =
+            let r = else_none (read_answer s most_instructions) _ taken in
+            e ∙ else_next (read_answer s most_instructions) _ r.0 ∙ else_next (rewrite_answer lay code (length out)) _ rewritten ∙ else_next _ _ unchecked
+
+        length_is : length (commands_of lay code) ≡ a.place
+        length_is = length_commands lay code ∙ ap (λ (x : Answer). x.place) (sym counted)
+
+        fits : a.place ≤ length out
+        fits = omega (arith, ap (λ (x : Answer). x.place) counted, (rewrite_bound lay code (length out)).taken rewritten, ap (λ (x : Answer). x.place) (rewrite_taken lay code (length out) rewritten))
+
+        module _ (out' : List ℕ) (eo : out' ≡ sets out 0 (commands_of lay code)) where
+          pub within : a.place ≤ length out'
+          within = omega (arith, fits, ap length eo, length-sets out 0 (commands_of lay code))
+
+          out_is : out' ≡ output_of a (commands_of lay code) out
+          out_is = eo ∙ output_written a (commands_of lay code) out z (omega (arith, length_is, fits))
+
+          pub passes : (c : Answer) → c ≡ check_answer lay (take a.place out') → c.number ≡ 0
+          passes c ec =
+              let written : take a.place out' ≡ commands_of lay code = rw out_is (output_start a (commands_of lay code) out z a.place length_is) in
+              let same : c ≡ check_answer lay (commands_of lay code) = ec ∙ rw written in
+              ap (λ (x : Answer). x.number) same ∙ unchecked
+
+          pub loaded : b.number ≡ 0 → (i : Installed) → i ≡ install_of lay pol mem → (mem' : List ℕ) → mem' ≡ install_memory lay pol mem → Loaded (record { machine = i.machine; answer = a }) out' mem'
+          unfolding load_commands load_memory load_machine
+          loaded y i ei mem' em =
+              let same : loads ≡ a = loads_are a e ∙ else_next a _ z ∙ rw (← eb) (else_next b a y) in
+              rw (same, eq-eqb _ _ z)
+              (ap (λ (x : Installed). record { machine = x.machine; answer = a }) ei, (out_is ∙ rw (eq-eqb _ _ z), (em, λ _. within)))

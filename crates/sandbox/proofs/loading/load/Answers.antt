@@ -32,7 +32,7 @@ returns-in_err-install_answer-clause-memory c =
 
 pub write_routine-requires : goal.write_routine-requires
 write_routine-requires c =
-    taken c.args.layout (policy_of_lent c.args.policy) c.args.bytes.now c.args.commands.now c.args.memory.now _ c.in_ok-length.ensures refl _ c.in_ok-install_answer.ensures
+    taken c.args.layout (policy_of_lent c.args.policy) c.args.bytes.now c.args.commands.now c.args.memory.now _ c.in_ok-length.ensures refl
 
 pub slice_bounds-check-end : goal.slice_bounds-check-end
 slice_bounds-check-end c =
