@@ -5,7 +5,7 @@ ghost use Rattle.capi_spec.specs.Hosts.{host_installed, install_for};
 
 use capi_values::answers::{ANSWER, answer_of};
 use capi_values::layouts::{LAYOUT, layout_of};
-use capi_values::machines::{MACHINE_RECORD, record_of};
+use capi_values::machines::{MACHINE_RECORD, put_machine};
 use installer::LentPolicy;
 use types::{Answer, Machine, PolicyNumbers, Reject};
 
@@ -30,11 +30,11 @@ pub extern "C" fn hemdroas_install(
     };
     match installer::install(layout_of(layout), policy, memory) {
         Ok(installed) => {
-            *machine = record_of(installed);
+            put_machine(machine, installed);
             *answer = answer_of(Answer::from(Ok::<(), Reject>(())));
         }
         Err(reject) => {
-            *machine = record_of(Machine::refused());
+            put_machine(machine, Machine::refused());
             *answer = answer_of(Answer::from(Err::<(), Reject>(reject)));
         }
     }

@@ -5,7 +5,7 @@ ghost use Rattle.capi_spec.specs.Hosts.{host_loaded, load_for};
 
 use capi_values::answers::{ANSWER, answer_of};
 use capi_values::layouts::{LAYOUT, layout_of};
-use capi_values::machines::{MACHINE_RECORD, record_of};
+use capi_values::machines::{MACHINE_RECORD, put_machine};
 use installer::LentPolicy;
 use types::{Answer, Machine, PolicyNumbers, Reject};
 
@@ -33,11 +33,11 @@ pub extern "C" fn hemdroas_load(
     };
     match sandbox::load(layout_of(layout), policy, bytes, commands, memory) {
         Ok(loaded) => {
-            *machine = record_of(loaded.machine);
+            put_machine(machine, loaded.machine);
             *answer = answer_of(Answer::from(Ok(loaded.commands)));
         }
         Err(reject) => {
-            *machine = record_of(Machine::refused());
+            put_machine(machine, Machine::refused());
             *answer = answer_of(Answer::from(Err::<usize, Reject>(reject)));
         }
     }

@@ -24,11 +24,10 @@ pub fn store_machine(xs: &mut [u32; MACHINE_RECORD], m: Machine)
     store_record(xs, &m.regs, m.pc, m.status);
 }
 
-// A machine as numbers. It is stored over zeros, because their status, running, is valid.
-pub fn record_of(m: Machine) -> [u32; MACHINE_RECORD]
-    ensures { result ≡ machine_to m }
+// Sets a record to a machine. It is stored over zeros, because their status, running, is valid.
+pub fn put_machine(xs: &mut [u32; MACHINE_RECORD], m: Machine)
+    ensures { xs.new ≡ machine_to m }
 {
-    let mut xs = [0u32; MACHINE_RECORD];
-    store_machine(&mut xs, m);
-    xs
+    *xs = [0; MACHINE_RECORD];
+    store_machine(xs, m);
 }

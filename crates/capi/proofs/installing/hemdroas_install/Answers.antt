@@ -12,9 +12,9 @@ answer_of-requires-in-Err c = narrow _ _ (c.from-in-Err.ensures ∙ ap (λ (i : 
 
 pub returns-in-Ok : goal.returns-in-Ok
 returns-in-Ok c =
-    installed _ _ c.layout_of.ensures _ _ _ _ _ _ c.record_of.ensures (c.answer_of.ensures ∙ ap answer_to c.from.ensures) c.in-Ok.ensures.value c.in-Ok.ensures.leaves
+    installed _ _ c.layout_of.ensures _ _ _ _ _ _ c.put_machine.ensures (c.answer_of.ensures ∙ ap answer_to c.from.ensures) c.in-Ok.ensures.value c.in-Ok.ensures.leaves
 
 pub returns-in-Err : goal.returns-in-Err
 returns-in-Err c =
-    installed _ _ c.layout_of.ensures _ _ _ _ _ _ (c.record_of-in-Err.ensures ∙ ap machine_to c.refused.ensures)
+    installed _ _ c.layout_of.ensures _ _ _ _ _ _ (c.put_machine-in-Err.ensures ∙ ap machine_to c.refused.ensures)
     (c.answer_of-in-Err.ensures ∙ ap answer_to c.from-in-Err.ensures) c.in-Err.ensures.value c.in-Err.ensures.leaves

@@ -15,11 +15,11 @@ answer_of-requires-in-Err c = narrow _ _ (c.from-in-Err.ensures ∙ ap (λ (i : 
 
 pub returns-in-Ok : goal.returns-in-Ok
 returns-in-Ok c =
-    loaded _ _ c.layout_of.ensures _ _ _ _ _ _ c.record_of.ensures (c.answer_of.ensures ∙ ap answer_to c.from.ensures) _ _ _
+    loaded _ _ c.layout_of.ensures _ _ _ _ _ _ c.put_machine.ensures (c.answer_of.ensures ∙ ap answer_to c.from.ensures) _ _ _
     c.in-Ok.ensures.answer c.in-Ok.ensures.commands c.in-Ok.ensures.memory
 
 pub returns-in-Err : goal.returns-in-Err
 returns-in-Err c =
-    loaded _ _ c.layout_of.ensures _ _ _ _ _ _ (c.record_of-in-Err.ensures ∙ ap machine_to c.refused.ensures)
+    loaded _ _ c.layout_of.ensures _ _ _ _ _ _ (c.put_machine-in-Err.ensures ∙ ap machine_to c.refused.ensures)
     (c.answer_of-in-Err.ensures ∙ ap answer_to c.from-in-Err.ensures) _ _ _
     c.in-Err.ensures.answer c.in-Err.ensures.commands c.in-Err.ensures.memory
