@@ -6,18 +6,14 @@ ghost use Rattle.engine_spec.specs.Engines.{instr_effect};
 ghost use Rattle.engine_spec.specs.Continues.{is_instruction_at, reached_effect};
 
 use crate::events::checked_event;
-use crate::fetch::Routine;
+use crate::fetch::{Routine, UNUSED_KIND, UNUSED_KIND_TOO};
 use crate::fields::GuestWord;
 use crate::jumps::{branch_effect, jump_effect};
 use crate::sight::Sight;
 use types::{Effect, Instr, Status};
 use words::{alu, field};
 
-// The numbers of four bits that are no kind.
-const UNUSED_KIND: u64 = Instr::KIND_EVENT + 1;
-
-const UNUSED_KIND_TOO: u64 = UNUSED_KIND + 1;
-
+// The last number of four bits, which is no kind either.
 const UNUSED_KIND_LAST: u64 = UNUSED_KIND_TOO + 1;
 
 // The effect of a guest word. Each of the 16 numbers of four bits has an arm, so the match compiles to one jump without a range test.
@@ -44,12 +40,21 @@ fn instruction_effect(w: GuestWord, routine: Routine, sight: Sight) -> Effect
             sight.at,
         ),
         Instr::KIND_GOX => jump_effect(
-            alu::holds(field::c(w.word), w.a(regs), w.b(regs)),
             regs[w.d()],
-            routine,
-            sight,
+            alu::holds(field::c(w.word), w.a(regs), w.b(regs)),
+            sight.at,
+            routine.top,
+            sight.layout.landings,
+            sight.memory,
         ),
-        Instr::KIND_EVENT => checked_event(w.v(), sight),
+        Instr::KIND_EVENT => checked_event(
+            sight.layout,
+            w.v(),
+            sight.memory,
+            sight.state,
+            sight.free,
+            sight.left,
+        ),
         UNUSED_KIND => Effect::End(Status::Faulted),
         UNUSED_KIND_TOO => Effect::End(Status::Faulted),
         UNUSED_KIND_LAST => Effect::End(Status::Faulted),
