@@ -11,11 +11,7 @@ pub fn finish(regs: [u32; Machine::REGISTERS], exit: LoopExit) -> Outcome
 {
     let at = exit.at;
     Outcome {
-        machine: Machine {
-            regs,
-            pc: at.pc,
-            status: at.status,
-        },
+        machine: Machine::from_parts(regs, at.pc, at.status),
         answer: RunAnswer {
             ending: exit.ending,
             steps: exit.steps,

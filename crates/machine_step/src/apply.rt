@@ -3,7 +3,6 @@ ghost use Rattle.std.specs.Prelude.{◌≡◌, ◌^◌, ◌<◌, slice_index, sl
 ghost use Rattle.spec.specs.Machines.{apply_of, with_pair};
 ghost use Rattle.machine_step.specs.program_point.ProgramPoints.{state_at};
 
-use crate::program::Program;
 use crate::program_point::Point;
 use buffers::cells::poke;
 use types::{Effect, Machine};
@@ -26,16 +25,17 @@ pub fn probe(
 // Applies an effect, and returns the point after it.
 #[tactic(auto, unfolding(spec::specs::Machines::apply_of))]
 pub fn apply(
-    program: &Program,
+    ceilings: &[u32],
     e: Effect,
     regs: &mut [u32; Machine::REGISTERS],
     at: Point,
     memory: &mut [u32],
+    readings: &[u32],
     log: &mut [u32],
 ) -> Point
     requires { (at.pairs < 2 ^ 62) × (at.used < 2 ^ 63) }
     ensures { state_at regs.new result memory.new log.new
-        ≡ apply_of program.now.layout.now.ceilings program.now.readings.now e (state_at regs.old at memory.old log.old) }
+        ≡ apply_of ceilings.now readings.now e (state_at regs.old at memory.old log.old) }
 {
     match e {
         Effect::Go(to) => at.jumped(to),
@@ -48,11 +48,11 @@ pub fn apply(
             at.next()
         }
         Effect::Order(v) => {
-            buffers::pairs::order(&program.layout.ceilings, v, regs[0], log, at.pairs);
+            buffers::pairs::order(ceilings, v, regs[0], log, at.pairs);
             at.after_order()
         }
         Effect::Probe(v) => {
-            probe(v, regs, at, program.readings, log);
+            probe(v, regs, at, readings, log);
             at.after_reading()
         }
         Effect::End(status) => at.ended(status),

@@ -81,9 +81,8 @@ impl Point {
         ensures { result ≡ point_of self.pc self.status (self.pairs + 1) (self.used + 1) }
     {
         Point {
-            pairs: self.pairs + 1,
             used: self.used + 1,
-            ..self
+            ..self.ordered()
         }
     }
 

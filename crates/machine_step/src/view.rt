@@ -1,11 +1,10 @@
 // What a command can see, except registers and memory.
-ghost use Rattle.std.specs.Prelude.{◌≡◌, ◌*◌, ◌≤◌, length};
+ghost use Rattle.std.specs.Prelude.{◌≡◌, ◌*◌, ◌≤◌};
 ghost use Rattle.types.specs.Names.{pair_cells};
 ghost use Rattle.machine_step.specs.view.Views.{numbers_at};
 
-use crate::program::Program;
 use crate::program_point::Point;
-use types::RunAnswer;
+use types::{Layout, RunAnswer};
 
 // pc; the addresses M, P, B and Q; how many log cells are free, and how many readings are left.
 #[derive(Clone, Copy)]
@@ -19,12 +18,11 @@ pub struct ViewNumbers {
     pub left: usize,
 }
 
-// What a command sees at point `at`. The log has `room` cells.
-pub fn view_at(program: &Program, at: Point, room: usize) -> ViewNumbers
-    requires { (pair_cells * at.pairs ≤ room) × (at.used ≤ length program.now.readings.now) }
-    ensures { result ≡ numbers_at program.now.layout.now at room (length program.now.readings.now) }
+// What a command sees at point `at`. The log has `room` cells, and the run was given `total` readings.
+pub fn view_at(layout: Layout, at: Point, room: usize, total: usize) -> ViewNumbers
+    requires { (pair_cells * at.pairs ≤ room) × (at.used ≤ total) }
+    ensures { result ≡ numbers_at layout at room total }
 {
-    let layout = program.layout;
     ViewNumbers {
         pc: at.pc,
         cell: layout.cell,
@@ -32,6 +30,6 @@ pub fn view_at(program: &Program, at: Point, room: usize) -> ViewNumbers
         base: layout.base,
         landings: layout.landings,
         free: room - RunAnswer::PAIR_CELLS * at.pairs,
-        left: program.readings.len() - at.used,
+        left: total - at.used,
     }
 }
