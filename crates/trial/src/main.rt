@@ -7,7 +7,7 @@ pub mod input;
 ghost use Rattle.std.specs.Prelude.{◌*◌, ◌≤◌, length};
 ghost use Rattle.types.specs.Names.{pair_cells};
 
-use lines::{BASE, drum};
+use lines::{BASE, drum, end, print};
 use sandbox::LentPolicy;
 use std::io;
 use types::{Answer, Bundle, Instr, Layout, Machine, PolicyNumbers, RunAnswer};
@@ -22,7 +22,8 @@ const NO_ARROW: u8 = PolicyNumbers::NO_ARROW as u8;
 const LONGEST: usize = Instr::COUNT_BYTES + Instr::MOST_BYTES * Instr::MOST;
 
 fn print_answer(rt: &impl Print, number: u8) -> io::Result<()> {
-    println!(rt; "answer {number}")
+    print(rt, b"answer ", u64::from(number))?;
+    end(rt)
 }
 
 // Prints the pairs at the start of a log, a line each.
@@ -30,7 +31,9 @@ fn print_events(rt: &impl Print, log: &[u32], pairs: usize) -> io::Result<()>
     requires { pair_cells * pairs ≤ length log.now }
 {
     for pair in log[..RunAnswer::PAIR_CELLS * pairs].chunks_exact(RunAnswer::PAIR_CELLS) {
-        println!(rt; "event {} {}", pair[0], pair[1])?;
+        print(rt, b"event ", u64::from(pair[0]))?;
+        print(rt, b" ", u64::from(pair[1]))?;
+        end(rt)?;
     }
     Ok(())
 }
@@ -48,12 +51,10 @@ fn run(
     let out = machine::run_value(layout, commands, start, memory, 1000, &readings, &mut log);
     let a = out.answer;
     print_events(rt, &log, a.pairs)?;
-    println!(rt;
-        "end {} steps {} state {}",
-        u8::from(a.ending),
-        a.steps,
-        memory[0]
-    )
+    print(rt, b"end ", u64::from(u8::from(a.ending)))?;
+    print(rt, b" steps ", u64::from(a.steps))?;
+    print(rt, b" state ", u64::from(memory[0]))?;
+    end(rt)
 }
 
 // Every instruction is a landing.
