@@ -2,12 +2,14 @@
 ghost use Rattle.std.specs.Prelude.{◌≡◌, ◌+◌, ◌≤◌, length};
 ghost use Rattle.std.proofs.lemmas.List.Edits.{sets};
 
-#[tactic(auto, using(crate::proofs::stores::Storing::stored_part))]
+#[tactic(auto, using(crate::proofs::stores::Storing::store_none, crate::proofs::stores::Storing::store_more, crate::proofs::stores::Storing::store_done))]
 pub fn store<T: Copy>(to: &mut [T], at: usize, from: &[T])
     requires { at + length from.now ≤ length to.old }
     ensures { to.new ≡ sets to.old at from.now }
 {
-    to[at..at + from.len()].copy_from_slice(from);
+    for (i, x) in from.iter().enumerate() {
+        to[at + i] = *x;
+    }
 }
 
 // Each byte fills one cell.

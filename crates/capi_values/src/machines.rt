@@ -31,3 +31,12 @@ pub fn put_machine(xs: &mut [u32; MACHINE_RECORD], m: Machine)
     *xs = [0; MACHINE_RECORD];
     store_machine(xs, m);
 }
+
+// A machine as numbers.
+pub fn record_of(m: Machine) -> [u32; MACHINE_RECORD]
+    ensures { result ≡ machine_to m }
+{
+    let mut xs = [0u32; MACHINE_RECORD];
+    put_machine(&mut xs, m);
+    xs
+}

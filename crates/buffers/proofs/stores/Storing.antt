@@ -1,35 +1,29 @@
--- Laws of storing a list over another.
+-- Laws of storing a list over another, element by element.
 use Prim.Native.Nat.{ℕ, suc, ◌+◌, ◌<◌, ◌≤◌}
 use mathlib.Core.Path.{◌≡◌, refl, sym, ap, ◌∙◌}
 use mathlib.Core.List.{List, append-nil}
 use native.Mathlib.Omega.{arith}
 use native.Mathlib.Nat.{add-zero, le_of_eq}
 use lib.ListN.{length, get_or, set, drop, length-set, drop_of_length-le}
-use Rattle.std.proofs.Common.{drop-drop, append_assoc}
-use lib.Seq.{sets, sets-eq, drop-cons}
-use borrow.Rule.Slice.PartMut.{put_mid}
+use lib.Seq.{sets, drop-cons}
 pub use Rattle.spec.proofs.Refusals.{store_front}
 
--- elements that were copied to a part of a list are stored over it
-pub stored_part : {X : Type 0} (a k : ℕ) (xs ys zs : List X) → ys ≡ zs → k ≡ length zs → a + length zs ≤ length xs → put_mid a k xs ys ≡ sets xs a zs
-stored_part a k xs ys zs e h l = rw (e, h, drop-drop (length zs) a xs, ← append_assoc) (sym (sets-eq zs xs a l))
-
 -- i elements of t are stored over out₀ from `at` on; storing the rest gives the whole
-pub record Stored (out₀ : List ℕ) (at : ℕ) (t : List ℕ) (i : ℕ) (out : List ℕ) : Type 0 where
+pub record Stored {X : Type 0} (out₀ : List X) (at : ℕ) (t : List X) (i : ℕ) (out : List X) : Type 0 where
   pub whole : sets out (at + i) (drop i t) ≡ sets out₀ at t
   pub within : i ≤ length t
   pub kept : length out ≡ length out₀
 
-module _ (out₀ : List ℕ) (at : ℕ) (t : List ℕ) where
+module _ {X : Type 0} (out₀ : List X) (at : ℕ) (t : List X) where
   pub store_none : Stored out₀ at t 0 out₀
   store_none = record { whole = rw add-zero; within = omega arith; kept = refl }
 
-  module _ (i : ℕ) (out : List ℕ) (s : Stored out₀ at t i out) where
-    pub store_more : i < length t → (x : ℕ) → x ≡ get_or t i 0 → Stored out₀ at t (i + 1) (set out (at + i) x)
-    store_more h x e =
+  module _ (i : ℕ) (out : List X) (s : Stored out₀ at t i out) where
+    pub store_more : i < length t → (d x : X) → x ≡ get_or t i d → Stored out₀ at t (i + 1) (set out (at + i) x)
+    store_more h d x e =
         let n : i + 1 ≡ suc i = omega arith in
         let k : at + suc i ≡ suc (at + i) = omega arith in
-        let w : sets out (at + i) (drop i t) ≡ sets (set out (at + i) x) (at + (i + 1)) (drop (i + 1) t) = rw (n, k, e, drop-cons t i 0 h) in
+        let w : sets out (at + i) (drop i t) ≡ sets (set out (at + i) x) (at + (i + 1)) (drop (i + 1) t) = rw (n, k, e, drop-cons t i d h) in
         record { whole = sym w ∙ s.whole; within = omega arith; kept = length-set out (at + i) x ∙ s.kept }
 
     pub store_done : length t ≤ i → out ≡ sets out₀ at t

@@ -171,10 +171,19 @@ four t i h =
     let e₃ : i + 3 ≡ suc (suc (suc i)) = omega arith in
     rw (e₁, e₂, e₃, drop-cons t i 0 (omega arith), drop-cons t (suc i) 0 (omega arith), drop-cons t (suc (suc i)) 0 (omega arith), drop-cons t (suc (suc (suc i))) 0 (omega arith))
 
+pub word_of : (t : List ℕ) (i a b c d : ℕ) → i + word_bytes ≤ length t → (a ≡ get_or t i 0) × (a < 256) → (b ≡ get_or t (i + 1) 0) × (b < 256)
+    → (c ≡ get_or t (i + 2) 0) × (c < 256) → (d ≡ get_or t (i + 3) 0) × (d < 256)
+    → low_bytes word_bytes (a + (b * 2 ^ 8) % 2 ^ 32 + (c * 2 ^ 16) % 2 ^ 32 + (d * 2 ^ 24) % 2 ^ 32) ≡ take word_bytes (drop i t)
+word_of t i a b c d h ea eb ec ed =
+    let wb : (b * 2 ^ 8) % 2 ^ 32 ≡ b * 2 ^ 8 = omega arith in
+    let wc : (c * 2 ^ 16) % 2 ^ 32 ≡ c * 2 ^ 16 = omega arith in
+    let wd : (d * 2 ^ 24) % 2 ^ 32 ≡ d * 2 ^ 24 = omega arith in
+    rw (wb, wc, wd) (bytes_word a b c d ea.1 eb.1 ec.1 ed.1 ∙ rw (ea.0, eb.0, ec.0, ed.0) (sym (four t i h)))
+
 -- the word of the four bytes of chunk i
-pub word_of : (t : List ℕ) (k i : ℕ) (bs : List (List ℕ)) → bs ≡ first_chunks word_bytes k t → i < k → word_bytes * k ≤ length t → ((j : ℕ) → get_or t j 0 < 256)
+pub chunk_word : (t : List ℕ) (k i : ℕ) (bs : List (List ℕ)) → bs ≡ first_chunks word_bytes k t → i < k → word_bytes * k ≤ length t → ((j : ℕ) → get_or t j 0 < 256)
     → (w : ℕ) → w ≡ from_le_bytes w32 (get_or bs i []) → low_bytes word_bytes w ≡ take word_bytes (drop (word_bytes * i) t)
-word_of t k i bs eb h l small w e =
+chunk_word t k i bs eb h l small w e =
     let at : ℕ = word_bytes * i in
     let byte : (j : ℕ) → j < word_bytes → get_or (get_or bs i []) j 0 ≡ get_or t (at + j) 0 = λ j m. rw eb (chunk_element word_bytes k t i j [] 0 h m) in
     let z : at + 0 ≡ at = omega arith in
