@@ -1,11 +1,10 @@
 -- Laws of the functions, one for each return.
-use Rattle.std.proofs.Common.{ℕ, suc, ◌+◌, ◌*◌, ◌%◌, ◌^◌, ◌<◌, ◌≤◌, ◌≡◌, refl, sym, ap, ◌∙◌, Bool, true, false, ◌&&◌, not, Option, Some, None, MatchOption, List, length, get_or, bit_or, eqb, ltb, arith}
+use Rattle.std.proofs.Common.{ℕ, suc, ◌+◌, ◌*◌, ◌%◌, ◌^◌, ◌<◌, ◌≤◌, ◌≡◌, refl, sym, ap, ◌∙◌, Bool, true, false, ◌&&◌, not, Option, Some, None, MatchOption, List, [], ◌∷◌, length, get_or, bit_or, eqb, ltb, arith}
 use Rattle.std.specs.Int.Bits.{or_zero_r}
 use Rattle.std.specs.Int.NonZero.{non_zero_u16_get}
 use Rattle.std.specs.declared.num.NonZeroU16.{NonZeroU16}
-use Rattle.std.specs.List.{list_all}
-use Rattle.std.proofs.lemmas.List.Recursion.{same_from_clauses}
-use mathlib.Core.Bool.{and_assoc}
+use Rattle.std.specs.List.{fold}
+use mathlib.Core.Bool.{and_assoc, and-true}
 use native.Mathlib.Nat.{mod-eq_of_lt}
 use lib.Pow.{pow-lt}
 use borrow.Author.Tests.{lt-ltb}
@@ -36,9 +35,10 @@ module _ (ms : List ℕ) (x n k set : ℕ) (h : n < events) (e : set ≡ union_o
   unfolding union_of
   union_without t = let s : k + 1 ≡ suc k = omega arith in rw (s, t, e, or_zero_r)
 
--- what `all` tests
-pub maps_right_is : (s : ℕ) (ms : List ℕ) → list_all (λ m. ltb m (2 ^ s)) ms ≡ maps_right s ms
-maps_right_is s = same_from_clauses (list_all (λ m. ltb m (2 ^ s))) (maps_right s) (λ m b. ltb m (2 ^ s) && b) refl (λ _ _. refl) (λ _ _. refl)
+-- what `fold` collects
+pub maps_right_folded : (s : ℕ) (b : Bool) (ms : List ℕ) → fold (λ c m. c && ltb m (2 ^ s)) b ms ≡ (b && maps_right s ms)
+maps_right_folded s b [] = sym (and-true b)
+maps_right_folded s b (m ∷ ms) = maps_right_folded s (b && ltb m (2 ^ s)) ms ∙ and_assoc b (ltb m (2 ^ s)) (maps_right s ms)
 
 -- a set as a node
 pub node_is : (r : Option NonZeroU16) (s t : ℕ) → MatchOption r (s ≡ 0) (λ x. non_zero_u16_get x ≡ s) → s ≡ t → node_number r ≡ t

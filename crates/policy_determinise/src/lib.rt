@@ -22,12 +22,14 @@ fn fits_states(m: u16, states: usize) -> bool
     u32::from(m) < 1 << states
 }
 
-// Whether all sets of a list have only states below the state count.
+// Whether all sets of a list have only states below the state count. It never ends early: such a loop tests several sets at once.
 fn maps_right(states: usize, arrows: &[u16]) -> bool
     requires { states ≤ most_states }
     ensures { result ≡ maps_right states arrows.now }
 {
-    arrows.iter().all(|m| fits_states(*m, states))
+    arrows
+        .iter()
+        .fold(true, |right, m| right & fits_states(*m, states))
 }
 
 // Whether a drawing is right. If not, it is refused as bad drawing (16).

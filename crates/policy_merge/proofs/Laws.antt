@@ -1,5 +1,5 @@
 -- Laws of the functions, one for each return.
-use Rattle.std.proofs.Common.{ℕ, zero, suc, ◌+◌, ◌-◌, ◌*◌, ◌/◌, ◌%◌, ◌<◌, ◌≤◌, ◌≡◌, min, refl, sym, subst, ◌∙◌, Bool, true, false, ◌&&◌, Option, Some, None, MatchOption, Result, Ok, Err, List, length, get_or, arith}
+use Rattle.std.proofs.Common.{ℕ, zero, suc, ◌+◌, ◌-◌, ◌*◌, ◌/◌, ◌%◌, ◌<◌, ◌≤◌, ◌≡◌, min, refl, sym, subst, ◌∙◌, Bool, true, false, ◌&&◌, Option, Some, None, MatchOption, Result, Ok, Err, List, [], length, get_or, arith}
 use Rattle.std.specs.Int.NonZero.{non_zero_u16_get}
 use Rattle.std.specs.declared.num.NonZeroU16.{NonZeroU16}
 use Rattle.std.specs.Result.{IsErrAnd}
@@ -13,7 +13,7 @@ use Rattle.policy_spec.proofs.maps.Maps.{length_build, build_at}
 use Rattle.std.specs.Fn.{Called}
 use denote.Param.Members.{Mut}
 use Rattle.types.specs.Names.{most_states, events, orders, no_arrow, number_of, refusal}
-use Rattle.spec.specs.Policies.{Policy}
+use Rattle.spec.specs.Policies.{Policy, policy_of}
 use Rattle.spec.proofs.Bools as bools
 use Rattle.policy_spec.specs.declared.reachability.NewPolicy.{NewPolicy}
 use Rattle.policy_spec.specs.reachability.Reach.{Made, made_with}
@@ -57,6 +57,11 @@ module _ (a b : Policy) (x n p : ℕ) (above : 1 ≤ x) (e : p ≡ x - 1) (h : n
       let k = some_is left_entry s f in
       let l = some_is right_entry t g in
       rw (next_is, ← k.0, ← l.0, ne_eqb s no_arrow k.1, ne_eqb t no_arrow l.1)
+
+-- the pair after an event depends only on the tables
+pub tables_alone : (a b : Policy) → pair_after (policy_of 0 0 a.table []) (policy_of 0 0 b.table []) ≡ pair_after a b
+unfolding pair_after
+tables_alone a b = refl
 
 -- a number above 0 as a node
 pub node_is : (o : Option NonZeroU16) (x : ℕ) → MatchOption o (x ≡ 0) (λ y. non_zero_u16_get y ≡ x) → node_number o ≡ x

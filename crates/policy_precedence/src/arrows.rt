@@ -1,5 +1,5 @@
 // Computes the arrow of an event in a state. There is one once all events that must come first are recorded.
-ghost use Rattle.std.specs.Prelude.{◌≡◌, ◌-◌, ◌^◌, ◌≤◌, ◌<◌};
+ghost use Rattle.std.specs.Prelude.{◌≡◌, ◌-◌, ◌^◌, ◌≤◌, ◌<◌, IfSome};
 ghost use Rattle.std.specs.Int.Bits.{bit_and};
 ghost use Rattle.std.specs.Int.Count.{ones};
 ghost use Rattle.types.specs.Names.{events};
@@ -33,9 +33,10 @@ impl Pairs<'_> {
     }
 
     // The state after event e in state s, if the event has an arrow.
-    pub(crate) fn arrow(&self, s: usize, e: usize) -> Option<usize>
+    pub fn arrow(&self, s: usize, e: usize) -> Option<usize>
         requires { (s < states_of self.now.pairs.now) × (e < events) }
-        ensures { result ≡ arrow_from (arrow_of self.now.pairs.now s e) }
+        ensures arrow { result ≡ arrow_from (arrow_of self.now.pairs.now s e) }
+        ensures byte { IfSome result (λ t. t < 256) }
     {
         if !has_bit(self.names, e) {
             return Some(s);

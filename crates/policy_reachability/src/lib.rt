@@ -8,22 +8,19 @@ ghost use Rattle.types.specs.Names.{events, most_states};
 ghost use Rattle.policy_spec.specs.reachability.Claims.{Arrows};
 ghost use Rattle.policy_spec.specs.reachability.Worklists.{initial_worklist, insert_target, node_number, PendingNode, Follows, Explored};
 
+use policy_spec::reachability::{ARROWS, NODES};
 use policy_spec::tables::{EVENTS, MOST_STATES, NO_ARROW};
 use std::marker::Model;
 use std::num::NonZeroU16;
 
-// Room for one node more than a policy may have, and for the arrows of the nodes that it may have.
-const NODES: usize = MOST_STATES + 1;
-
-const ARROWS: usize = EVENTS * MOST_STATES;
-
 // The work list: the nodes found so far, with room for one too many, their count, and for each arrow the number of the node that it leads to.
-// It is arrays and a count, since the library has no heap. Contracts see a record of the specs.
-#[derive(Drop)]
+// It is arrays and a count, since the library has no heap. Contracts see a record of the specs. The longest array stands first: there
+// the library for i686 clears it in place, and asks its host for no `memset`.
+#[derive(Clone, Copy)]
 pub struct Worklist {
-    nodes: [u16; NODES],
-    count: usize,
     arrows: [u8; ARROWS],
+    count: usize,
+    nodes: [u16; NODES],
 }
 
 impl Model for Worklist {
@@ -35,6 +32,8 @@ impl Model for Worklist {
     ghost view = { λ w. record { nodes = w.nodes; count = w.count; arrows = w.arrows } };
 
     ghost invariant = { λ w. w.count ≤ capacity };
+
+    ghost inverse = { λ f. record { nodes = f.nodes; count = f.count; arrows = f.arrows } };
 }
 
 // The index of node x, if it is there.
@@ -52,9 +51,9 @@ impl Worklist {
         let mut nodes: [u16; NODES] = [0; NODES];
         nodes[0] = start;
         Worklist {
-            nodes,
-            count: 1,
             arrows: [0; ARROWS],
+            count: 1,
+            nodes,
         }
     }
 

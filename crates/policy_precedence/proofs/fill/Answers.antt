@@ -8,7 +8,7 @@ pub loop-i-init : goal.loop-i-init
 loop-i-init c = fill_none _ _
 
 pub overflow_cast-entry : goal.overflow_cast-entry
-overflow_cast-entry c = record { fits = rw (entry_is _ _ _ c.arrow.ensures c.unwrap_or.ensures) (arrow_fits _ _ c.args.pairs.now.valid _ _ (omega (arith, c.requires)) (omega arith)) }
+overflow_cast-entry c = record { fits = rw (entry_is _ _ _ c.arrow.ensures.arrow c.unwrap_or.ensures) (arrow_fits _ _ c.args.pairs.now.valid _ _ (omega (arith, c.requires)) (omega arith)) }
 
 pub loop-i-preserved : goal.loop-i-preserved
-loop-i-preserved c = fill_more _ _ _ _ _ c.loop-i.invariant c.loop-i-test.true (entry_is _ _ _ c.arrow.ensures c.unwrap_or.ensures)
+loop-i-preserved c = fill_more _ _ _ _ _ c.loop-i.invariant c.loop-i-test.true (entry_is _ _ _ c.arrow.ensures.arrow c.unwrap_or.ensures)

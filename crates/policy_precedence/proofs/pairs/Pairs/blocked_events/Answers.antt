@@ -11,6 +11,6 @@ overflow_add-map c = record { fits = all_fits _ _ _ c.loop-e.invariant c.loop-e-
 
 pub loop-e-preserved : goal.loop-e-preserved
 loop-e-preserved c = elim c.if-is_none.branch [
-  | then-is_none w ↦ rw w.map-is (all_with _ _ _ _ _ c.loop-e.invariant c.arrow.ensures (ap not w.if-is_none.ensures) c.loop-e-test.true)
-  | else-is_none w ↦ rw w.map-is (all_without _ _ _ _ _ c.loop-e.invariant c.arrow.ensures (ap not w.if-is_none.ensures))
+  | then-is_none w ↦ rw w.map-is (all_with _ _ _ _ _ c.loop-e.invariant c.arrow.ensures.arrow (ap not w.if-is_none.ensures) c.loop-e-test.true)
+  | else-is_none w ↦ rw w.map-is (all_without _ _ _ _ _ c.loop-e.invariant c.arrow.ensures.arrow (ap not w.if-is_none.ensures))
 ]

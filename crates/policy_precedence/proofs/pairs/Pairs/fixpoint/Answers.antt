@@ -11,7 +11,7 @@ pub arrow-requires : goal.arrow-requires
 arrow-requires c = (turned _ _ c.args.self.now.valid _ _ c.loop-i.invariant, omega arith)
 
 pub loop-i-preserved : goal.loop-i-preserved
-loop-i-preserved c = rw c.unwrap_or-s.ensures (turns_more _ _ _ _ c.loop-i.invariant c.arrow.ensures)
+loop-i-preserved c = rw c.unwrap_or-s.ensures (turns_more _ _ _ _ c.loop-i.invariant c.arrow.ensures.arrow)
 
 pub returns : goal.returns
 returns c =
