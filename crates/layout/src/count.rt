@@ -22,8 +22,9 @@ pub fn count_right(k: usize) -> bool
         & ((k / Bundle::LENGTH).count_ones() == 1)
 }
 
-// Whether the base is a multiple of the length of n bundles. For n = 0, or n above the base, only base 0 is.
-#[tactic(auto, using(crate::proofs::count::Counts::below))]
+// Whether the base is a multiple of the length of n bundles. For n = 0, or n above the base, only base 0 is. A list has N = 2^k bundles, and
+// then nothing is divided: some processors have no instruction for it.
+#[tactic(auto, using(crate::proofs::count::Counts::below, crate::proofs::count::Counts::masked))]
 pub fn base_right(l: Layout, n: usize) -> bool
     ensures { result ≡ base_right l n }
 {
@@ -31,5 +32,10 @@ pub fn base_right(l: Layout, n: usize) -> bool
     if base < n {
         return base == 0; // the product could wrap
     }
-    base.is_multiple_of(Bundle::LENGTH * n)
+    let length = Bundle::LENGTH * n;
+    if n.count_ones() == 1 {
+        base & (length - 1) == 0
+    } else {
+        base.is_multiple_of(length)
+    }
 }
