@@ -72,8 +72,8 @@ class Page {
     return got.result.value;
   }
 
-  async until(expression) {
-    for (const end = Date.now() + READY_MS; !(await this.run(expression)); await pause(POLL_MS)) {
+  async until(expression, most = READY_MS) {
+    for (const end = Date.now() + most; !(await this.run(expression)); await pause(POLL_MS)) {
       if (Date.now() > end) throw new Error(`This did not come true in the page: ${expression}`);
     }
   }
