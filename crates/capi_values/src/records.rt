@@ -8,6 +8,13 @@ use types::Status;
 // After the registers come pc or index, then the status.
 pub const TRAILER: usize = 2;
 
+// The status of a number. One that is no status counts as faulted.
+pub fn status_of(x: u32) -> Status
+    ensures { result ≡ status_from x }
+{
+    Status::try_from(x).unwrap_or(Status::Faulted)
+}
+
 // Copies the registers into `regs`, and returns the status. A number that is no status counts as faulted.
 #[tactic(auto, using(crate::proofs::records::Records::front, crate::proofs::records::Records::registers_of))]
 pub fn read_record(xs: &[u32], regs: &mut [u32]) -> Status
@@ -18,7 +25,7 @@ pub fn read_record(xs: &[u32], regs: &mut [u32]) -> Status
     let n = regs.len();
     let last = n + 1;
     store(regs, 0, &xs[..n]);
-    Status::try_from(xs[last]).unwrap_or(Status::Faulted)
+    status_of(xs[last])
 }
 
 // Stores the numbers after a run. If the old status number is no status, nothing was run and all stays as it was.

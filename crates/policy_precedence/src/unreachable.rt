@@ -10,7 +10,7 @@ use policy_spec::tables::EVENTS;
 
 impl Pairs<'_> {
     // The state in which all named events that can be recorded are recorded. Four passes over all events are enough: at most four are named.
-    fn fixpoint(&self) -> usize
+    pub fn fixpoint(&self) -> usize
         ensures { (result ≡ fixpoint_of self.now.pairs.now) × (result < states_of self.now.pairs.now) }
     {
         let mut s = 0;
@@ -21,7 +21,7 @@ impl Pairs<'_> {
     }
 
     // The set of events that have no arrow in state s.
-    fn blocked_events(&self, s: usize) -> usize
+    pub fn blocked_events(&self, s: usize) -> usize
         requires { s < states_of self.now.pairs.now }
         ensures { result ≡ map_where (blocked self.now.pairs.now s) events }
     {

@@ -45,7 +45,7 @@ fn index_of_node(nodes: &[u16], x: u16) -> Option<usize>
 
 impl Worklist {
     // The first work list has the start node only.
-    fn new(start: u16) -> Worklist
+    pub fn new(start: u16) -> Worklist
         ensures { result ≡ initial_worklist start }
     {
         let mut nodes: [u16; NODES] = [0; NODES];
@@ -58,8 +58,7 @@ impl Worklist {
     }
 
     // The node that arrow k still has to be followed from: it was found, and there are not too many nodes.
-    fn pending(&self, k: usize) -> Option<u16>
-        requires { k < events * most_states }
+    pub fn pending(&self, k: usize) -> Option<u16>
         ensures { PendingNode self.now k result }
     {
         if k < EVENTS * self.count && self.count <= MOST_STATES {
@@ -70,7 +69,7 @@ impl Worklist {
     }
 
     // Arrow k leads to node x, or to none. A new node is added at the end.
-    fn insert(&mut self, k: usize, x: Option<NonZeroU16>)
+    pub fn insert(&mut self, k: usize, x: Option<NonZeroU16>)
         requires { (self.old.count ≤ most_states) × (k < events * most_states) }
         ensures { self.new ≡ insert_target self.old k (node_number x) }
     {
