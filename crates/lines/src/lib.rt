@@ -2,6 +2,10 @@
 // Each function that prints fails where the output does.
 #![tactic(auto)]
 
+ghost use Rattle.std.specs.Prelude.{◌≡◌, replicate};
+ghost use Rattle.types.specs.Names.{orders, top_word};
+ghost use Rattle.types.specs.Records.{layout_of};
+
 use std::convert::AsSlice;
 use std::io;
 use types::{Answer, Layout};
@@ -10,7 +14,9 @@ use types::{Answer, Layout};
 pub const BASE: u32 = 4096;
 
 // Document 01's layout, with this base.
-pub fn drum(base: u32) -> Layout {
+pub fn drum(base: u32) -> Layout
+    ensures { result ≡ layout_of 1024 256 511 0 16 2 base 64 (replicate orders top_word) }
+{
     let ceilings = [Layout::NO_LIMIT; Layout::CEILINGS];
     Layout::new(1024, 256, 511, 0, 16, 2, base, 64, ceilings)
 }
