@@ -3,7 +3,7 @@
 
 pub mod writing;
 
-ghost use Rattle.std.specs.Prelude.{◌≡◌, ◌+◌, ◌*◌, ◌^◌, ◌≤◌, ◌<◌, ◌==◌, ℕ, position};
+ghost use Rattle.std.specs.Prelude.{◌≡◌, ◌+◌, ◌*◌, ◌/◌, ◌^◌, ◌≤◌, ◌<◌, ◌==◌, ℕ, position, get_or};
 ghost use Rattle.types.specs.Names.{events, most_states};
 ghost use Rattle.policy_spec.specs.reachability.Claims.{Arrows};
 ghost use Rattle.policy_spec.specs.reachability.Worklists.{initial_worklist, insert_target, node_number, PendingNode, Follows, Explored};
@@ -57,12 +57,20 @@ impl Worklist {
         }
     }
 
+    // The node that arrow k starts from.
+    pub fn node(&self, k: usize) -> u16
+        requires { k < events * most_states }
+        ensures { result ≡ get_or self.now.nodes (k / events) 0 }
+    {
+        self.nodes[k / EVENTS]
+    }
+
     // The node that arrow k still has to be followed from: it was found, and there are not too many nodes.
     pub fn pending(&self, k: usize) -> Option<u16>
         ensures { PendingNode self.now k result }
     {
         if k < EVENTS * self.count && self.count <= MOST_STATES {
-            Some(self.nodes[k / EVENTS])
+            Some(self.node(k))
         } else {
             None
         }
