@@ -22,7 +22,7 @@ pub fn count_right(k: usize) -> bool
         & ((k / Bundle::LENGTH).count_ones() == 1)
 }
 
-// Whether the base is a multiple of the length of n bundles. For n = 0, or n above the base, only base 0 is. A list has N = 2^k bundles, and
+// Whether the base is a multiple of the length of n bundles. For n = 0, or n above the base, only base 0 is. A list's n is a power of two, and
 // then nothing is divided: some processors have no instruction for it.
 #[tactic(auto, using(crate::proofs::count::Counts::below, crate::proofs::count::Counts::masked))]
 pub fn base_right(l: Layout, n: usize) -> bool
