@@ -1,7 +1,7 @@
 // Tests four bytes of a policy's table as one word.
-ghost use Rattle.std.specs.Prelude.{◌≡◌};
+ghost use Rattle.std.specs.Prelude.{◌≡◌, ◌+◌, ◌≤◌, length, take, drop};
 ghost use Rattle.spec.specs.Policies.{states_right};
-ghost use Rattle.installer.specs.table_words.Words.{word_right};
+ghost use Rattle.installer.specs.table_words.Words.{low_bytes, word_bytes, word_right};
 
 use types::Layout;
 
@@ -33,4 +33,12 @@ pub fn word_right(states: u32, w: u32) -> bool
     let over = ((low + (128 - states) * ONES) | w) & TOPS;
     let full = (low + ONES) & w & TOPS;
     over == full
+}
+
+// Packs four bytes of a table, low first, into a word.
+pub fn word_at(table: &[u8], at: usize) -> u32
+    requires { at + word_bytes ≤ length table.now }
+    ensures { low_bytes word_bytes result ≡ take word_bytes (drop at table.now) }
+{
+    u32::from_le_bytes([table[at], table[at + 1], table[at + 2], table[at + 3]])
 }
